@@ -1,0 +1,2 @@
+pub mod Exception
+pub mod Registers

@@ -1,0 +1,2 @@
+//! Words and their instructions, from the encodings of the standard.
+use crate::*;
