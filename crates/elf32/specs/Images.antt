@@ -1,12 +1,14 @@
 -- Images that a memory holds.
-use Rattle.std.specs.Prelude.{ℕ, Bool, nat_le, ◌&&◌, ◌+◌, ◌*◌, ◌^◌, length, All, IsTrue}
+use Rattle.std.specs.Prelude.{ℕ, ◌+◌, ◌*◌, ◌≤◌, length, All}
 use Rattle.elf32.specs.declared.image.Segment.{Segment}
 use Rattle.elf32.specs.declared.image.Image.{Image}
 
--- whether a segment lies within a memory of some pages, whose first byte has the virtual address 80000000
-abbrev pub is_within : ℕ → Segment → Bool
-is_within pages s = nat_le (length s.bytes.items) s.size && nat_le 0x80000000 s.address && nat_le (s.address + s.size) (0x80000000 + 4096 * pages)
+-- a segment lies within a memory of some bytes, the first of which has the virtual address 80000000
+pub record IsWithin (size : ℕ) (s : Segment) : Type 0 where
+  pub file_part : length s.bytes.items ≤ s.size
+  pub start : 0x80000000 ≤ s.address
+  pub end : s.address + s.size ≤ 0x80000000 + size
 
--- each segment does
+-- each segment lies within the memory of some pages
 abbrev pub FitsPages : Image → ℕ → Type 0
-FitsPages image pages = All (λ s. IsTrue (is_within pages s)) image.segments.items
+FitsPages image pages = All (IsWithin (pages * 4096)) image.segments.items

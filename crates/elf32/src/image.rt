@@ -1,6 +1,6 @@
 //! Images.
 ghost use Rattle.std.specs.Prelude.{◌≡◌, ℕ, ◌<◌, ◌≤◌, ◌+◌, ◌*◌, ◌^◌, [], ◌∷◌, length, IfOk, All, IsTrue, ◌↔◌};
-ghost use Rattle.elf32.specs.Images.{is_within, FitsPages};
+ghost use Rattle.elf32.specs.Images.{IsWithin, FitsPages};
 
 use std::alloc::{AllocError, Global};
 
@@ -28,15 +28,16 @@ pub struct Image {
 }
 
 impl Segment {
-    /// Whether a memory of this many pages holds the segment.
-    pub fn is_within(&self, pages: u32) -> bool
-        ensures { result ≡ is_within pages self.now }
+    /// Whether a memory of this many bytes, below 2^63, holds the segment.
+    pub fn is_within(&self, memory: u64) -> bool
+        requires { memory < 2 ^ 63 }
+        ensures { IsTrue result ↔ IsWithin memory self.now }
     {
         let start = u64::from(self.address);
         let base = u64::from(SEGMENT_BASE);
         self.bytes.len() as u64 <= u64::from(self.size)
             && base <= start
-            && start + u64::from(self.size) <= base + 4096 * u64::from(pages)
+            && start + u64::from(self.size) <= base + memory
     }
 }
 
@@ -64,6 +65,7 @@ impl Image {
     pub fn fits(&self, pages: u32) -> bool
         ensures { IsTrue result ↔ FitsPages self.now pages }
     {
-        self.segments.iter().all(|s| s.is_within(pages))
+        let memory = u64::from(pages) * 4096;
+        self.segments.iter().all(|s| s.is_within(memory))
     }
 }

@@ -1,3 +1,4 @@
 pub mod Pages
 pub mod Sign
 pub mod Words
+pub mod Zeros

@@ -1,0 +1,20 @@
+-- The machine that an image boots.
+use Rattle.std.specs.Prelude.{ℕ, List, length, ◌-◌, ◌*◌, fold}
+use Rattle.word32.specs.Words.{patched}
+use Rattle.word32.specs.Zeros.{zeros}
+use Rattle.elf32.specs.declared.image.Segment.{Segment}
+use Rattle.elf32.specs.declared.image.Image.{Image}
+use Rattle.mips_step.specs.Processor.{boot_processor}
+use Rattle.mips_step.specs.World.{with_memory}
+use Rattle.mips_step.specs.Step.{Machine}
+
+-- a memory with a segment's bytes at the segment's address less 80000000
+abbrev pub placed : List ℕ → Segment → List ℕ
+placed memory s = patched memory (s.address - 0x80000000) s.bytes.items (length s.bytes.items)
+
+-- the bytes of the segments, and zeros elsewhere
+abbrev pub boot_memory : Image → ℕ → List ℕ
+boot_memory image pages = fold placed (zeros (pages * 4096)) image.segments.items
+
+abbrev pub boot_machine : Image → ℕ → Machine
+boot_machine image pages = record { cpu = boot_processor image.entry; world = with_memory (boot_memory image pages) }

@@ -1,0 +1,4 @@
+pub mod Boot
+pub mod Items
+pub mod Seats
+pub mod Verdict
