@@ -8,6 +8,7 @@
 
 pub mod flat;
 pub mod item;
+pub mod laws;
 pub mod memory;
 
 pub use flat::{Flat, View};
