@@ -13,6 +13,7 @@ use std::alloc::{AllocError, Global};
 use std::marker::Model;
 
 /// What is seen of a machine beside its memory.
+#[derive(Clone, Copy)]
 pub struct View<'a> {
     /// The processor.
     pub cpu: &'a Cpu,

@@ -14,3 +14,6 @@ pub mod memory;
 pub use flat::{Flat, View};
 pub use item::{Item, SeatNo, What};
 pub use memory::Memory;
+
+#[cfg(test)]
+mod tests;

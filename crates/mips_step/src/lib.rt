@@ -17,3 +17,6 @@ pub use bus::PhysBus;
 pub use cpu::Cpu;
 pub use mips_tlb::Kind;
 pub use ppn::Ppn;
+
+#[cfg(test)]
+mod tests;
