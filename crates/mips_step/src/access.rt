@@ -2,8 +2,8 @@
 ghost use Rattle.std.specs.Prelude.{◌≡◌};
 ghost use Rattle.mips_step.specs.Answer.{refused, refused_need};
 
-use crate::Ppn;
 use mips_cp0::Exc;
+use word32::Ppn;
 
 /// How many bytes an access reaches.
 #[derive(Clone, Copy, Debug, PartialEq, Eq)]

@@ -9,14 +9,13 @@
 pub mod access;
 pub mod bus;
 pub mod cpu;
-pub mod ppn;
 pub mod stepping;
 
 pub use access::{Refusal, Size, StepOut, Why};
 pub use bus::PhysBus;
 pub use cpu::Cpu;
 pub use mips_tlb::Kind;
-pub use ppn::Ppn;
+pub use word32::Ppn;
 
 #[cfg(test)]
 mod tests;

@@ -26,8 +26,8 @@ impl PhysBus for Sparse {
         let page = page_of(at);
         if at as usize + 4 > self.bytes.len() {
             Err(Refusal::Bus)
-        } else if page == self.absent {
-            Err(Refusal::Need(Ppn::new(page), Why::First))
+        } else if page.number() == self.absent {
+            Err(Refusal::Need(page, Why::First))
         } else {
             Ok(())
         }
