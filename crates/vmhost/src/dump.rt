@@ -1,0 +1,74 @@
+//! The dump of a machine.
+ghost use Rattle.std.specs.Prelude.{◌+◌, ◌<◌};
+
+use crate::machine::{End, Ran};
+use flatvm::View;
+use guest::Stop;
+use mips_isa::Reg;
+use mips_step::Cpu;
+use std::fmt;
+
+/// The state that a machine is in after a run. Its text has a line for each part of it, and last why the run ended
+/// where that was before its last step.
+#[derive(Drop)]
+pub struct Dump<'a> {
+    /// The machine.
+    pub view: View<'a>,
+    /// How the run went.
+    pub ran: Ran,
+}
+
+impl fmt::Display for Dump<'_> {
+    fn fmt<W: fmt::Write>(&self, f: &mut fmt::Formatter<W>) -> fmt::Result {
+        let cpu = self.view.cpu;
+        writeln!(f, "steps {}", self.ran.steps)?;
+        writeln!(
+            f,
+            "pc {:08x} hi {:08x} lo {:08x}",
+            cpu.pc(),
+            cpu.hi(),
+            cpu.lo()
+        )?;
+        for row in 0..8 {
+            write_registers(f, cpu, row * 4)?;
+        }
+        write_system_registers(f, cpu)?;
+        writeln!(f, "out -")?;
+        match self.ran.end {
+            None => Ok(()),
+            Some(end) => writeln!(f, "{end}"),
+        }
+    }
+}
+
+fn write_registers<W: fmt::Write>(f: &mut fmt::Formatter<W>, cpu: &Cpu, first: u32) -> fmt::Result
+    requires { first + 3 < 32 }
+{
+    let a = cpu.reg(Reg::new(first));
+    let b = cpu.reg(Reg::new(first + 1));
+    let c = cpu.reg(Reg::new(first + 2));
+    let d = cpu.reg(Reg::new(first + 3));
+    writeln!(f, "r{first:02} {a:08x} {b:08x} {c:08x} {d:08x}")
+}
+
+fn write_system_registers<W: fmt::Write>(f: &mut fmt::Formatter<W>, cpu: &Cpu) -> fmt::Result {
+    let cp0 = cpu.cp0();
+    let sr = cp0.status();
+    let cause = cp0.cause();
+    let epc = cp0.epc();
+    let badva = cp0.bad_vaddr();
+    writeln!(
+        f,
+        "sr {sr:08x} cause {cause:08x} epc {epc:08x} badva {badva:08x}"
+    )
+}
+
+impl fmt::Display for End {
+    fn fmt<W: fmt::Write>(&self, f: &mut fmt::Formatter<W>) -> fmt::Result {
+        match self {
+            End::Fault(e) => write!(f, "fault {}", e.code()),
+            End::Stop(Stop::Memory) => write!(f, "stop 5"),
+            End::Stop(Stop::LogFull) => write!(f, "stop 6"),
+        }
+    }
+}

@@ -1,0 +1,28 @@
+//! The program `vmhost`: it runs MIPS32 machine code in a virtual machine.
+//!
+//! `program` does all of the work, over any files, reader and writers. `run` makes the steps of a machine: its contract
+//! says which state the machine is in afterwards, how many steps were made and why it ended before the last.
+#![tactic(auto)]
+
+mod command_line;
+mod dump;
+mod exec;
+mod fault;
+mod machine;
+mod program;
+
+use crate::program::{program, unreadable, words};
+use std::process::ExitCode;
+
+fn main(rt: HostRuntime) -> ExitCode {
+    let mut out = rt.stdout();
+    let mut err = rt.stderr();
+    let status = match words(&rt) {
+        Ok(words) => program(&rt, words.as_slice(), &mut rt.reader(), &mut out, &mut err),
+        Err(error) => unreadable(&error, &mut err),
+    };
+    ExitCode::from(status)
+}
+
+#[cfg(test)]
+mod tests;

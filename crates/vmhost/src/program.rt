@@ -1,0 +1,153 @@
+//! The program, over any files, reader and writers.
+ghost use Rattle.std.specs.Prelude.{◌≡◌, ◌<◌, ◌⊎◌, IfOk};
+ghost use Rattle.std.specs.IoError.{error_kind};
+ghost use Rattle.vmhost.specs.Exit.{code_of};
+
+use crate::command_line::{Order, parse};
+use crate::exec::{Report, run_image};
+use crate::fault::Fault;
+use clap::Error;
+use std::io::{BufRead, ErrorKind, Write};
+use std::rt::{Env, Files};
+use std::{env, io};
+
+/// How the program ends.
+#[derive(Clone, Copy, Debug, PartialEq, Eq)]
+pub enum Status {
+    /// What was asked for is done.
+    Done,
+    /// An input was refused.
+    Refused,
+    /// The command line was refused.
+    Usage,
+    /// The machine stopped before its last step.
+    Stopped,
+}
+
+impl Status {
+    /// The status as the system sees it.
+    fn code(self) -> u8
+        ensures { result ≡ code_of self }
+    {
+        match self {
+            Status::Done => 0,
+            Status::Refused => 1,
+            Status::Usage => 2,
+            Status::Stopped => 3,
+        }
+    }
+}
+
+/// What the program has to say.
+enum Answer<'a> {
+    /// What a command prints.
+    Report(Report),
+    /// Help, or what is wrong with the command line.
+    CommandLine(Error),
+    /// Why the command is refused.
+    Fault(Fault<'a>),
+}
+
+/// Does what the words of the command line ask for, and gives the status to exit with. The name of the program is not
+/// among the words. `input` is not read yet.
+///
+/// Status 0: done. 1: an input was refused, the line `vmhost: ` with the fault stands in `err`, and nothing was written
+/// to `out`; or `out` or `err` could not be written. 2: the command line was refused, and `err` has the reason. 3: the
+/// machine stopped before its last step; the last line in `out` says why.
+pub fn program<R, I, O, E>(rt: &R, words: &[String], input: &mut I, out: &mut O, err: &mut E) -> u8
+where
+    R: Files + AllocGlobal,
+    I: BufRead,
+    O: Write,
+    E: Write,
+    ensures range { result < 4 }
+    ensures input { input.new ≡ input.old }
+    ensures usage { result ≡ 2 → out.new ≡ out.old }
+    ensures done { result ≡ 0 → err.new ≡ err.old }
+    ensures stopped { result ≡ 3 → err.new ≡ err.old }
+{
+    let _ = input;
+    let status = match write_answer(respond(rt, words), out, err) {
+        Ok(status) => status,
+        Err(_) => Status::Refused,
+    };
+    status.code()
+}
+
+fn respond<'a, R: Files + AllocGlobal>(rt: &R, words: &'a [String]) -> Answer<'a> {
+    let order = match parse(rt.alloc(), words) {
+        Ok(order) => order,
+        Err(error) if error.kind() == clap::error::ErrorKind::OutOfMemory => return Answer::Fault(
+            Fault::Memory,
+        ),
+        Err(error) => return Answer::CommandLine(error),
+    };
+    let done = match order {
+        Order::Exec(order) => run_image(rt, order),
+    };
+    match done {
+        Ok(report) => Answer::Report(report),
+        Err(fault) => Answer::Fault(fault),
+    }
+}
+
+fn write_answer<O: Write, E: Write>(
+    answer: Answer<'_>,
+    out: &mut O,
+    err: &mut E,
+) -> io::Result<Status>
+    ensures usage { IfOk result (λ s. code_of s ≡ 2 → out.new ≡ out.old) }
+    ensures done { IfOk result (λ s. code_of s ≡ 0 → err.new ≡ err.old) }
+    ensures stopped { IfOk result (λ s. code_of s ≡ 3 → err.new ≡ err.old) }
+{
+    match answer {
+        Answer::Report(report) => {
+            out.write_all(report.text.as_bytes())?;
+            out.flush()?;
+            Ok(if report.ran.end.is_none() {
+                Status::Done
+            } else {
+                Status::Stopped
+            })
+        }
+        Answer::CommandLine(error) if error.use_stderr() => {
+            write!(err, "{error}")?;
+            err.flush()?;
+            Ok(Status::Usage)
+        }
+        Answer::CommandLine(help) => {
+            write!(out, "{help}")?;
+            out.flush()?;
+            Ok(Status::Done)
+        }
+        Answer::Fault(fault) => {
+            writeln!(err, "vmhost: {fault}")?;
+            err.flush()?;
+            Ok(Status::Refused)
+        }
+    }
+}
+
+/// The words of the command line after the program's name. An error says that a word is no UTF-8 text, or want of memory.
+pub fn words<R: Env + AllocGlobal>(rt: &R) -> io::Result<Vec<String>> {
+    Ok(env::args(rt)?.skip(1).collect(rt.alloc())?)
+}
+
+/// Says why the words can't be read, and gives the status to exit with: 1 for want of memory, 2 for a word that is no
+/// UTF-8 text.
+pub fn unreadable<E: Write>(error: &io::Error, err: &mut E) -> u8
+    ensures refused { (result ≡ 1) ⊎ (result ≡ 2) }
+    ensures memory { error_kind error.now ≡ ErrorKind.OutOfMemory → result ≡ 1 }
+{
+    let said = match error.kind() {
+        ErrorKind::OutOfMemory => (writeln!(err, "vmhost: {}", Fault::Memory), Status::Refused),
+        _ => (
+            writeln!(err, "error: the command line is no UTF-8 text"),
+            Status::Usage,
+        ),
+    };
+    match said {
+        (Ok(()), status) => status.code(),
+        (Err(_), _) => Status::Refused.code(),
+    }
+}
