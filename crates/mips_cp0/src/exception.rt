@@ -1,6 +1,6 @@
 //! The exceptions.
-ghost use Rattle.std.specs.Prelude.{◌≡◌};
-ghost use Rattle.mips_cp0.specs.Exception.{exc_code};
+ghost use Rattle.std.specs.Prelude.{◌≡◌, ◌<◌};
+ghost use Rattle.mips_cp0.specs.Exception.{exc_code, coprocessor_number, coprocessor_error, tlb_address, fault_address};
 
 /// A coprocessor that an instruction may need.
 #[derive(Clone, Copy, Debug, PartialEq, Eq)]
@@ -8,6 +8,20 @@ pub enum Coprocessor {
     Zero,
     One,
     Two,
+}
+
+impl Coprocessor {
+    /// Its number, 0 to 2.
+    pub fn number(self) -> u32
+        ensures value { result ≡ coprocessor_number self }
+        ensures small { result < 3 }
+    {
+        match self {
+            Coprocessor::Zero => 0,
+            Coprocessor::One => 1,
+            Coprocessor::Two => 2,
+        }
+    }
 }
 
 /// An exception, with what its entry records. An address is the virtual address that was accessed.
@@ -46,7 +60,8 @@ pub enum Exc {
 impl Exc {
     /// The exception code, 0 to 13, as Cause shows it (volume III, Cause register, ExcCode field).
     pub fn code(self) -> u32
-        ensures { result ≡ exc_code self }
+        ensures value { result ≡ exc_code self }
+        ensures small { result < 14 }
     {
         match self {
             Exc::Interrupt => 0,
@@ -63,6 +78,41 @@ impl Exc {
             Exc::Unusable { .. } => 11,
             Exc::Overflow => 12,
             Exc::Trap => 13,
+        }
+    }
+
+    /// The number of the coprocessor that may not be used, and 0 in each other exception (volume III, Cause register,
+    /// CE field).
+    pub fn coprocessor_error(self) -> u32
+        ensures value { result ≡ coprocessor_error self }
+        ensures small { result < 3 }
+    {
+        match self {
+            Exc::Unusable { coprocessor } => coprocessor.number(),
+            _ => 0,
+        }
+    }
+
+    /// The address of an exception of the TLB, which Context and EntryHi take over; None for each other exception.
+    pub fn tlb_address(self) -> Option<u32>
+        ensures { result ≡ tlb_address self }
+    {
+        match self {
+            Exc::Modified { address }
+            | Exc::TlbLoad { address, .. }
+            | Exc::TlbStore { address, .. } => Some(address),
+            _ => None,
+        }
+    }
+
+    /// The address of an address error or of an exception of the TLB, which BadVAddr takes over; None for each other
+    /// exception.
+    pub fn fault_address(self) -> Option<u32>
+        ensures { result ≡ fault_address self }
+    {
+        match self {
+            Exc::AddressLoad { address } | Exc::AddressStore { address } => Some(address),
+            _ => self.tlb_address(),
         }
     }
 }

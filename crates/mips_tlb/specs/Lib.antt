@@ -1,1 +1,4 @@
 pub mod Entries
+pub mod Instructions
+pub mod Segments
+pub mod Translation

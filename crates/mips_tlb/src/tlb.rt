@@ -1,16 +1,22 @@
 //! The entries.
-ghost use Rattle.std.specs.Prelude.{◌≡◌};
-ghost use Rattle.mips_tlb.specs.Entries.{boot_entries};
+ghost use Rattle.std.specs.Prelude.{◌≡◌, ◌<◌, position, find, IfSome, slice_get, slice_set, Some};
+ghost use Rattle.mips_tlb.specs.Entries.{boot_entries, matches};
 
+use crate::{Coherence, Vpn2};
+use mips_cp0::TLB_ENTRIES;
 use std::marker::Model;
+use word32::Ppn;
+
+/// How many entries the TLB has.
+pub const ENTRIES: usize = TLB_ENTRIES as usize;
 
 /// What an entry says of one of its two pages.
 #[derive(Clone, Copy, Debug, PartialEq, Eq)]
 pub struct PageHalf {
-    /// PFN: the physical page number, below 2^20.
-    pub pfn: u32,
-    /// C: the coherence, below 8; it is kept and has no effect.
-    pub coherence: u8,
+    /// PFN: the physical page number.
+    pub pfn: Ppn,
+    /// C: the coherence attribute.
+    pub coherence: Coherence,
     /// D: stores are allowed.
     pub dirty: bool,
     /// V: the page is there.
@@ -20,8 +26,8 @@ pub struct PageHalf {
 /// An entry of the TLB: a pair of neighbouring pages of 4,096 bytes.
 #[derive(Clone, Copy, Debug, PartialEq, Eq)]
 pub struct Entry {
-    /// VPN2: bits 31 to 13 of the addresses of the pair, below 2^19.
-    pub vpn2: u32,
+    /// VPN2: bits 31 to 13 of the addresses of the pair.
+    pub vpn2: Vpn2,
     /// The address space that the pair belongs to, where it is not global.
     pub asid: u8,
     /// G: the pair belongs to all address spaces.
@@ -32,10 +38,20 @@ pub struct Entry {
     pub odd: PageHalf,
 }
 
+impl Entry {
+    /// Whether it is the entry of a virtual address in an address space: it has the address's VPN2, and it is global or
+    /// has the address space's number.
+    pub fn matches(&self, address: u32, asid: u8) -> bool
+        ensures { result ≡ matches address asid self.now }
+    {
+        self.vpn2.number() == address >> 13 && (self.global || self.asid == asid)
+    }
+}
+
 /// The TLB. In clauses it is the list of its 16 entries.
 #[derive(Drop)]
 pub struct Tlb {
-    entries: [Entry; 16],
+    entries: [Entry; ENTRIES],
 }
 
 impl Model for Tlb {
@@ -52,21 +68,58 @@ impl Tlb {
     pub fn boot() -> Tlb
         ensures { result ≡ boot_entries }
     {
-        let half = PageHalf {
-            pfn: 0,
-            coherence: 0,
+        let even = PageHalf {
+            pfn: Ppn::new(0),
+            coherence: Coherence::new(0),
             dirty: false,
             valid: false,
         };
+        let odd = even;
         let entry = Entry {
-            vpn2: 0,
+            vpn2: Vpn2::new(0),
             asid: 0,
             global: false,
-            even: half,
-            odd: half,
+            even,
+            odd,
         };
         Tlb {
-            entries: [entry; 16],
+            entries: [entry; ENTRIES],
         }
+    }
+
+    /// The entry of an index, which is below `ENTRIES`.
+    pub fn read(&self, index: usize) -> Entry
+        requires { index < ENTRIES }
+        ensures { slice_get self.now index ≡ Some result }
+    {
+        self.entries[index]
+    }
+
+    /// Writes the entry of an index, which is below `ENTRIES`.
+    pub fn write(&mut self, index: usize, entry: Entry)
+        requires { index < ENTRIES }
+        ensures { self.new ≡ slice_set self.old index entry }
+    {
+        self.entries[index] = entry;
+    }
+
+    /// The least index of an entry that matches a virtual address in an address space; None where none does.
+    pub fn find(&self, address: u32, asid: u8) -> Option<usize>
+        ensures value { result ≡ position (matches address asid) self.now }
+        ensures small { IfSome result (λ index. index < ENTRIES) }
+    {
+        self.entries
+            .iter()
+            .position(|entry| entry.matches(address, asid))
+    }
+
+    // The matching entry of least index.
+    pub(crate) fn matching(&self, address: u32, asid: u8) -> Option<Entry>
+        ensures { result ≡ find (matches address asid) self.now }
+    {
+        self.entries
+            .iter()
+            .copied()
+            .find(|entry| entry.matches(address, asid))
     }
 }

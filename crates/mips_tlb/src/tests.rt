@@ -1,0 +1,433 @@
+//! Tables of translation, probe and the TLB instructions.
+use crate::{Entry, Kind, PageHalf, Tlb};
+use mips_cp0::{Cp0, Exc};
+
+// Kernel mode, user mode, the error level with user mode's bit, and a handler with it.
+const KERNEL: u32 = 0x00;
+
+const USER: u32 = 0x10;
+
+const ERROR: u32 = 0x14;
+
+const HANDLER: u32 = 0x12;
+
+// Registers with Status and the current address space.
+fn registers(status: u32, asid: u32) -> Cp0 {
+    let mut cp0 = Cp0::boot();
+    cp0.write(12, 0, status);
+    cp0.write(10, 0, asid);
+    cp0
+}
+
+// The TLB with an entry of EntryHi, EntryLo0 and EntryLo1 at an index.
+fn with_entry(tlb: &mut Tlb, index: u32, entry_hi: u32, entry_lo0: u32, entry_lo1: u32) {
+    let mut cp0 = Cp0::boot();
+    cp0.write(0, 0, index);
+    cp0.write(10, 0, entry_hi);
+    cp0.write(2, 0, entry_lo0);
+    cp0.write(3, 0, entry_lo1);
+    tlb.write_indexed(&cp0);
+}
+
+// The entries at boot are of address space 0, so in space 1 none matches.
+#[test]
+fn segments(rt: HostRuntime) {
+    let tlb = Tlb::boot();
+    for (address, unmapped, user_may) in [
+        (0x0000_0000, None, true),
+        (0x7fff_ffff, None, true),
+        (0x8000_0000, Some(0x0000_0000), false),
+        (0x9fff_ffff, Some(0x1fff_ffff), false),
+        (0xa000_0000, Some(0x0000_0000), false),
+        (0xbfff_ffff, Some(0x1fff_ffff), false),
+        (0xc000_0000, None, false),
+        (0xdfff_ffff, None, false),
+        (0xe000_0000, None, false),
+        (0xffff_ffff, None, false),
+    ] {
+        let refill = Exc::TlbLoad {
+            address,
+            refill: true,
+        };
+        let kernel = unmapped.ok_or(refill);
+        let user = if user_may {
+            kernel
+        } else {
+            Err(Exc::AddressLoad { address })
+        };
+        let error = if address < 0x8000_0000 {
+            Ok(address)
+        } else {
+            kernel
+        };
+        for (status, answer) in [
+            (KERNEL, kernel),
+            (USER, user),
+            (HANDLER, kernel),
+            (ERROR, error),
+        ] {
+            let cp0 = registers(status, 1);
+            assert_eq!(rt;
+                tlb.translate(&cp0, address, Kind::Load),
+                answer,
+                "{address} in {status}"
+            );
+            assert_eq!(rt;
+                tlb.translate(&cp0, address, Kind::Fetch),
+                answer,
+                "{address} in {status}"
+            );
+            let probed = if status == ERROR {
+                error.ok()
+            } else {
+                unmapped
+            };
+            assert_eq!(rt;
+                tlb.probe(&cp0, address),
+                probed,
+                "probe of {address} in {status}"
+            );
+        }
+    }
+}
+
+// At boot each entry is that of the pair at 0 in address space 0, with no page valid.
+#[test]
+fn boot_entries_are_not_valid(rt: HostRuntime) {
+    let tlb = Tlb::boot();
+    let cp0 = registers(KERNEL, 0);
+    assert_eq!(rt;
+        tlb.translate(&cp0, 0, Kind::Load),
+        Err(Exc::TlbLoad {
+            address: 0,
+            refill: false
+        })
+    );
+    assert_eq!(rt; tlb.find(0x1fff, 0), Some(0));
+    assert_eq!(rt; tlb.find(0x2000, 0), None);
+    assert_eq!(rt; tlb.find(0, 1), None);
+}
+
+#[test]
+fn kinds_raise_their_exceptions(rt: HostRuntime) {
+    let mut tlb = Tlb::boot();
+    // Even page: valid and not dirty. Odd page: dirty and not valid.
+    with_entry(&mut tlb, 0, 0x0040_0000, 0x0000_0082, 0x0000_00c4);
+    let cp0 = registers(USER, 0);
+    for (address, kind, answer) in [
+        (0x0040_0004, Kind::Fetch, Ok(0x0000_2004)),
+        (0x0040_0004, Kind::Load, Ok(0x0000_2004)),
+        (
+            0x0040_0004,
+            Kind::Store,
+            Err(Exc::Modified {
+                address: 0x0040_0004,
+            }),
+        ),
+        (
+            0x0040_1004,
+            Kind::Fetch,
+            Err(Exc::TlbLoad {
+                address: 0x0040_1004,
+                refill: false,
+            }),
+        ),
+        (
+            0x0040_1004,
+            Kind::Load,
+            Err(Exc::TlbLoad {
+                address: 0x0040_1004,
+                refill: false,
+            }),
+        ),
+        (
+            0x0040_1004,
+            Kind::Store,
+            Err(Exc::TlbStore {
+                address: 0x0040_1004,
+                refill: false,
+            }),
+        ),
+        (
+            0x0040_2004,
+            Kind::Fetch,
+            Err(Exc::TlbLoad {
+                address: 0x0040_2004,
+                refill: true,
+            }),
+        ),
+        (
+            0x0040_2004,
+            Kind::Load,
+            Err(Exc::TlbLoad {
+                address: 0x0040_2004,
+                refill: true,
+            }),
+        ),
+        (
+            0x0040_2004,
+            Kind::Store,
+            Err(Exc::TlbStore {
+                address: 0x0040_2004,
+                refill: true,
+            }),
+        ),
+        (
+            0x8000_0000,
+            Kind::Fetch,
+            Err(Exc::AddressLoad {
+                address: 0x8000_0000,
+            }),
+        ),
+        (
+            0x8000_0000,
+            Kind::Load,
+            Err(Exc::AddressLoad {
+                address: 0x8000_0000,
+            }),
+        ),
+        (
+            0x8000_0000,
+            Kind::Store,
+            Err(Exc::AddressStore {
+                address: 0x8000_0000,
+            }),
+        ),
+    ] {
+        assert_eq!(rt;
+            tlb.translate(&cp0, address, kind),
+            answer,
+            "{address}, {kind:?}"
+        );
+    }
+}
+
+#[test]
+fn probe_is_a_kernel_load(rt: HostRuntime) {
+    let mut tlb = Tlb::boot();
+    with_entry(&mut tlb, 0, 0xc040_0000, 0x0000_0082, 0x0000_00c4);
+    for status in [KERNEL, USER, HANDLER] {
+        let cp0 = registers(status, 0);
+        for (address, answer) in [
+            (0xc040_0004, Some(0x0000_2004)),
+            (0xc040_1004, None),
+            (0xc040_2004, None),
+            (0x8000_7000, Some(0x0000_7000)),
+        ] {
+            assert_eq!(rt; tlb.probe(&cp0, address), answer, "{address} in {status}");
+        }
+    }
+}
+
+// A refill of a load from user mode: EntryHi is the pair of the address, and the handler is that of a refill, or the
+// general one within a handler.
+#[test]
+fn refill_enters(rt: HostRuntime) {
+    let mut tlb = Tlb::boot();
+    with_entry(&mut tlb, 0, 0x0040_0000, 0x0000_0083, 0x0000_0001);
+    for (status, epc_before, vector, epc) in [
+        (0x10, 0, 0x8000_0000, 0x0040_0000),
+        (0x12, 0x1234_5678, 0x8000_0180, 0x1234_5678),
+    ] {
+        let mut cp0 = registers(status, 0);
+        cp0.write(14, 0, epc_before);
+        assert_eq!(rt;
+            tlb.translate(&cp0, 0x0040_0000, Kind::Fetch),
+            Ok(0x0000_2000)
+        );
+        match tlb.translate(&cp0, 0x0040_3004, Kind::Load) {
+            Ok(_) => assert!(rt; false, "a translation with no entry"),
+            Err(exc) => assert_eq!(rt; cp0.enter(exc, 0x0040_0000, false), vector),
+        }
+        assert_eq!(rt; (cp0.epc(), cp0.bad_vaddr()), (epc, 0x0040_3004));
+        assert_eq!(rt;
+            (cp0.read(4, 0, 0), cp0.entry_hi()),
+            (0x0000_2010, 0x0040_2000)
+        );
+        assert_eq!(rt; (cp0.cause(), cp0.status()), (0x0000_0008, 0x0000_0012));
+    }
+}
+
+#[test]
+fn store_to_a_page_not_dirty_enters(rt: HostRuntime) {
+    let mut tlb = Tlb::boot();
+    with_entry(&mut tlb, 3, 0x0000_2000, 0x0000_0102, 0x0000_0102);
+    let mut cp0 = registers(KERNEL, 0);
+    match tlb.translate(&cp0, 0x0000_2000, Kind::Store) {
+        Ok(_) => assert!(rt; false, "a store to a page that is not dirty"),
+        Err(exc) => assert_eq!(rt; cp0.enter(exc, 0x8000_0000, false), 0x8000_0180),
+    }
+    assert_eq!(rt; cp0.cause(), 0x0000_0004);
+}
+
+#[test]
+fn least_index_decides(rt: HostRuntime) {
+    let mut tlb = Tlb::boot();
+    with_entry(&mut tlb, 9, 0x0000_2000, 0x0000_0142, 0x0000_0142);
+    with_entry(&mut tlb, 3, 0x0000_2000, 0x0000_0102, 0x0000_0102);
+    let mut cp0 = registers(KERNEL, 0);
+    assert_eq!(rt;
+        tlb.translate(&cp0, 0x0000_2000, Kind::Load),
+        Ok(0x0000_4000)
+    );
+    assert_eq!(rt; tlb.find(0x0000_2000, 0), Some(3));
+    cp0.write(10, 0, 0x0000_2000);
+    tlb.probe_index(&mut cp0);
+    assert_eq!(rt; cp0.read(0, 0, 0), 3);
+}
+
+#[test]
+fn address_spaces(rt: HostRuntime) {
+    for (lo0, lo1, is_global) in [
+        (0x103, 0x143, true),
+        (0x102, 0x143, false),
+        (0x103, 0x142, false),
+        (0x102, 0x142, false),
+    ] {
+        let mut tlb = Tlb::boot();
+        with_entry(&mut tlb, 15, 0x0000_2007, lo0, lo1);
+        for (asid, matches) in [(7, true), (6, is_global), (0, is_global), (0xff, is_global)] {
+            let cp0 = registers(KERNEL, asid);
+            for (address, physical) in [(0x0000_2abc, 0x0000_4abc), (0x0000_3abc, 0x0000_5abc)] {
+                let answer = if matches {
+                    Ok(physical)
+                } else {
+                    Err(Exc::TlbLoad {
+                        address,
+                        refill: true,
+                    })
+                };
+                assert_eq!(rt;
+                    tlb.translate(&cp0, address, Kind::Load),
+                    answer,
+                    "{address} in space {asid}"
+                );
+            }
+        }
+    }
+}
+
+#[test]
+fn halves_and_ends_of_a_pair(rt: HostRuntime) {
+    let mut tlb = Tlb::boot();
+    with_entry(&mut tlb, 1, 0xffff_e000, 0x03ff_ffc3, 0x0000_0003);
+    let cp0 = registers(KERNEL, 0x33);
+    for (address, answer) in [
+        (
+            0xffff_dfff,
+            Err(Exc::TlbLoad {
+                address: 0xffff_dfff,
+                refill: true,
+            }),
+        ),
+        (0xffff_e000, Ok(0xffff_f000)),
+        (0xffff_efff, Ok(0xffff_ffff)),
+        (0xffff_f000, Ok(0x0000_0000)),
+        (0xffff_ffff, Ok(0x0000_0fff)),
+    ] {
+        assert_eq!(rt;
+            tlb.translate(&cp0, address, Kind::Load),
+            answer,
+            "{address}"
+        );
+    }
+}
+
+// What is written from the registers and read back: C and PFN stay, G is that of both.
+#[test]
+fn entries_are_written_and_read(rt: HostRuntime) {
+    for (hi, lo0, lo1, read_lo0, read_lo1) in [
+        (
+            0xffff_e0ff,
+            0x03ff_ffff,
+            0x03ff_ffff,
+            0x03ff_ffff,
+            0x03ff_ffff,
+        ),
+        (
+            0x0040_2005,
+            0x0000_0087,
+            0x0000_00de,
+            0x0000_0086,
+            0x0000_00de,
+        ),
+        (
+            0x0040_2005,
+            0x0000_0086,
+            0x0000_00df,
+            0x0000_0086,
+            0x0000_00de,
+        ),
+        (
+            0x0000_0000,
+            0x0000_0000,
+            0x0000_0000,
+            0x0000_0000,
+            0x0000_0000,
+        ),
+    ] {
+        let mut tlb = Tlb::boot();
+        let mut cp0 = Cp0::boot();
+        cp0.write(10, 0, hi);
+        cp0.write(2, 0, lo0);
+        cp0.write(3, 0, lo1);
+        cp0.set_index(0x8000_0007);
+        tlb.write_indexed(&cp0);
+        tlb.write_random(&cp0);
+        for index in [7, 15] {
+            let mut reader = Cp0::boot();
+            reader.set_index(index);
+            tlb.read_indexed(&mut reader);
+            assert_eq!(rt; reader.entry_hi(), hi, "entry {index}");
+            assert_eq!(rt;
+                (reader.entry_lo0(), reader.entry_lo1()),
+                (read_lo0, read_lo1),
+                "entry {index}"
+            );
+        }
+        let mut reader = registers(KERNEL, 1);
+        reader.set_index(6);
+        tlb.read_indexed(&mut reader);
+        assert_eq!(rt;
+            (reader.entry_hi(), reader.entry_lo0(), reader.entry_lo1()),
+            (0, 0, 0),
+            "entry 6"
+        );
+    }
+}
+
+#[test]
+fn probe_fails_where_none_matches(rt: HostRuntime) {
+    let tlb = Tlb::boot();
+    for (hi, index) in [
+        (0x0000_0000, 0),
+        (0x0000_2000, 0x8000_0000),
+        (0x0000_0001, 0x8000_0000),
+    ] {
+        let mut cp0 = registers(KERNEL, hi);
+        tlb.probe_index(&mut cp0);
+        assert_eq!(rt; cp0.read(0, 0, 0), index, "EntryHi {hi}");
+    }
+}
+
+#[test]
+fn entries_by_index(rt: HostRuntime) {
+    let mut tlb = Tlb::boot();
+    let even = PageHalf::in_entry_lo(0x0000_009e);
+    let entry = Entry {
+        global: true,
+        even,
+        ..tlb.read(0)
+    };
+    tlb.write(15, entry);
+    assert_eq!(rt; tlb.read(15), entry);
+    assert_eq!(rt; tlb.read(14), tlb.read(0));
+    assert_eq!(rt;
+        (
+            entry.entry_hi(),
+            entry.even.entry_lo(true),
+            entry.odd.entry_lo(true)
+        ),
+        (0, 0x9f, 1)
+    );
+}
