@@ -1,4 +1,3 @@
 pub mod Boot
 pub mod Items
 pub mod Seats
-pub mod Verdict

@@ -1,13 +1,11 @@
 //! The table machine.
 ghost use Rattle.std.specs.Prelude.{◌≡◌, ℕ, IfOk};
 ghost use Rattle.elf32.specs.Images.{FitsPages};
-ghost use Rattle.mips_step.specs.Step.{Machine, outcome, step};
+ghost use Rattle.mips_step.specs.Step.{Machine, step};
 ghost use Rattle.flatvm.specs.Boot.{boot_machine};
-ghost use Rattle.flatvm.specs.Verdict.{verdict};
 
 use crate::Memory;
 use elf32::Image;
-use mips_cp0::Exc;
 use mips_step::{Cpu, StepOut};
 use std::alloc::{AllocError, Global};
 use std::marker::Model;
@@ -46,15 +44,13 @@ impl Flat {
         })
     }
 
-    /// One step. It is refused with an exception that the step would raise, and then the machine is as before.
+    /// One step.
     #[tactic(auto, using(crate::proofs::Never::never_lacks))]
-    pub fn step(&mut self) -> Result<(), Exc>
-        ensures state { self.new ≡ step self.old }
-        ensures verdict { result ≡ verdict (outcome self.old) }
+    pub fn step(&mut self)
+        ensures { self.new ≡ step self.old }
     {
         match self.cpu.step(&mut self.memory) {
-            StepOut::Done => Ok(()),
-            StepOut::Fault(e) => Err(e),
+            StepOut::Done => {}
             StepOut::Need(_, _) => unreachable!(),
         }
     }

@@ -2,14 +2,15 @@
 ghost use Rattle.std.specs.Prelude.{◌≡◌, ℕ, ◌+◌, ◌*◌, ◌<◌, ◌≤◌, ◌^◌, IfOk, OnOk, length, None, All, fold, drop};
 ghost use Rattle.word32.specs.Zeros.{zeros};
 ghost use Rattle.elf32.specs.Images.{IsWithin, FitsPages};
-ghost use Rattle.mips_step.specs.World.{World, with_memory};
+ghost use Rattle.mips_step.specs.World.{World, with_memory, first_byte, bytes_of, value_in, limit_of, bytes_after};
 ghost use Rattle.flatvm.specs.Boot.{placed, boot_memory};
 
 use elf32::{Image, SEGMENT_BASE, Segment};
+use mips_alu::{store_left, store_right};
 use mips_step::{Kind, PhysBus, Refusal, Size};
 use std::alloc::{AllocError, Global};
 use std::marker::Model;
-use word32::{put_word, word_at};
+use word32::{half_at, put_half, put_word, word_at};
 
 /// A memory of some pages from physical address 0 on, all of which are there. In clauses it is a `World` with no page
 /// given and no device input or output.
@@ -63,14 +64,61 @@ fn place(memory: &mut [u8], segment: &Segment)
     memory[start..start + segment.bytes.len()].copy_from_slice(&segment.bytes);
 }
 
+/// The first byte that an access reaches, and how many bytes there are.
+fn reached(size: Size, at: u32) -> (u32, usize)
+    ensures first { result.0 ≡ first_byte size at }
+    ensures count { result.1 ≡ bytes_of size }
+{
+    match size {
+        Size::Byte => (at, 1),
+        Size::Half => (at, 2),
+        Size::Word => (at, 4),
+        Size::Left | Size::Right => (at / 4 * 4, 4),
+    }
+}
+
+fn value(memory: &[u8], size: Size, at: u32) -> u32
+    requires { first_byte size at + bytes_of size ≤ length memory.now }
+    ensures value { result ≡ value_in memory.now size at }
+    ensures small { result < limit_of size }
+{
+    match size {
+        Size::Byte => u32::from(memory[at as usize]),
+        Size::Half => u32::from(half_at(memory, at as usize)),
+        Size::Word => word_at(memory, at as usize),
+        Size::Left | Size::Right => word_at(memory, (at / 4 * 4) as usize),
+    }
+}
+
+fn put_value(memory: &mut [u8], size: Size, at: u32, value: u32)
+    requires { first_byte size at + bytes_of size ≤ length memory.old }
+    ensures { memory.new ≡ bytes_after size value at memory.old }
+{
+    match size {
+        Size::Byte => memory[at as usize] = (value % 0x100) as u8,
+        Size::Half => put_half(memory, at as usize, (value % 0x1_0000) as u16),
+        Size::Word => put_word(memory, at as usize, value),
+        Size::Left => {
+            let first = (at / 4 * 4) as usize;
+            let word = store_left(word_at(memory, first), value, at % 4);
+            put_word(memory, first, word);
+        }
+        Size::Right => {
+            let first = (at / 4 * 4) as usize;
+            let word = store_right(word_at(memory, first), value, at % 4);
+            put_word(memory, first, word);
+        }
+    }
+}
+
 impl PhysBus for Memory {
     ghost world = { λ m. m };
 
     ghost lacks = { λ m page kind. None };
 
     fn ready(&self, at: u32, size: Size, _kind: Kind) -> Result<(), Refusal> {
-        let Size::Word = size;
-        if at as usize + 4 <= self.bytes.len() {
+        let (first, count) = reached(size, at);
+        if first as usize + count <= self.bytes.len() {
             Ok(())
         } else {
             Err(Refusal::Bus)
@@ -86,12 +134,15 @@ impl PhysBus for Memory {
     }
 
     fn load(&mut self, at: u32, size: Size) -> u32 {
-        let Size::Word = size;
-        word_at(&self.bytes, at as usize)
+        value(&self.bytes, size, at)
+    }
+
+    fn lines(&self) -> u8 {
+        let _no_device = &self.bytes;
+        0
     }
 
     fn store(&mut self, at: u32, size: Size, value: u32) {
-        let Size::Word = size;
-        put_word(&mut self.bytes, at as usize, value);
+        put_value(&mut self.bytes, size, at, value);
     }
 }

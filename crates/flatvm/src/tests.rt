@@ -1,7 +1,6 @@
 //! The table machine on images of one and of two segments.
 use crate::{Flat, Item, SeatNo, What};
 use elf32::{Image, Segment};
-use mips_cp0::Exc;
 use mips_isa::Reg;
 use std::test::Fail;
 
@@ -32,16 +31,20 @@ fn an_image_of_two_segments_runs(rt: HostRuntime) -> Result<(), Fail> {
     assert!(rt; !image.fits(1));
     assert!(rt; image.fits(2));
     let mut flat = Flat::boot(rt.alloc(), &image, 2)?;
-    for step in 0..3 {
-        assert!(rt; flat.step().is_ok(), "step {step}");
+    for _ in 0..3 {
+        flat.step();
     }
-    assert!(rt; flat.step() == Err(Exc::Reserved));
     let cpu = flat.view().cpu;
     assert_eq!(rt; cpu.reg(Reg::new(1)), 0xdead_beef);
     assert_eq!(rt; cpu.reg(Reg::new(3)), 0);
     assert_eq!(rt; cpu.pc(), 0x8000_000c);
     assert_eq!(rt; (cpu.hi(), cpu.lo()), (0, 0));
     assert_eq!(rt; cpu.cp0().status(), 0);
+    // a word of no row
+    flat.step();
+    let cpu = flat.view().cpu;
+    assert_eq!(rt; (cpu.pc(), cpu.cp0().epc()), (0x8000_0180, 0x8000_000c));
+    assert_eq!(rt; (cpu.cp0().cause(), cpu.cp0().status()), (10 << 2, 2));
     Ok(())
 }
 
@@ -54,9 +57,11 @@ fn an_image_without_segments_is_zeros(rt: HostRuntime) -> Result<(), Fail> {
     assert!(rt; image.fits(2));
     let mut flat = Flat::boot(rt.alloc(), &image, 2)?;
     // the last word of memory, `sll $0,$0,0`, and then a fetch past it
-    assert!(rt; flat.step().is_ok());
-    assert!(rt; flat.step() == Err(Exc::BusFetch));
-    assert_eq!(rt; flat.view().cpu.pc(), 0x8000_2000);
+    flat.step();
+    flat.step();
+    let cpu = flat.view().cpu;
+    assert_eq!(rt; (cpu.pc(), cpu.cp0().epc()), (0x8000_0180, 0x8000_2000));
+    assert_eq!(rt; cpu.cp0().cause(), 6 << 2);
     Ok(())
 }
 

@@ -2,3 +2,4 @@ pub mod Guests
 pub mod Logs
 pub mod Seats
 pub mod Stored
+pub mod Stops

@@ -33,11 +33,11 @@ impl Model for Guest {
 }
 
 impl Guest {
-    ghost use Rattle.std.specs.Prelude.{◌≡◌, ◌+◌, [], ◌∷◌, ◌++◌, OnOk, IsErrOf, ◌↔◌, IfOk, false, true};
+    ghost use Rattle.std.specs.Prelude.{◌≡◌, ◌+◌, [], ◌∷◌, ◌++◌, OnOk, IsErrOf, ◌↔◌, IfOk, IfSome, None};
     ghost use Rattle.elf32.specs.Images.{FitsPages};
-    ghost use Rattle.mips_step.specs.Step.{outcome};
+    ghost use Rattle.mips_step.specs.Step.{step};
     ghost use Rattle.mips_step.specs.Accesses.{accesses, first_lack};
-    ghost use Rattle.mips_step.specs.Answer.{Answers, need_of, is_done};
+    ghost use Rattle.mips_step.specs.Answer.{Answers, need_of};
     ghost use Rattle.flatvm.specs.declared.item.What.TheVariants.{Step};
     ghost use Rattle.flatvm.specs.Boot.{boot_machine};
     ghost use Rattle.flatvm.specs.Items.{run};
@@ -109,16 +109,15 @@ impl Guest {
     /// One step, as an item of the seat. It takes no memory; room in the log is the caller's condition, and `log_room` makes
     /// it.
     ///
-    /// It answers `Need` exactly where the step would access a page that is lacking, and `Fault` where the step would raise
-    /// an exception: then nothing has changed. Else it answers `Done`: the machine has moved by one step, and the log has
-    /// that step more.
+    /// It answers `Need` exactly where the step would access a page that is lacking, and then nothing has changed. Else it
+    /// answers `Done`: the machine has moved by one step, and the log has that step more.
     pub fn step(&mut self, seat: &mut Seat) -> StepOut
         requires room { HasRoom self.old.log }
         requires legal { IsLegal seat.old self.old.log.items }
         ensures need { need_of result ≡ first_lack (lacks_of self.old) (accesses self.old.machine) }
-        ensures moves { Answers (outcome self.old.machine) result self.old.machine self.new.machine }
-        ensures done { is_done result ≡ true → Does self.old seat.old (record { seat = seat.old.number; what = Step }) self.new seat.new }
-        ensures unchanged { is_done result ≡ false → (self.new ≡ self.old) × (seat.new ≡ seat.old) }
+        ensures moves { Answers (step self.old.machine) result self.old.machine self.new.machine }
+        ensures done { need_of result ≡ None → Does self.old seat.old (record { seat = seat.old.number; what = Step }) self.new seat.new }
+        ensures need_unchanged { IfSome (need_of result) (λ _. (self.new ≡ self.old) × (seat.new ≡ seat.old)) }
     {
         let out = self.cpu.step(&mut self.memory);
         match out {
@@ -126,7 +125,7 @@ impl Guest {
                 self.log.step(seat.number());
                 seat.count();
             }
-            StepOut::Need(_, _) | StepOut::Fault(_) => {}
+            StepOut::Need(_, _) => {}
         }
         out
     }

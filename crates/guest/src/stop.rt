@@ -1,4 +1,6 @@
 //! Why a guest stops.
+ghost use Rattle.std.specs.Prelude.{◌≡◌};
+ghost use Rattle.guest.specs.Stops.{stop_number};
 
 /// Why a guest stops. It is then as after its last item.
 #[derive(Clone, Copy, Debug, PartialEq, Eq)]
@@ -7,4 +9,16 @@ pub enum Stop {
     Memory,
     /// The log has its greatest number of runs, or 2^62 items.
     LogFull,
+}
+
+impl Stop {
+    /// The number that reports name it by.
+    pub fn number(self) -> u32
+        ensures { result ≡ stop_number self }
+    {
+        match self {
+            Stop::Memory => 5,
+            Stop::LogFull => 6,
+        }
+    }
 }

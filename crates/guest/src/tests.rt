@@ -5,7 +5,6 @@ ghost use Rattle.guest.specs.Seats.{IsLegal};
 use crate::{Guest, Log, Seat, Stop};
 use elf32::Image;
 use flatvm::SeatNo;
-use mips_cp0::Exc;
 use mips_isa::Reg;
 use mips_step::StepOut;
 use std::process::Abort;
@@ -26,7 +25,7 @@ fn step_once(rt: &impl Abort, guest: &mut Guest, seat: &mut Seat) -> StepOut
 }
 
 #[test]
-fn a_guest_steps_until_it_faults(rt: HostRuntime) -> Result<(), Fail> {
+fn a_guest_steps_into_an_exception(rt: HostRuntime) -> Result<(), Fail> {
     let one = Reg::new(1);
     let image = Image::raw(rt.alloc(), COUNTING.to_vec(rt.alloc())?)?;
     assert!(rt; image.fits(2));
@@ -36,13 +35,14 @@ fn a_guest_steps_until_it_faults(rt: HostRuntime) -> Result<(), Fail> {
     assert!(rt; step_once(&rt, &mut guest, &mut seat) == StepOut::Done);
     assert!(rt; step_once(&rt, &mut guest, &mut seat) == StepOut::Done);
     assert!(rt; step_once(&rt, &mut guest, &mut seat) == StepOut::Done);
-    assert!(rt; step_once(&rt, &mut guest, &mut seat) == StepOut::Fault(Exc::Reserved));
+    assert_eq!(rt; guest.view().cpu.pc(), 0x8000_000c);
+    assert!(rt; step_once(&rt, &mut guest, &mut seat) == StepOut::Done);
     guest.replay();
     assert_eq!(rt; guest.view().cpu.reg(one), 3);
-    assert_eq!(rt; guest.view().cpu.pc(), 0x8000_000c);
-    assert_eq!(rt; guest.log().len(), 3);
+    assert_eq!(rt; guest.view().cpu.pc(), 0x8000_0180);
+    assert_eq!(rt; guest.log().len(), 4);
     assert_eq!(rt; guest.log().runs(), 1);
-    assert_eq!(rt; seat.made(), 3);
+    assert_eq!(rt; seat.made(), 4);
     assert!(rt; seat.number() == SeatNo::runner());
     Ok(())
 }

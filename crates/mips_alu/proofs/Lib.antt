@@ -1,0 +1,5 @@
+pub mod Floors
+pub mod LeadingZeros
+pub mod Parts
+pub mod Products
+pub mod Quotients

@@ -1,7 +1,10 @@
 //! Operations on two words.
-ghost use Rattle.std.specs.Prelude.{◌≡◌, ℕ, ◌<◌, ◌^◌, ◌+ℤ◌, ◌-ℤ◌, IfSome, Some, None};
-ghost use Rattle.std.specs.Int.{cast_signed, w32};
-ghost use Rattle.mips_alu.specs.Arithmetic.{arith_result, signed_word};
+ghost use Rattle.std.specs.Prelude.{◌≡◌, ℕ, pos, ◌+◌, ◌%◌, ◌^◌, ◌<◌, ◌+ℤ◌, ◌-ℤ◌, ◌≤ℤ◌, ◌<ℤ◌, ◌⊎◌, ◌↔◌, neg_ℤ, IfSome, IsNone, Some};
+ghost use Rattle.mips_alu.specs.Arithmetic.{arith_result};
+ghost use Rattle.mips_alu.specs.declared.arithmetic.ArithOp.TheVariants.{Add, Addu, Sub, Subu};
+ghost use Rattle.mips_alu.specs.Signed.{signed_value, signed_word};
+
+use crate::{Comparison, compare};
 
 /// An operation on two words.
 #[derive(Clone, Copy, Debug, PartialEq, Eq)]
@@ -22,6 +25,12 @@ pub enum ArithOp {
     Xor,
     /// Of each bit, whether none is set.
     Nor,
+    /// 1 where the signed value of the first is below that of the second, else 0.
+    Slt,
+    /// 1 where the first is below the second, else 0.
+    Sltu,
+    /// The low word of the product.
+    Mul,
 }
 
 /// The result of an operation. It is `None` exactly where `Add` or `Sub` overflows, that is where the sum or the
@@ -38,6 +47,9 @@ pub fn arith(op: ArithOp, a: u32, b: u32) -> Option<u32>
         ArithOp::Or => Some(a | b),
         ArithOp::Xor => Some(a ^ b),
         ArithOp::Nor => Some(!(a | b)),
+        ArithOp::Slt => Some(u32::from(compare(Comparison::Less, a, b))),
+        ArithOp::Sltu => Some(u32::from(compare(Comparison::LessUnsigned, a, b))),
+        ArithOp::Mul => Some(a.wrapping_mul(b)),
     }
 }
 
@@ -58,3 +70,38 @@ fn signed_difference(a: i32, b: i32) -> Option<u32>
         None => None,
     }
 }
+
+/// A law: where `Add` has a result, its signed value is the sum of the signed values.
+pub fn sum_of_signed_values()
+    ensures { (a b : ℕ) → a < 2 ^ 32 → b < 2 ^ 32 → IfSome (arith_result Add a b) (λ r. signed_value r ≡ signed_value a +ℤ signed_value b) }
+{}
+
+/// A law: where `Sub` has a result, its signed value is the difference of the signed values.
+pub fn difference_of_signed_values()
+    ensures { (a b : ℕ) → a < 2 ^ 32 → b < 2 ^ 32 → IfSome (arith_result Sub a b) (λ r. signed_value r ≡ signed_value a -ℤ signed_value b) }
+{}
+
+/// A law: where `Add` has a result, it is that of `Addu`.
+pub fn sum_without_overflow_is_the_sum_modulo()
+    ensures { (a b : ℕ) → a < 2 ^ 32 → b < 2 ^ 32 → IfSome (arith_result Add a b) (λ r. arith_result Addu a b ≡ Some r) }
+{}
+
+/// A law: where `Sub` has a result, it is that of `Subu`.
+pub fn difference_without_overflow_is_the_difference_modulo()
+    ensures { (a b : ℕ) → a < 2 ^ 32 → b < 2 ^ 32 → IfSome (arith_result Sub a b) (λ r. arith_result Subu a b ≡ Some r) }
+{}
+
+/// A law: `Add` overflows exactly where the sum of the signed values is below -2^31 or not below 2^31.
+pub fn sum_overflows_outside_the_signed_values()
+    ensures { (a b : ℕ) → a < 2 ^ 32 → b < 2 ^ 32 → IsNone (arith_result Add a b) ↔ (((signed_value a +ℤ signed_value b) <ℤ neg_ℤ (pos (2 ^ 31))) ⊎ (pos (2 ^ 31) ≤ℤ (signed_value a +ℤ signed_value b))) }
+{}
+
+/// A law: `Sub` overflows exactly where the difference of the signed values is below -2^31 or not below 2^31.
+pub fn difference_overflows_outside_the_signed_values()
+    ensures { (a b : ℕ) → a < 2 ^ 32 → b < 2 ^ 32 → IsNone (arith_result Sub a b) ↔ (((signed_value a -ℤ signed_value b) <ℤ neg_ℤ (pos (2 ^ 31))) ⊎ (pos (2 ^ 31) ≤ℤ (signed_value a -ℤ signed_value b))) }
+{}
+
+/// A law: the result of `Subu` plus the word that was subtracted is the first word, modulo 2^32.
+pub fn difference_and_subtrahend_give_the_minuend()
+    ensures { (a b : ℕ) → a < 2 ^ 32 → b < 2 ^ 32 → IfSome (arith_result Subu a b) (λ r. (r + b) % 2 ^ 32 ≡ a) }
+{}

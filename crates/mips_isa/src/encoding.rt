@@ -1,76 +1,72 @@
 //! From an instruction to its word.
-ghost use Rattle.std.specs.Prelude.{◌≡◌, ◌<◌, ◌≤◌, ◌+◌, ◌*◌, ◌/◌, ◌%◌, ◌^◌, ◌∷◌, [], Some, option_to_list};
-ghost use Rattle.mips_isa.specs.Fields.{fields};
+ghost use Rattle.std.specs.Prelude.{◌≡◌, ◌∷◌, [], Some};
+ghost use Rattle.mips_isa.specs.Coprocessor.{coprocessor_word};
 ghost use Rattle.mips_isa.specs.Table.{readings};
+ghost use Rattle.mips_isa.specs.declared.instr.Instr.TheVariants as instr;
 
-use crate::{ImmediateOp, Instr, LoadOp, Reg, RegisterOp, ShiftAmount, ShiftOp, StoreOp, decode};
-
-/// The word of a format that has six fields.
-fn join(op: u32, rs: Reg, rt: Reg, rd: Reg, sa: ShiftAmount, code: u32) -> u32
-    requires op { op < 64 }
-    requires code { code < 64 }
-    ensures { fields result ≡ record { op = op; rs = rs; rt = rt; rd = rd; sa = sa; fn = code } }
-{
-    op * 0x400_0000
-        + rs.number() * 0x20_0000
-        + rt.number() * 0x1_0000
-        + rd.number() * 0x800
-        + sa.bits() * 0x40
-        + code
-}
-
-/// The word of a format that ends in 16 bits.
-fn join_imm(op: u32, rs: Reg, rt: Reg, imm: u16) -> u32
-    requires { op < 64 }
-    ensures { fields result ≡ record { op = op; rs = rs; rt = rt; rd = imm / 2 ^ 11; sa = imm / 2 ^ 6 % 32; fn = imm % 64 } }
-{
-    op * 0x400_0000 + rs.number() * 0x20_0000 + rt.number() * 0x1_0000 + u32::from(imm)
-}
+use crate::computing::{
+    conditional_move_word, count_word, divide_word, move_from_word, move_to_word, multiply_word,
+    register_word, shift_variable_word, shift_word,
+};
+use crate::control::{
+    branch_word, branch_zero_word, break_word, jump_link_register_word, jump_register_word,
+    jump_word, sync_word, syscall_word, trap_immediate_word, trap_word,
+};
+use crate::immediates::{
+    cache_word, coprocessor_bits, immediate_word, load_upper_word, load_word, store_word,
+};
+use crate::system::{cp0_move_word, eret_word, tlb_word, wait_word};
+use crate::{CoprocessorCode, CoprocessorOp, Instr, decode};
 
 /// The word that encodes an instruction: its row, and no other, fits the word and means the instruction.
-#[tactic(auto, unfolding(crate::specs::Table::readings_of, crate::specs::Table::special_readings, crate::specs::Table::opcode_readings))]
 pub fn encode(instr: Instr) -> u32
     ensures { readings result ≡ instr ∷ [] }
 {
-    let none = Reg::new(0);
     match instr {
-        Instr::Register { op, rd, rs, rt } => {
-            let none = ShiftAmount::new(0);
-            match op {
-                RegisterOp::Addu => join(0x00, rs, rt, rd, none, 0x21),
-                RegisterOp::Subu => join(0x00, rs, rt, rd, none, 0x23),
-                RegisterOp::And => join(0x00, rs, rt, rd, none, 0x24),
-                RegisterOp::Or => join(0x00, rs, rt, rd, none, 0x25),
-                RegisterOp::Xor => join(0x00, rs, rt, rd, none, 0x26),
-                RegisterOp::Nor => join(0x00, rs, rt, rd, none, 0x27),
-            }
-        }
-        Instr::Shift { op, rd, rt, sa } => match op {
-            ShiftOp::Sll => join(0x00, none, rt, rd, sa, 0x00),
-            ShiftOp::Srl => join(0x00, none, rt, rd, sa, 0x02),
-            ShiftOp::Sra => join(0x00, none, rt, rd, sa, 0x03),
-        },
-        Instr::Immediate { op, rt, rs, imm } => match op {
-            ImmediateOp::Addiu => join_imm(0x09, rs, rt, imm),
-            ImmediateOp::Ori => join_imm(0x0d, rs, rt, imm),
-        },
-        Instr::LoadUpper { rt, imm } => join_imm(0x0f, none, rt, imm),
+        Instr::Register { op, rd, rs, rt } => register_word(op, rd, rs, rt),
+        Instr::ConditionalMove { op, rd, rs, rt } => conditional_move_word(op, rd, rs, rt),
+        Instr::Shift { op, rd, rt, sa } => shift_word(op, rd, rt, sa),
+        Instr::ShiftVariable { op, rd, rt, rs } => shift_variable_word(op, rd, rt, rs),
+        Instr::MoveFrom { op, rd } => move_from_word(op, rd),
+        Instr::MoveTo { op, rs } => move_to_word(op, rs),
+        Instr::Multiply { op, rs, rt } => multiply_word(op, rs, rt),
+        Instr::Divide { op, rs, rt } => divide_word(op, rs, rt),
+        Instr::Count { op, rd, rs } => count_word(op, rd, rs),
+        Instr::Trap { op, rs, rt, code } => trap_word(op, rs, rt, code),
+        Instr::TrapImmediate { op, rs, imm } => trap_immediate_word(op, rs, imm),
+        Instr::Syscall { code } => syscall_word(code),
+        Instr::Break { code } => break_word(code),
+        Instr::Sync { stype } => sync_word(stype),
+        Instr::Branch { op, rs, rt, offset } => branch_word(op, rs, rt, offset),
+        Instr::BranchZero { op, rs, offset } => branch_zero_word(op, rs, offset),
+        Instr::Jump { op, target } => jump_word(op, target),
+        Instr::JumpRegister { rs } => jump_register_word(rs),
+        Instr::JumpLinkRegister { rd, rs } => jump_link_register_word(rd, rs),
+        Instr::Immediate { op, rt, rs, imm } => immediate_word(op, rt, rs, imm),
+        Instr::LoadUpper { rt, imm } => load_upper_word(rt, imm),
         Instr::Load {
             op,
             rt,
             base,
             offset,
-        } => match op {
-            LoadOp::Lw => join_imm(0x23, base, rt, offset),
-        },
+        } => load_word(op, rt, base, offset),
         Instr::Store {
             op,
             rt,
             base,
             offset,
-        } => match op {
-            StoreOp::Sw => join_imm(0x2b, base, rt, offset),
-        },
+        } => store_word(op, rt, base, offset),
+        Instr::Cache {
+            op,
+            hint,
+            base,
+            offset,
+        } => cache_word(op, hint, base, offset),
+        Instr::Cp0Move { op, rt, rd, select } => cp0_move_word(op, rt, rd, select),
+        Instr::Tlb { op } => tlb_word(op),
+        Instr::Eret => eret_word(),
+        Instr::Wait { code } => wait_word(code),
+        Instr::Coprocessor { op, code } => coprocessor_bits(op, code),
     }
 }
 
@@ -79,4 +75,11 @@ pub fn encoded_word_decodes(instr: Instr) -> Option<Instr>
     ensures { result ≡ Some instr }
 {
     decode(encode(instr))
+}
+
+/// A law: the word by which an instruction of coprocessor 1 or 2 is written, its opcode and 26 bits, encodes it.
+pub fn written_word_encodes(op: CoprocessorOp, code: CoprocessorCode)
+    ensures { readings (coprocessor_word op code) ≡ instr.Coprocessor op code ∷ [] }
+{
+    let _ = coprocessor_bits(op, code);
 }

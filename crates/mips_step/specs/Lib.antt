@@ -1,6 +1,7 @@
 pub mod Accesses
 pub mod Answer
 pub mod Bus
+pub mod Effect
 pub mod Meaning
 pub mod Places
 pub mod Processor

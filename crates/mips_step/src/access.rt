@@ -1,15 +1,22 @@
 //! What an access asks for and what it may be refused for.
 ghost use Rattle.std.specs.Prelude.{◌≡◌};
-ghost use Rattle.mips_step.specs.Answer.{refused, refused_need};
+ghost use Rattle.mips_step.specs.Answer.{refused_need};
 
-use mips_cp0::Exc;
 use word32::Ppn;
 
-/// How many bytes an access reaches.
+/// What an access reaches.
 #[derive(Clone, Copy, Debug, PartialEq, Eq)]
 pub enum Size {
+    /// One byte.
+    Byte,
+    /// Two bytes, at a multiple of 2.
+    Half,
     /// Four bytes, at a multiple of 4.
     Word,
+    /// The part of LWL and SWL: of the aligned word that has the address, the bytes up to that at the address.
+    Left,
+    /// The part of LWR and SWR: of the aligned word that has the address, the bytes from that at the address on.
+    Right,
 }
 
 /// Why a page is lacking.
@@ -39,21 +46,9 @@ pub enum StepOut {
     Done,
     /// The step needs this page first, and nothing has changed.
     Need(Ppn, Why),
-    /// The step would raise this exception, and nothing has changed.
-    Fault(Exc),
 }
 
 impl Refusal {
-    /// What a step answers where an access is refused: the page that it needs, or the bus error `error`.
-    pub(crate) fn answer(self, error: Exc) -> StepOut
-        ensures { result ≡ refused self error }
-    {
-        match self {
-            Refusal::Need(page, why) => StepOut::Need(page, why),
-            Refusal::Bus => StepOut::Fault(error),
-        }
-    }
-
     /// The page that an access needs, or `None` where the bus refuses it.
     pub fn need(self) -> Option<(Ppn, Why)>
         ensures { result ≡ refused_need self }

@@ -1,14 +1,15 @@
 //! The bus.
-ghost use Rattle.std.specs.Prelude.{◌≡◌, ℕ, ◌%◌, Option, Result, Ok};
+ghost use Rattle.std.specs.Prelude.{◌≡◌, ℕ, ◌<◌, Option, Result, Ok};
 ghost use Rattle.word32.specs.Pages.{page_number};
 ghost use Rattle.mips_tlb.specs.declared.kind.Kind.{Kind};
 ghost use Rattle.mips_step.specs.declared.access.Why.{Why};
-ghost use Rattle.mips_step.specs.World.{World, reach, value_at, touched, stored};
+ghost use Rattle.mips_step.specs.World.{World, reach, value_at, touched, stored, lines_of, limit_of};
 ghost use Rattle.mips_step.specs.Bus.{ready_answer};
 
 use crate::{Kind, Refusal, Size};
 
-/// What the processor reaches by physical addresses. An address is a multiple of the access's size.
+/// What the processor reaches by physical addresses. An address of a half-word or a
+/// word is a multiple of its size.
 ///
 /// The meaning of a bus is the `world` behind it, as if each page were there, and why it `lacks` a page, by the page's
 /// number and what the access is for. Its law is the clauses of its methods: `ready` tells whether an access is answered
@@ -37,12 +38,17 @@ pub trait PhysBus {
         ensures world { world self.new ≡ touched at (world self.old) }
         ensures lacks { lacks self.new ≡ lacks self.old };
 
-    /// Loads a value.
+    /// Loads a value, which has no more bits than the access.
     fn load(&mut self, at: u32, size: Size) -> u32
         requires { ready_answer (reach (world self.old) size at) (lacks self.old (page_number at) Kind.Load) (page_number at) ≡ Ok tt }
         ensures value { result ≡ value_at (world self.old) size at }
+        ensures small { result < limit_of size }
         ensures world { world self.new ≡ touched at (world self.old) }
         ensures lacks { lacks self.new ≡ lacks self.old };
+
+    /// The interrupt lines that are raised, bit k for IPk.
+    fn lines(&self) -> u8
+        ensures { result ≡ lines_of (world self.now) };
 
     /// Stores a value.
     fn store(&mut self, at: u32, size: Size, value: u32)

@@ -1,11 +1,18 @@
-//! The state of the processor.
-ghost use Rattle.std.specs.Prelude.{◌≡◌, ℕ, ◌<◌, ◌^◌};
-ghost use Rattle.mips_step.specs.Processor.{Processor, reg, with_reg, next, boot_processor};
+//! The state of the processor, and how control moves.
+ghost use Rattle.std.specs.Prelude.{◌≡◌, ℕ, ◌<◌, ◌^◌, ◌==◌, is_some};
+ghost use Rattle.mips_isa.specs.Targets.{slot_address};
+ghost use Rattle.mips_step.specs.Processor.{Processor, reg, with_reg, next, jumped, skipped, linked, clocked, excepted, boot_processor};
+ghost use Rattle.mips_step.specs.Places.{place, data_address};
 
-use mips_cp0::Cp0;
+use crate::Size;
+use mips_cp0::{Cp0, Exc};
 use mips_isa::Reg;
-use mips_tlb::Tlb;
+use mips_tlb::{Kind, Tlb};
 use std::marker::Model;
+use word32::sext16;
+
+mod control;
+mod system;
 
 /// The processor's registers. In clauses they are a record, `Processor`.
 #[derive(Drop)]
@@ -74,11 +81,32 @@ impl Cpu {
         self.pc
     }
 
+    /// The address that follows the next instruction, where that stands in a delay slot.
+    pub fn slot(&self) -> Option<u32>
+        ensures { result ≡ self.now.slot }
+    {
+        self.slot
+    }
+
+    /// LLbit: whether an SC would store.
+    pub fn ll_bit(&self) -> bool
+        ensures { result ≡ self.now.ll_bit }
+    {
+        self.ll_bit
+    }
+
     /// The system registers.
     pub fn cp0(&self) -> &Cp0
         ensures { result.now ≡ self.now.cp0 }
     {
         &self.cp0
+    }
+
+    /// The TLB.
+    pub fn tlb(&self) -> &Tlb
+        ensures { result.now ≡ self.now.tlb }
+    {
+        &self.tlb
     }
 
     /// Writes a general register; a write to register 0 does nothing.
@@ -91,14 +119,26 @@ impl Cpu {
         }
     }
 
-    /// Goes on to the next instruction.
-    pub(crate) fn advance(&mut self)
-        ensures { self.new ≡ next self.old }
+    /// The virtual address that a load or a store names.
+    pub(crate) fn data_address(&self, base: Reg, offset: u16) -> u32
+        ensures { result ≡ data_address self.now base offset }
     {
-        self.pc = match self.slot {
-            None => self.pc.wrapping_add(4),
-            Some(follower) => follower,
+        self.reg(base).wrapping_add(sext16(offset))
+    }
+
+    /// The physical address of an access at a virtual address, or the exception that it raises.
+    pub(crate) fn place(&self, kind: Kind, size: Size, address: u32) -> Result<u32, Exc>
+        ensures { result ≡ place kind size self.now address }
+    {
+        let alignment = match size {
+            Size::Byte | Size::Left | Size::Right => 1,
+            Size::Half => 2,
+            Size::Word => 4,
         };
-        self.slot = None;
+        if address % alignment == 0 {
+            self.tlb.translate(&self.cp0, address, kind)
+        } else {
+            Err(kind.address_error(address))
+        }
     }
 }

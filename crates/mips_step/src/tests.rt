@@ -4,10 +4,11 @@ ghost use Rattle.mips_step.specs.World.{with_memory};
 ghost use Rattle.mips_step.specs.declared.access.Why.TheVariants.{First};
 
 use crate::{Cpu, Kind, PhysBus, Ppn, Refusal, Size, StepOut, Why};
-use mips_cp0::Exc;
+use mips_alu::{store_left, store_right};
+use mips_cp0::Register;
 use mips_isa::Reg;
 use std::test::Fail;
-use word32::{page_of, put_word, word_at};
+use word32::{half_at, page_of, put_half, put_word, word_at};
 
 /// Two pages of memory, of which one may be absent.
 #[derive(Drop)]
@@ -22,9 +23,14 @@ impl PhysBus for Sparse {
     ghost lacks = { λ s page kind. if page == s.absent then Some First else None };
 
     fn ready(&self, at: u32, size: Size, _kind: Kind) -> Result<(), Refusal> {
-        let Size::Word = size;
+        let (first, count) = match size {
+            Size::Byte => (at, 1),
+            Size::Half => (at, 2),
+            Size::Word => (at, 4),
+            Size::Left | Size::Right => (at / 4 * 4, 4),
+        };
         let page = page_of(at);
-        if at as usize + 4 > self.bytes.len() {
+        if first as usize + count > self.bytes.len() {
             Err(Refusal::Bus)
         } else if page.number() == self.absent {
             Err(Refusal::Need(page, Why::First))
@@ -42,13 +48,34 @@ impl PhysBus for Sparse {
     }
 
     fn load(&mut self, at: u32, size: Size) -> u32 {
-        let Size::Word = size;
-        word_at(&self.bytes, at as usize)
+        match size {
+            Size::Byte => u32::from(self.bytes[at as usize]),
+            Size::Half => u32::from(half_at(&self.bytes, at as usize)),
+            Size::Word => word_at(&self.bytes, at as usize),
+            Size::Left | Size::Right => word_at(&self.bytes, (at / 4 * 4) as usize),
+        }
+    }
+
+    fn lines(&self) -> u8 {
+        0
     }
 
     fn store(&mut self, at: u32, size: Size, value: u32) {
-        let Size::Word = size;
-        put_word(&mut self.bytes, at as usize, value);
+        match size {
+            Size::Byte => self.bytes[at as usize] = (value % 0x100) as u8,
+            Size::Half => put_half(&mut self.bytes, at as usize, (value % 0x1_0000) as u16),
+            Size::Word => put_word(&mut self.bytes, at as usize, value),
+            Size::Left => {
+                let first = (at / 4 * 4) as usize;
+                let word = store_left(word_at(&self.bytes, first), value, at % 4);
+                put_word(&mut self.bytes, first, word);
+            }
+            Size::Right => {
+                let first = (at / 4 * 4) as usize;
+                let word = store_right(word_at(&self.bytes, first), value, at % 4);
+                put_word(&mut self.bytes, first, word);
+            }
+        }
     }
 }
 
@@ -116,17 +143,47 @@ fn a_lacking_page_stops_a_step_before_anything_changes(rt: HostRuntime) -> Resul
 }
 
 #[test]
-fn a_fault_comes_where_no_page_is_needed(rt: HostRuntime) -> Result<(), Fail> {
+fn an_exception_comes_where_no_page_is_needed(rt: HostRuntime) -> Result<(), Fail> {
     // past memory no page is lacking, whatever the bus says of its number
     let mut bus = bus_with(&rt, &[(0, 0x8c01_0002)], 2)?;
     let mut cpu = Cpu::boot(0x8000_2000);
     assert!(rt; cpu.need(&bus).is_none());
-    assert!(rt; cpu.step(&mut bus) == StepOut::Fault(Exc::BusFetch));
+    assert!(rt; cpu.step(&mut bus) == StepOut::Done);
+    assert_eq!(rt; (cpu.pc(), cpu.cp0().epc()), (0x8000_0180, 0x8000_2000));
+    assert_eq!(rt; cpu.cp0().cause(), 6 << 2);
     // an address that is not aligned, before its page is asked for
     let mut cpu = Cpu::boot(0x8000_0000);
-    let odd = Exc::AddressLoad { address: 2 };
+    bus.absent = 0;
+    assert!(rt; cpu.need(&bus) == Some((Ppn::new(0), Why::First)));
+    bus.absent = 2;
+    assert!(rt; cpu.step(&mut bus) == StepOut::Done);
+    assert_eq!(rt; (cpu.pc(), cpu.cp0().epc()), (0x8000_0180, 0x8000_0000));
+    assert_eq!(rt; (cpu.cp0().cause(), cpu.cp0().bad_vaddr()), (4 << 2, 2));
+    Ok(())
+}
+
+#[test]
+fn a_lacking_page_leaves_the_delay_slot_and_count(rt: HostRuntime) -> Result<(), Fail> {
+    // `beq $0,$0` to 80000008, and in its slot a load from page 1
+    let words = [(0, 0x1000_0001), (4, 0x8c22_1000), (0x1000, 7)];
+    let mut bus = bus_with(&rt, words.as_slice(), 2)?;
+    let mut cpu = Cpu::boot(0x8000_0000);
+    assert!(rt; cpu.step(&mut bus) == StepOut::Done);
+    assert!(rt; cpu.slot() == Some(0x8000_0008));
+    let count = cpu.cp0().value(Register::Count, 0);
+    let random = cpu.cp0().random();
+    // the load is at 1000 by way of register 1, which is 0: it is mapped, and no entry is valid
     assert!(rt; cpu.need(&bus).is_none());
-    assert!(rt; cpu.step(&mut bus) == StepOut::Fault(odd));
-    assert_eq!(rt; cpu.pc(), 0x8000_0000);
+    bus.absent = 0;
+    assert!(rt; cpu.step(&mut bus) == StepOut::Need(Ppn::new(0), Why::First));
+    assert!(rt; cpu.slot() == Some(0x8000_0008));
+    assert_eq!(rt; cpu.cp0().value(Register::Count, 0), count);
+    assert_eq!(rt; cpu.cp0().random(), random);
+    bus.absent = 2;
+    assert!(rt; cpu.step(&mut bus) == StepOut::Done);
+    assert!(rt; cpu.slot().is_none());
+    assert_eq!(rt; cpu.cp0().epc(), 0x8000_0000);
+    assert_eq!(rt; cpu.cp0().cause(), 0x8000_0008);
+    assert_eq!(rt; cpu.cp0().value(Register::Count, 0), count.wrapping_add(1));
     Ok(())
 }

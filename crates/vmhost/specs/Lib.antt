@@ -1,3 +1,4 @@
 pub mod Exit
+pub mod Faults
 pub mod Raw
 pub mod Runs

@@ -1,9 +1,8 @@
 //! The dump of a machine.
 ghost use Rattle.std.specs.Prelude.{◌+◌, ◌<◌};
 
-use crate::machine::{End, Ran};
+use crate::machine::Ran;
 use flatvm::View;
-use guest::Stop;
 use mips_isa::Reg;
 use mips_step::Cpu;
 use std::fmt;
@@ -34,9 +33,9 @@ impl fmt::Display for Dump<'_> {
         }
         write_system_registers(f, cpu)?;
         writeln!(f, "out -")?;
-        match self.ran.end {
+        match self.ran.stop {
             None => Ok(()),
-            Some(end) => writeln!(f, "{end}"),
+            Some(stop) => writeln!(f, "stop {}", stop.number()),
         }
     }
 }
@@ -61,14 +60,4 @@ fn write_system_registers<W: fmt::Write>(f: &mut fmt::Formatter<W>, cpu: &Cpu) -
         f,
         "sr {sr:08x} cause {cause:08x} epc {epc:08x} badva {badva:08x}"
     )
-}
-
-impl fmt::Display for End {
-    fn fmt<W: fmt::Write>(&self, f: &mut fmt::Formatter<W>) -> fmt::Result {
-        match self {
-            End::Fault(e) => write!(f, "fault {}", e.code()),
-            End::Stop(Stop::Memory) => write!(f, "stop 5"),
-            End::Stop(Stop::LogFull) => write!(f, "stop 6"),
-        }
-    }
 }

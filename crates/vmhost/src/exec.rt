@@ -1,9 +1,10 @@
 //! The command `exec`.
-ghost use Rattle.std.specs.Prelude.{◌≡◌, ◌≢◌, ◌<◌, ◌*◌, ◌^◌, ◌↔◌, IfOk, IfSome, IsErrOf, IsOk, IsTrue, MatchOption, [], ◌∷◌, length, map};
+ghost use Rattle.std.specs.Prelude.{◌≡◌, ◌≢◌, ◌<◌, ◌*◌, ◌^◌, ◌↔◌, IfErr, IfOk, IfSome, IsErrOf, IsOk, IsTrue, MatchOption, [], ◌∷◌, length, map};
 ghost use Rattle.std.specs.IoError.{error_kind};
 ghost use Rattle.elf32.specs.Images.{FitsPages};
+ghost use Rattle.vmhost.specs.Faults.{IsFaultOf, IsRawFault};
 ghost use Rattle.vmhost.specs.Raw.{IsPageCount, IsRaw};
-ghost use Rattle.vmhost.specs.Runs.{IsCount, after_steps};
+ghost use Rattle.vmhost.specs.Runs.{IsCount};
 
 use crate::command_line::{Exec, Format, MachineKind};
 use crate::dump::Dump;
@@ -33,8 +34,8 @@ pub struct Report {
 pub fn run_image<'a, R: Files + AllocGlobal>(rt: &R, order: Exec<'a>) -> Result<Report, Fault<'a>>
     ensures count { IfOk result (λ r. IsCount order.entry.steps r.ran) }
     ensures legal { IfOk result (λ r. IsPageCount order.entry.pages) }
-    ensures limits { IsErrOf result Fault.Limits → ¬ IsPageCount order.entry.pages }
     ensures raw { IfOk result (λ r. order.entry.format ≡ Format.Raw) }
+    ensures faults { IfErr result (λ fault. IsFaultOf order.entry.format order.entry fault) }
 {
     let image = load(rt, order)?;
     let alloc = rt.alloc();
@@ -58,8 +59,7 @@ fn report_run<M: Machine + Drop>(
     mut machine: M,
     steps: u32,
 ) -> Result<Report, AllocError>
-    ensures count { IfOk result (λ r. IsCount steps r.ran) }
-    ensures made { IfOk result (λ r. IsOk (after_steps r.ran.steps (M.state machine))) }
+    ensures { IfOk result (λ r. IsCount steps r.ran) }
 {
     let ran = run(&mut machine, steps);
     let dump = Dump {
@@ -75,7 +75,7 @@ fn load<'a, R: Files + AllocGlobal>(rt: &R, order: Exec<'a>) -> Result<Image, Fa
     ensures fits { IfOk result (λ image. FitsPages image order.entry.pages) }
     ensures legal { IfOk result (λ image. IsPageCount order.entry.pages) }
     ensures raw { IfOk result (λ image. order.entry.format ≡ Format.Raw) }
-    ensures limits { IsErrOf result Fault.Limits → ¬ IsPageCount order.entry.pages }
+    ensures faults { IfErr result (λ fault. IsFaultOf order.entry.format order.entry fault) }
 {
     let file = File::open(rt, order.image).map_err(|e| unread(order.image, &e))?;
     match order.format {
@@ -105,7 +105,7 @@ pub fn raw_image<'a, F: Read + Drop>(
     ensures legal { IfOk result (λ image. IsPageCount order.entry.pages) }
     ensures bytes { IfSome (F.remaining file) (λ all. IfOk result (λ image. map (λ s. s.bytes.items) image.segments.items ≡ all ∷ [])) }
     ensures raw { IfSome (F.remaining file) (λ all. IsPageCount order.entry.pages → IsErrOf result Fault.Raw → ¬ IsRaw (order.entry.pages * 4096) (length all)) }
-    ensures limits { IsErrOf result Fault.Limits → ¬ IsPageCount order.entry.pages }
+    ensures faults { IfErr result (λ fault. IsRawFault order.entry fault) }
 {
     let room = u64::from(order.pages) * 4096;
     if LEAST_PAGES <= order.pages && order.pages <= MOST_PAGES {

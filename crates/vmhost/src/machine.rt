@@ -1,36 +1,27 @@
 //! Machines and their runs.
-ghost use Rattle.std.specs.Prelude.{◌≡◌, ◌↔◌, ◌<◌, ◌≤◌, Ok, Some, None, [], IfOk, IfSome, IsErrOf};
+ghost use Rattle.std.specs.Prelude.{◌≡◌, ◌↔◌, [], IfOk, OnOk, OnErr, IsOk, IsErrOf};
 ghost use Rattle.elf32.specs.Images.{FitsPages};
-ghost use Rattle.mips_step.specs.Step.{Machine as State};
+ghost use Rattle.mips_step.specs.Step.{Machine as State, step};
 ghost use Rattle.flatvm.specs.Boot.{boot_machine};
 ghost use Rattle.guest.specs.Logs.{IsFull};
-ghost use Rattle.vmhost.specs.Runs.{after_steps, EndsAt, IsCount, Moves};
+ghost use Rattle.vmhost.specs.Runs.{after_steps, IsCount};
 
 use elf32::Image;
 use flatvm::{Flat, SeatNo, View};
 use guest::{Guest, Seat, Stop};
-use mips_cp0::Exc;
 use mips_step::StepOut;
 use std::alloc::{AllocError, Global};
 use std::marker::Model;
-
-/// Why a machine makes no further step.
-#[derive(Clone, Copy, Debug, PartialEq, Eq)]
-pub enum End {
-    /// The step would raise this exception.
-    Fault(Exc),
-    /// The guest has stopped.
-    Stop(Stop),
-}
 
 /// A machine that makes steps.
 pub trait Machine {
     /// Its processor and its memory.
     ghost state: { Self → State };
 
-    /// Makes one step, or says why not; then the state is as before.
-    fn step(&mut self) -> Result<(), End>
-        ensures moves { Moves (state self.old) result (state self.new) };
+    /// Makes one step, or says why it stops; then the state is as before.
+    fn step(&mut self) -> Result<(), Stop>
+        ensures made { OnOk result (state self.new ≡ step (state self.old)) }
+        ensures stopped { OnErr result (state self.new ≡ state self.old) };
 
     /// What is seen of it beside its memory.
     fn view(&self) -> View<'_>
@@ -40,14 +31,12 @@ pub trait Machine {
 impl Machine for Flat {
     ghost state = { λ f. f };
 
-    fn step(&mut self) -> Result<(), End>
-        ensures moves { Moves self.old result self.new }
-        ensures never_stops { (s : Stop) → ¬ IsErrOf result (End.Stop s) }
+    fn step(&mut self) -> Result<(), Stop>
+        ensures made { self.new ≡ step self.old }
+        ensures never_stops { IsOk result }
     {
-        match Flat::step(self) {
-            Ok(()) => Ok(()),
-            Err(e) => Err(End::Fault(e)),
-        }
+        Flat::step(self);
+        Ok(())
     }
 
     fn view(&self) -> View<'_> {
@@ -95,16 +84,14 @@ impl Machine for Runner {
     ghost state = { λ r. r.machine };
 
     #[tactic(auto, using(flatvm::proofs::Never::never_lacks))]
-    fn step(&mut self) -> Result<(), End>
-        ensures moves { Moves self.old.machine result self.new.machine }
-        ensures full { IsErrOf result (End.Stop Stop.LogFull) ↔ IsFull self.old.log }
+    fn step(&mut self) -> Result<(), Stop>
+        ensures made { OnOk result (self.new.machine ≡ step self.old.machine) }
+        ensures stopped { OnErr result (self.new.machine ≡ self.old.machine) }
+        ensures full { IsErrOf result Stop.LogFull ↔ IsFull self.old.log }
     {
-        if let Err(stop) = self.guest.log_room() {
-            return Err(End::Stop(stop));
-        }
+        self.guest.log_room()?;
         match self.guest.step(&mut self.seat) {
             StepOut::Done => Ok(()),
-            StepOut::Fault(e) => Err(End::Fault(e)),
             StepOut::Need(_, _) => unreachable!(),
         }
     }
@@ -120,22 +107,21 @@ pub struct Ran {
     /// How many steps were made.
     pub steps: u32,
     /// Why no more were made, where that was before the last.
-    pub end: Option<End>,
+    pub stop: Option<Stop>,
 }
 
-/// Makes `steps` steps, or fewer where the machine ends before.
+/// Makes `steps` steps, or fewer where the machine stops before.
 pub fn run<M: Machine>(machine: &mut M, steps: u32) -> Ran
     ensures count { IsCount steps result }
-    ensures state { after_steps result.steps (M.state machine.old) ≡ Ok (M.state machine.new) }
-    ensures end { IfSome result.end (λ e. EndsAt e (M.state machine.new)) }
+    ensures state { M.state machine.new ≡ after_steps result.steps (M.state machine.old) }
 {
     for made in 0..steps {
-        if let Err(end) = machine.step() {
+        if let Err(stop) = machine.step() {
             return Ran {
                 steps: made,
-                end: Some(end),
+                stop: Some(stop),
             };
         }
     }
-    Ran { steps, end: None }
+    Ran { steps, stop: None }
 }

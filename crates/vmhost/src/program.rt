@@ -104,7 +104,7 @@ fn write_answer<O: Write, E: Write>(
         Answer::Report(report) => {
             out.write_all(report.text.as_bytes())?;
             out.flush()?;
-            Ok(if report.ran.end.is_none() {
+            Ok(if report.ran.stop.is_none() {
                 Status::Done
             } else {
                 Status::Stopped

@@ -14,3 +14,11 @@ word_in bytes i = little_number 4 (drop i bytes)
 -- the bytes with a word at place i
 abbrev pub with_word : List ℕ → ℕ → ℕ → List ℕ
 with_word bytes i word = patched bytes i (little_bytes 4 word) 4
+
+-- the half-word at place i
+abbrev pub half_in : List ℕ → ℕ → ℕ
+half_in bytes i = little_number 2 (drop i bytes)
+
+-- the bytes with a half-word at place i
+abbrev pub with_half : List ℕ → ℕ → ℕ → List ℕ
+with_half bytes i half = patched bytes i (little_bytes 2 half) 2

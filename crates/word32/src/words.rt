@@ -1,6 +1,6 @@
 //! Words in lists of bytes.
 ghost use Rattle.std.specs.Prelude.{◌≡◌, ℕ, ◌+◌, ◌<◌, ◌≤◌, ◌^◌, ◌⊎◌, List, length};
-ghost use Rattle.word32.specs.Words.{word_in, with_word};
+ghost use Rattle.word32.specs.Words.{word_in, with_word, half_in, with_half};
 
 use byteorder::{ByteOrder, LittleEndian};
 
@@ -19,6 +19,23 @@ pub fn put_word(bytes: &mut [u8], i: usize, word: u32)
     ensures length { length bytes.new ≡ length bytes.old }
 {
     LittleEndian::write_u32(&mut bytes[i..i + 4], word);
+}
+
+/// The half-word whose lower byte is at place `i`.
+pub fn half_at(bytes: &[u8], i: usize) -> u16
+    requires { i + 2 ≤ length bytes.now }
+    ensures { result ≡ half_in bytes.now i }
+{
+    LittleEndian::read_u16(&bytes[i..i + 2])
+}
+
+/// Writes a half-word, its lower byte at place `i`. The other bytes stay.
+pub fn put_half(bytes: &mut [u8], i: usize, half: u16)
+    requires { i + 2 ≤ length bytes.old }
+    ensures after { bytes.new ≡ with_half bytes.old i half }
+    ensures length { length bytes.new ≡ length bytes.old }
+{
+    LittleEndian::write_u16(&mut bytes[i..i + 2], half);
 }
 
 /// A law: a word that was written is the one that is read there.

@@ -7,7 +7,7 @@ use Rattle.flatvm.proofs.Runs.{length-own}
 use Rattle.guest.specs.Guests.{GuestIs}
 use Rattle.guest.specs.Seats.{SeatIs, IsLegal}
 use Rattle.guest.proofs.Keeping.{step_by}
-use Rattle.guest.proofs.Stepping.{stepped, run_more, legal_more}
+use Rattle.guest.proofs.Stepping.{run_more, legal_more}
 use Rattle.guest.proofs.guest.Guest.step.Goals as goal
 
 pub count-requires : goal.count-requires
@@ -33,7 +33,7 @@ returns-in-Done-clause-done c = λ done.
     ∙ ap (λ (n : ℕ). g.log.items ++ step_by n ∷ []) c.number.ensures
     ∙ ap (λ (v : GuestIs). v.log.items ++ step_by seat.number ∷ []) c.self.view_is in
     record {
-      machine = stepped before now c.in-Done.ensures.moves ∙ ap (λ (v : GuestIs). step v.machine) c.self.view_is;
+      machine = c.in-Done.ensures.moves ∙ ap (λ (v : GuestIs). step v.machine) c.self.view_is;
       boot = ap (λ (v : GuestIs). v.boot) c.self.view_is;
       items = items;
       limit = c.step.ensures.limit ∙ ap (λ (v : GuestIs). v.log.limit) c.self.view_is;
