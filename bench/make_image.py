@@ -1,7 +1,7 @@
 #!/usr/bin/env python3
 """Writes a raw image of straight-line code: `make_image.py FILE WORDS`.
 
-The code has no branch: it is a fixed mix of the fourteen instructions, over and over. Loads and stores go to the page past
+The code has no branch: it is a fixed mix of fourteen instructions, over and over. Loads and stores go to the page past
 the code. The first two instructions put the address of that page into register 29, which no later one changes.
 """
 
