@@ -42,7 +42,7 @@ differs n k h = grind arith
 differs_from : (n k : ℕ) → k < n → (n == k) ≡ false
 differs_from n k h = grind arith
 
-memory_none : (f : Fields) → f.op < 32 → memory_readings f ≡ []
+pub memory_none : (f : Fields) → f.op < 32 → memory_readings f ≡ []
 unfolding memory_readings
 memory_none f h = simp (differs f.op 32 (omega arith), differs f.op 33 (omega arith), differs f.op 34 (omega arith), differs f.op 35 (omega arith), differs f.op 36 (omega arith), differs f.op 37 (omega arith), differs f.op 38 (omega arith), differs f.op 48 (omega arith), differs f.op 40 (omega arith), differs f.op 41 (omega arith), differs f.op 42 (omega arith), differs f.op 43 (omega arith), differs f.op 46 (omega arith), differs f.op 56 (omega arith), differs f.op 47 (omega arith), differs f.op 51 (omega arith), differs f.op 49 (omega arith), differs f.op 50 (omega arith), differs f.op 53 (omega arith), differs f.op 54 (omega arith), differs f.op 57 (omega arith), differs f.op 58 (omega arith), differs f.op 61 (omega arith), differs f.op 62 (omega arith))
 

@@ -1,6 +1,7 @@
 pub mod Coprocessor
 pub mod Fields
 pub mod Forms
+pub mod Memory
 pub mod Mnemonics
 pub mod Operands
 pub mod Table

@@ -1,6 +1,7 @@
 //! From a word to its instruction.
-ghost use Rattle.std.specs.Prelude.{◌≡◌, ◌<◌, ◌≤◌, ◌/◌, ◌%◌, ◌^◌, ◌∷◌, [], option_to_list, length};
+ghost use Rattle.std.specs.Prelude.{◌≡◌, ◌<◌, ◌≤◌, ◌/◌, ◌%◌, ◌^◌, ◌∷◌, [], option_to_list, length, IfSome, false};
 ghost use Rattle.mips_isa.specs.Fields.{fields};
+ghost use Rattle.mips_isa.specs.Memory.{touches_memory};
 ghost use Rattle.mips_isa.specs.Table.{readings, special_readings, regimm_readings, special2_readings, cop0_readings, opcode_readings, memory_readings};
 
 use crate::shapes::{
@@ -18,8 +19,38 @@ use crate::{
 
 /// The instruction that a word encodes: `Some` exactly where one row of the table fits the word, `None` exactly where
 /// no row does. It is a match over the fields, with no loop and no table search.
-#[tactic(auto, using(crate::proofs::Groups::special_at, crate::proofs::Groups::regimm_at, crate::proofs::Groups::special2_at, crate::proofs::Groups::cop0_at, crate::proofs::Groups::opcode_at, crate::proofs::Groups::memory_at))]
 pub fn decode(word: u32) -> Option<Instr>
+    ensures { readings word ≡ option_to_list result }
+{
+    if word < 0x8000_0000 {
+        decode_operation(word)
+    } else {
+        decode_access(word)
+    }
+}
+
+/// The instruction that a word of an opcode below 0x20 encodes, as `decode` answers it. It touches no memory.
+#[tactic(auto, using(crate::proofs::Operations::reads_operation))]
+pub fn decode_operation(word: u32) -> Option<Instr>
+    requires { word < 2 ^ 31 }
+    ensures value { readings word ≡ option_to_list result }
+    ensures operation { IfSome result (λ i. touches_memory i ≡ false) }
+{
+    below_memory(word)
+}
+
+/// The instruction that a word of an opcode from 0x20 on encodes, as `decode` answers it: loads, stores and the like.
+#[tactic(auto, using(crate::proofs::Groups::memory_at))]
+pub fn decode_access(word: u32) -> Option<Instr>
+    requires { 2 ^ 31 ≤ word }
+    ensures { readings word ≡ option_to_list result }
+{
+    memory(word)
+}
+
+#[tactic(auto, using(crate::proofs::Groups::special_at, crate::proofs::Groups::regimm_at, crate::proofs::Groups::special2_at, crate::proofs::Groups::cop0_at, crate::proofs::Groups::opcode_at))]
+fn below_memory(word: u32) -> Option<Instr>
+    requires { word < 2 ^ 31 }
     ensures { readings word ≡ option_to_list result }
 {
     match word >> 26 {
@@ -27,7 +58,6 @@ pub fn decode(word: u32) -> Option<Instr>
         0x01 => regimm(word),
         0x10 => cop0(word),
         0x1c => special2(word),
-        0x20..=0x3f => memory(word),
         _ => by_opcode(word),
     }
 }

@@ -26,7 +26,7 @@ mod word;
 
 pub use assembly::text;
 pub use code::{CallCode, CoprocessorCode, Hint, JumpTarget, Select, SyncType, TrapCode, WaitCode};
-pub use decoding::decode;
+pub use decoding::{decode, decode_access, decode_operation};
 pub use encoding::encode;
 pub use instr::{
     BranchOp, BranchZeroOp, CacheOp, ConditionalMoveOp, CoprocessorOp, CountOp, Cp0MoveOp,

@@ -1,4 +1,5 @@
 pub mod Accesses
+pub mod Agreeing
 pub mod Answer
 pub mod Bus
 pub mod Effect

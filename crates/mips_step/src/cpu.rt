@@ -127,6 +127,7 @@ impl Cpu {
     }
 
     /// The physical address of an access at a virtual address, or the exception that it raises.
+    #[inline(always)]
     pub(crate) fn place(&self, kind: Kind, size: Size, address: u32) -> Result<u32, Exc>
         ensures { result ≡ place kind size self.now address }
     {

@@ -9,6 +9,7 @@
 pub mod access;
 pub mod bus;
 pub mod cpu;
+pub mod laws;
 mod meaning;
 mod operating;
 pub mod stepping;

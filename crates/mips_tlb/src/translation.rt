@@ -12,7 +12,21 @@ impl Tlb {
     /// address that user mode may not reach; in a mapped segment a refill where no entry matches, and else, by the
     /// matching entry of least index, the exception of a page that is not valid, or that is not dirty and stored to
     /// (volume III, Virtual Memory).
+    #[inline(always)]
     pub fn translate(&self, cp0: &Cp0, address: u32, kind: Kind) -> Result<u32, Exc>
+        ensures { result ≡ translation self.now cp0.now kind address }
+    {
+        // kseg0 and kseg1 in kernel mode first: most accesses are there, and they need no more than this
+        if (0x8000_0000..0xc000_0000).contains(&address) && !cp0.is_user_mode() {
+            Ok(unmapped(address))
+        } else {
+            self.translate_elsewhere(cp0, address, kind)
+        }
+    }
+
+    // What an access gets, wherever it is. It stays out of the callers' bodies.
+    #[inline(never)]
+    fn translate_elsewhere(&self, cp0: &Cp0, address: u32, kind: Kind) -> Result<u32, Exc>
         ensures { result ≡ translation self.now cp0.now kind address }
     {
         if cp0.is_user_mode() && address >= 0x8000_0000 {
