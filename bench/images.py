@@ -1,8 +1,14 @@
-"""The images that `bench/run` measures. Each but the straight line runs for ever."""
+"""The images that `bench/run` measures. Each repeats a loop a number of times and then stops the machine."""
+
+import struct
 
 # general registers by their number
 ZERO, T1, T2, T3, T4, T5, T6, T7, T8, T9, T10 = range(11)
+TURNS, COUNTED_STEPS = 16, 17
 SP, RA = 29, 31
+
+# system registers by their number
+INDEX, ENTRY_LO0, ENTRY_LO1, PAGE_MASK, COUNT, ENTRY_HI, STATUS = 0, 2, 3, 5, 9, 10, 12
 
 
 def register(fn, rd=0, rs=0, rt=0, sa=0):
@@ -74,6 +80,14 @@ def jr(rs):
     return register(0x08, 0, rs)
 
 
+def sb(rt, offset, base):
+    return immediate(0x28, rt, base, offset)
+
+
+def mfc0(rt, rd):
+    return 0x10 << 26 | rt << 16 | rd << 11
+
+
 def mtc0(rt, rd):
     return 0x10 << 26 | 0x04 << 21 | rt << 16 | rd << 11
 
@@ -86,8 +100,6 @@ COUNTED = [
     addu(T2, T2, T1),
     bne(T1, ZERO, -2),
     addiu(T1, T1, -1),
-    beq(ZERO, ZERO, -5),
-    NOP,
 ]
 
 # 1,024 words from 80004000 to 80006000
@@ -102,8 +114,6 @@ COPY = [
     addiu(T7, T7, -1),
     bne(T7, ZERO, -5),
     addiu(T6, T6, 4),
-    beq(ZERO, ZERO, -11),
-    NOP,
 ]
 
 # the CRC-32 of 1,024 bytes at 80000000, a bit at a time
@@ -126,18 +136,12 @@ CRC = [
     addiu(T6, T6, -1),
     bne(T6, ZERO, -12),
     addiu(T5, T5, 1),
-    beq(ZERO, ZERO, -17),
-    NOP,
 ]
 
-# the fifteenth Fibonacci number by two calls each
-FIB = 0x80000000 + 4 * 6
-RECURSION = [
-    lui(SP, 0x8000),
-    ori(SP, SP, 0xF000),
-    jal(FIB),
-    addiu(T4, ZERO, 15),
-    beq(ZERO, ZERO, -3),
+# the fifteenth Fibonacci number by two calls each; the function is at 80000000, where the image begins
+FIB = 0x80000000 + 4 * 2
+FIB_FUNCTION = [
+    beq(ZERO, ZERO, 19),
     NOP,
     slti(T8, T4, 2),
     bne(T8, ZERO, 14),
@@ -158,29 +162,60 @@ RECURSION = [
     jr(RA),
     NOP,
 ]
+CALL_FIB = [
+    lui(SP, 0x8000),
+    ori(SP, SP, 0xF000),
+    jal(FIB),
+    addiu(T4, ZERO, 15),
+]
 
-# the counted loop at 00401000, by way of entry 0: both pages of the pair are at physical 1000
-MAPPED_START = [
+# on to 00401000, by way of entry 0: both pages of the pair are at physical 1000, where the code goes on
+TO_MAPPED = [
+    mtc0(ZERO, STATUS),
+    mtc0(ZERO, INDEX),
+    mtc0(ZERO, PAGE_MASK),
     lui(T1, 0x0040),
-    mtc0(T1, 10),
+    mtc0(T1, ENTRY_HI),
     addiu(T2, ZERO, 0x47),
-    mtc0(T2, 2),
-    mtc0(T2, 3),
+    mtc0(T2, ENTRY_LO0),
+    mtc0(T2, ENTRY_LO1),
     TLBWI,
     ori(T1, T1, 0x1000),
     jr(T1),
     NOP,
 ]
-MAPPED = MAPPED_START + [NOP] * (1024 - len(MAPPED_START)) + COUNTED
+TO_MAPPED += [NOP] * (1024 - len(TO_MAPPED))
 
+# what stands before a loop, and the loop
 LOOPS = [
-    ("counted loop", COUNTED),
-    ("memory copy", COPY),
-    ("CRC-32, a bit at a time", CRC),
-    ("recursion", RECURSION),
-    ("counted loop through the TLB", MAPPED),
+    ("counted loop", [], COUNTED),
+    ("memory copy", [], COPY),
+    ("CRC-32, a bit at a time", [], CRC),
+    ("recursion", FIB_FUNCTION, CALL_FIB),
+    ("counted loop through the TLB", TO_MAPPED, COUNTED),
 ]
 
+# what ends a run: QEMU's Malta board resets, GXemul's test machine halts
+STOP_QEMU = [lui(T1, 0xBF00), ori(T1, T1, 0x0500), addiu(T2, ZERO, 0x42), sw(T2, 0, T1)]
+STOP_GXEMUL = [lui(T1, 0xB000), sb(T2, 0x10, T1)]
 
-def bytes_of(words):
+
+def repeated(before, loop, turns, stop):
+    """The words of an image that makes a loop so many times, below 2^32. Where it doesn't stop the machine it leaves
+    Count in register 17, which a machine of ours moves by one a step, and goes round."""
+    start = before + [lui(TURNS, turns >> 16), ori(TURNS, TURNS, turns)]
+    end = [addiu(TURNS, TURNS, -1), bne(TURNS, ZERO, -len(loop) - 2), NOP]
+    return start + loop + end + (stop or [mfc0(COUNTED_STEPS, COUNT)]) + [beq(ZERO, ZERO, -1), NOP]
+
+
+def raw(words):
     return b"".join((word & 0xFFFFFFFF).to_bytes(4, "little") for word in words)
+
+
+def elf(words):
+    """An ELF file with one segment at 80000000, where it is entered."""
+    base, code = 0x80000000, raw(words)
+    identification = b"\x7fELF\x01\x01\x01" + bytes(9)
+    header = struct.pack("<HHIIIIIHHHHHH", 2, 8, 1, base, 52, 0, 0x50001000, 52, 32, 1, 40, 0, 0)
+    segment = struct.pack("<IIIIIIII", 1, 84, base, base, len(code), len(code), 7, 4)
+    return identification + header + segment + code

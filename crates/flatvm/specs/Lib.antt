@@ -1,3 +1,4 @@
 pub mod Boot
 pub mod Items
+pub mod Replies
 pub mod Seats

@@ -3,6 +3,7 @@ ghost use Rattle.std.specs.Prelude.{◌≡◌, ℕ, IfOk};
 ghost use Rattle.elf32.specs.Images.{FitsPages};
 ghost use Rattle.mips_step.specs.Step.{Machine, step};
 ghost use Rattle.flatvm.specs.Boot.{boot_machine};
+ghost use Rattle.flatvm.specs.Replies.{probe};
 
 use crate::Memory;
 use elf32::Image;
@@ -60,5 +61,13 @@ impl Flat {
         ensures { result.cpu.now ≡ self.now.cpu }
     {
         View { cpu: &self.cpu }
+    }
+
+    /// The physical address in memory that a virtual address leads to, as for a load of kernel mode, whatever mode runs;
+    /// None where such a load would raise an exception or reaches no memory.
+    pub fn probe(&self, address: u32) -> Option<u32>
+        ensures { result ≡ probe self.now address }
+    {
+        self.memory.probe(&self.cpu, address)
     }
 }

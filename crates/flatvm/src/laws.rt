@@ -1,11 +1,20 @@
 //! Laws of the definitions.
-ghost use Rattle.std.specs.Prelude.{◌≡◌, ℕ, ◌-◌, ◌≤◌, List, ◌++◌, length};
+ghost use Rattle.std.specs.Prelude.{◌≡◌, ℕ, ◌+◌, ◌-◌, ◌%◌, ◌^◌, ◌<◌, ◌≤◌, false, List, ◌++◌, length, slice_index, Some, None, Ok};
 ghost use Rattle.word32.specs.Zeros.{zeros};
 ghost use Rattle.elf32.specs.declared.image.Segment.{Segment};
+ghost use Rattle.mips_cp0.specs.Bits.{has_bits};
+ghost use Rattle.mips_cp0.specs.Status.{status_erl, is_user_mode};
+ghost use Rattle.mips_tlb.specs.declared.kind.Kind.TheVariants.{Load};
+ghost use Rattle.mips_tlb.specs.Translation.{translation, answer_of};
+ghost use Rattle.mips_step.specs.declared.access.Size.TheVariants.{Byte};
+ghost use Rattle.mips_step.specs.World.{reach, value_at};
+ghost use Rattle.mips_step.specs.World.Reach.{Memory, Nothing};
+ghost use Rattle.mips_step.specs.Places.{place};
 ghost use Rattle.mips_step.specs.Step.{Machine};
 ghost use Rattle.flatvm.specs.declared.item.Item.{Item};
 ghost use Rattle.flatvm.specs.Boot.{placed};
 ghost use Rattle.flatvm.specs.Items.{run};
+ghost use Rattle.flatvm.specs.Replies.{in_memory, probe, byte_at, bytes_at};
 
 /// A law: the run of joined items is the run of the later ones from where the earlier ones lead.
 #[tactic(auto, using(crate::proofs::Runs::run_append))]
@@ -17,4 +26,27 @@ pub fn runs_join()
 #[tactic(auto, using(crate::proofs::Placed::placed_first))]
 pub fn first_segment_is_its_bytes_and_zeros()
     ensures { (s : Segment) (size : ℕ) → s.address ≡ 0x80000000 → length s.bytes.items ≤ size → placed (zeros size) s ≡ s.bytes.items ++ zeros (size - length s.bytes.items) }
+{}
+
+/// A law: a probe does not depend on the mode that runs. In kernel mode it is where a load leads, if that lies in memory,
+/// and it is the same at each value of Status that has the same ERL, the one bit that decides whether kuseg is mapped.
+pub fn probe_ignores_the_mode()
+    ensures kernel_load { (m : Machine) (address : ℕ) → is_user_mode m.cpu.cp0.status ≡ false → probe m address ≡ in_memory m.world.memory (answer_of (translation m.cpu.tlb m.cpu.cp0 Load address)) }
+    ensures any_mode { (m : Machine) (status address : ℕ) → has_bits status_erl status ≡ has_bits status_erl m.cpu.cp0.status → probe (record m { cpu = record m.cpu { cp0 = record m.cpu.cp0 { status = status } } }) address ≡ probe m address }
+{}
+
+/// A law: where a load of a byte, in the mode that runs, leads to memory, it gives the byte that is read there; where it
+/// leads past memory, no byte is read.
+pub fn a_byte_read_is_a_byte_loaded()
+    ensures loaded { (m : Machine) (address at : ℕ) → place Load Byte m.cpu address ≡ Ok at → reach m.world Byte at ≡ Memory → byte_at m address ≡ Some (value_at m.world Byte at) }
+    ensures past { (m : Machine) (address at : ℕ) → place Load Byte m.cpu address ≡ Ok at → reach m.world Byte at ≡ Nothing → byte_at m address ≡ None }
+{}
+
+/// A law: what is read of a length is that many bytes, each of them the one at its address; and where bytes are those at
+/// their addresses, they are what is read.
+#[tactic(auto, using(crate::proofs::Replies::read_length, crate::proofs::Replies::read_whole))]
+pub fn a_read_is_its_bytes()
+    ensures count { (m : Machine) (address count : ℕ) (bytes : List ℕ) → bytes_at m address count ≡ Some bytes → length bytes ≡ count }
+    ensures each { (m : Machine) (address count k : ℕ) (bytes : List ℕ) → bytes_at m address count ≡ Some bytes → k < count → byte_at m ((address + k) % 2 ^ 32) ≡ Some (slice_index bytes k) }
+    ensures whole { (m : Machine) (address : ℕ) (bytes : List ℕ) → ((k : ℕ) → k < length bytes → byte_at m ((address + k) % 2 ^ 32) ≡ Some (slice_index bytes k)) → bytes_at m address (length bytes) ≡ Some bytes }
 {}

@@ -4,10 +4,11 @@ ghost use Rattle.word32.specs.Zeros.{zeros};
 ghost use Rattle.elf32.specs.Images.{IsWithin, FitsPages};
 ghost use Rattle.mips_step.specs.World.{World, with_memory, first_byte, bytes_of, value_in, limit_of, bytes_after};
 ghost use Rattle.flatvm.specs.Boot.{placed, boot_memory};
+ghost use Rattle.flatvm.specs.Replies.{probe, byte_at};
 
 use elf32::{Image, SEGMENT_BASE, Segment};
 use mips_alu::{store_left, store_right};
-use mips_step::{Kind, PhysBus, Refusal, Size};
+use mips_step::{Cpu, Kind, PhysBus, Refusal, Size};
 use std::alloc::{AllocError, Global};
 use std::marker::Model;
 use word32::{half_at, put_half, put_word, word_at};
@@ -36,6 +37,29 @@ impl Memory {
         let mut bytes = zeroed(alloc, pages as usize * 4096)?;
         place_all(&mut bytes, &image.segments);
         Ok(Memory { bytes })
+    }
+
+    /// The physical address in this memory that a virtual address leads to, as for a load of kernel mode, whatever mode
+    /// the processor runs in; None where such a load would raise an exception or reaches no memory.
+    pub fn probe(&self, cpu: &Cpu, address: u32) -> Option<u32>
+        ensures { result ≡ probe (record { cpu = cpu.now; world = self.now }) address }
+    {
+        let at = cpu.tlb().probe(cpu.cp0(), address)?;
+        if (at as usize) < self.bytes.len() {
+            Some(at)
+        } else {
+            None
+        }
+    }
+
+    /// The byte of this memory at a virtual address, as `probe` finds it.
+    pub fn byte_at(&self, cpu: &Cpu, address: u32) -> Option<u8>
+        ensures { result ≡ byte_at (record { cpu = cpu.now; world = self.now }) address }
+    {
+        match self.probe(cpu, address) {
+            Some(at) => Some(self.bytes[at as usize]),
+            None => None,
+        }
     }
 }
 

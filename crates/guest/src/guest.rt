@@ -1,7 +1,7 @@
 //! A guest.
 ghost use Rattle.std.specs.Prelude.{◌≡◌};
 
-use crate::{Log, Seat, Stop};
+use crate::{Log, Refused, Seat, Stop, reading};
 use elf32::Image;
 use flatvm::{Memory, View};
 use mips_step::{Cpu, Ppn, StepOut, Why};
@@ -33,7 +33,7 @@ impl Model for Guest {
 }
 
 impl Guest {
-    ghost use Rattle.std.specs.Prelude.{◌≡◌, ◌+◌, [], ◌∷◌, ◌++◌, OnOk, IsErrOf, ◌↔◌, IfOk, IfSome, None};
+    ghost use Rattle.std.specs.Prelude.{◌≡◌, ◌+◌, [], ◌∷◌, ◌++◌, OnOk, OnErr, IsErrOf, ◌↔◌, IfOk, IfSome, Some, None, length};
     ghost use Rattle.elf32.specs.Images.{FitsPages};
     ghost use Rattle.mips_step.specs.Step.{step};
     ghost use Rattle.mips_step.specs.Accesses.{accesses, first_lack};
@@ -41,6 +41,7 @@ impl Guest {
     ghost use Rattle.flatvm.specs.declared.item.What.TheVariants.{Step};
     ghost use Rattle.flatvm.specs.Boot.{boot_machine};
     ghost use Rattle.flatvm.specs.Items.{run};
+    ghost use Rattle.flatvm.specs.Replies.{bytes_at};
     ghost use Rattle.guest.specs.Logs.{HasRoom, IsFull};
     ghost use Rattle.guest.specs.Guests.{GuestIs, Does, lacks_of};
     ghost use Rattle.guest.specs.Seats.{IsLegal};
@@ -75,6 +76,18 @@ impl Guest {
         ensures { result.cpu.now ≡ self.now.machine.cpu }
     {
         View { cpu: &self.cpu }
+    }
+
+    /// Reads as many bytes of memory as `bytes` has, from a virtual address on: byte k at that address + k modulo 2^32,
+    /// as for a load of kernel mode, whatever mode runs. It takes no memory, and changes nothing of the guest.
+    ///
+    /// It answers `Machine` exactly where one of the bytes has no place in memory, and then `bytes` is as before.
+    pub fn debug_read(&self, address: u32, bytes: &mut [u8]) -> Result<(), Refused>
+        ensures read { OnOk result (bytes_at self.now.machine address (length bytes.old) ≡ Some bytes.new) }
+        ensures refused { IsErrOf result Refused.Machine ↔ (bytes_at self.now.machine address (length bytes.old) ≡ None) }
+        ensures unchanged { OnErr result (bytes.new ≡ bytes.old) }
+    {
+        reading::read(&self.cpu, &self.memory, address, bytes)
     }
 
     /// The log of what happened.

@@ -1,8 +1,8 @@
-//! Steps of a guest, its log and its seats.
+//! Steps of a guest, its log and its seats, and reads of its memory.
 ghost use Rattle.std.specs.Prelude.{◌<◌};
 ghost use Rattle.guest.specs.Seats.{IsLegal};
 
-use crate::{Guest, Log, Seat, Stop};
+use crate::{Guest, Log, Refused, Seat, Stop};
 use elf32::Image;
 use flatvm::SeatNo;
 use mips_isa::Reg;
@@ -22,6 +22,15 @@ fn step_once(rt: &impl Abort, guest: &mut Guest, seat: &mut Seat) -> StepOut
     assert!(rt; guest.log_room().is_ok());
     assert!(rt; guest.need().is_none());
     guest.step(seat)
+}
+
+fn make_steps(rt: &impl Abort, guest: &mut Guest, seat: &mut Seat, count: usize)
+    requires { IsLegal seat.old guest.old.log.items }
+    ensures { IsLegal seat.new guest.new.log.items }
+{
+    for _ in 0..count {
+        assert!(rt; step_once(rt, guest, seat) == StepOut::Done);
+    }
 }
 
 #[test]
@@ -82,4 +91,127 @@ fn neighbouring_steps_of_one_seat_are_one_run(rt: HostRuntime) {
         assert_eq!(rt; (log.len(), log.runs()), (len, runs), "after item {len}");
     }
     assert!(rt; log.make_room() == Err(Stop::LogFull));
+}
+
+/// It stores to the last word of two pages, maps fffff000 to physical address 1000 and 0 to 0, and then enters user mode.
+const MAPPING: [u32; 18] = [
+    0x3c02_8000, // lui $2,0x8000
+    0x3c01_7654, // lui $1,0x7654
+    0x3421_3210, // ori $1,$1,0x3210
+    0xac41_1ffc, // sw $1,0x1ffc($2)
+    0x2401_e000, // addiu $1,$0,0xe000
+    0x4081_5000, // mtc0 $1,EntryHi: ffffe000
+    0x2401_0042, // addiu $1,$0,0x42: frame 1, valid
+    0x4081_1800, // mtc0 $1,EntryLo1
+    0x4200_0002, // tlbwi, of entry 0
+    0x2401_0001, // addiu $1,$0,1
+    0x4081_0000, // mtc0 $1,Index
+    0x4080_5000, // mtc0 $0,EntryHi
+    0x2401_0002, // addiu $1,$0,2: frame 0, valid
+    0x4081_1000, // mtc0 $1,EntryLo0
+    0x4080_1800, // mtc0 $0,EntryLo1
+    0x4200_0002, // tlbwi, of entry 1
+    0x2401_0010, // addiu $1,$0,0x10: UM
+    0x4081_6000, // mtc0 $1,Status
+];
+
+/// Reads as the machine boots, and what they give. The buffer has as many bytes.
+const GIVEN_AT_BOOT: [(u32, &[u8]); 8] = [
+    // the image's words, the lowest byte first
+    (
+        0x8000_0000,
+        &[0x00, 0x80, 0x02, 0x3c, 0x54, 0x76, 0x01, 0x3c],
+    ),
+    (0x8000_0003, &[0x3c, 0x54, 0x76]),
+    (0xa000_0004, &[0x54]),
+    // the last bytes of memory
+    (0x8000_1ffd, &[0, 0, 0]),
+    // no byte has its place anywhere
+    (0x0000_0000, &[]),
+    (0x8000_2000, &[]),
+    (0xc000_0000, &[]),
+    (0xffff_ffff, &[]),
+];
+
+/// Reads of so many bytes that are refused as the machine boots.
+const REFUSED_AT_BOOT: [(u32, usize); 6] = [
+    // past the end of memory, and across it
+    (0x8000_2000, 1),
+    (0x8000_1ffe, 3),
+    (0xa000_1fff, 2),
+    // the first byte alone has no place: there is no valid entry for kuseg, and kseg0 is longer than memory
+    (0x7fff_ffff, 2),
+    (0x9fff_ffff, 2),
+    // from the last address to the first: no valid entry is for either page
+    (0xffff_ffff, 2),
+];
+
+const GIVEN_WHERE_MAPPED: [(u32, &[u8]); 4] = [
+    // kseg0, which user mode may not reach itself
+    (0x8000_0000, &[0x00, 0x80, 0x02, 0x3c]),
+    (0x8000_1ffc, &[0x10, 0x32, 0x54, 0x76]),
+    (0xffff_fffc, &[0x10, 0x32, 0x54, 0x76]),
+    // from the last address to the first
+    (0xffff_fffe, &[0x54, 0x76, 0x00, 0x80, 0x02]),
+];
+
+const REFUSED_WHERE_MAPPED: [(u32, usize); 3] = [
+    // from a page that is not valid, and into one
+    (0xffff_efff, 2),
+    (0x0000_0fff, 2),
+    (0xffff_ffff, 0x1002),
+];
+
+fn check_given<R: AllocGlobal + Abort>(
+    rt: &R,
+    guest: &Guest,
+    reads: &[(u32, &[u8])],
+) -> Result<(), Fail> {
+    for (address, bytes) in reads {
+        let mut buffer = vec![in rt.alloc(); 0xa5; bytes.len()]?;
+        assert!(rt;
+            guest.debug_read(*address, &mut buffer).is_ok(),
+            "{address:08x}"
+        );
+        assert_eq!(rt; buffer.as_slice(), *bytes, "{address:08x}");
+    }
+    Ok(())
+}
+
+fn check_refused<R: AllocGlobal + Abort>(
+    rt: &R,
+    guest: &Guest,
+    reads: &[(u32, usize)],
+) -> Result<(), Fail> {
+    for (address, count) in reads {
+        let mut buffer = vec![in rt.alloc(); 0xa5; *count]?;
+        let answer = guest.debug_read(*address, &mut buffer);
+        assert!(rt; answer == Err(Refused::Machine), "{address:08x}");
+        assert!(rt; buffer.iter().all(|byte| *byte == 0xa5), "{address:08x}");
+    }
+    Ok(())
+}
+
+fn words_image<R: AllocGlobal + Abort>(rt: &R, words: &[u32]) -> Result<Image, Fail> {
+    let mut bytes = Vec::new(rt.alloc());
+    for word in words {
+        bytes.extend_from_slice(&word.to_le_bytes())?;
+    }
+    assert!(rt; bytes.len() < 0x1000);
+    Ok(Image::raw(rt.alloc(), bytes)?)
+}
+
+#[test]
+fn a_guest_gives_its_bytes(rt: HostRuntime) -> Result<(), Fail> {
+    let image = words_image(&rt, MAPPING.as_slice())?;
+    assert!(rt; image.fits(2));
+    let mut guest = Guest::boot(rt.alloc(), image, 2, 16)?;
+    let mut seat = Seat::new(SeatNo::runner());
+    check_given(&rt, &guest, GIVEN_AT_BOOT.as_slice())?;
+    check_refused(&rt, &guest, REFUSED_AT_BOOT.as_slice())?;
+    make_steps(&rt, &mut guest, &mut seat, MAPPING.len());
+    assert!(rt; guest.view().cpu.cp0().is_user_mode());
+    check_given(&rt, &guest, GIVEN_WHERE_MAPPED.as_slice())?;
+    check_refused(&rt, &guest, REFUSED_WHERE_MAPPED.as_slice())?;
+    Ok(())
 }

@@ -1,13 +1,13 @@
 //! The state of the processor, and how control moves.
-ghost use Rattle.std.specs.Prelude.{◌≡◌, ℕ, ◌<◌, ◌^◌, ◌==◌, is_some};
+ghost use Rattle.std.specs.Prelude.{◌≡◌, ℕ, ◌<◌, ◌^◌, ◌==◌, is_some, IfSome, Ok};
 ghost use Rattle.mips_isa.specs.Targets.{slot_address};
 ghost use Rattle.mips_step.specs.Processor.{Processor, reg, with_reg, next, jumped, skipped, linked, clocked, excepted, boot_processor};
-ghost use Rattle.mips_step.specs.Places.{place, data_address};
+ghost use Rattle.mips_step.specs.Places.{alignment, place, data_address};
 
 use crate::Size;
 use mips_cp0::{Cp0, Exc};
 use mips_isa::Reg;
-use mips_tlb::{Kind, Tlb};
+use mips_tlb::{Kind, Tlb, direct_address};
 use std::marker::Model;
 use word32::sext16;
 
@@ -126,20 +126,38 @@ impl Cpu {
         self.reg(base).wrapping_add(sext16(offset))
     }
 
-    /// The physical address of an access at a virtual address, or the exception that it raises.
+    /// The physical address of an aligned access in kseg0 or kseg1 in kernel mode; `None` of the others, which `place` tells.
+    /// Most accesses are such, and come by without a call.
     #[inline(always)]
+    pub(crate) fn direct_place(&self, _kind: Kind, size: Size, address: u32) -> Option<u32>
+        ensures { IfSome result (λ at. place _kind size self.now address ≡ Ok at) }
+    {
+        if address % alignment(size) == 0 {
+            direct_address(&self.cp0, address)
+        } else {
+            None
+        }
+    }
+
+    /// The physical address of an access at a virtual address, or the exception that it raises.
     pub(crate) fn place(&self, kind: Kind, size: Size, address: u32) -> Result<u32, Exc>
         ensures { result ≡ place kind size self.now address }
     {
-        let alignment = match size {
-            Size::Byte | Size::Left | Size::Right => 1,
-            Size::Half => 2,
-            Size::Word => 4,
-        };
-        if address % alignment == 0 {
+        if address % alignment(size) == 0 {
             self.tlb.translate(&self.cp0, address, kind)
         } else {
             Err(kind.address_error(address))
         }
+    }
+}
+
+/// What the address of an access is a multiple of.
+fn alignment(size: Size) -> u32
+    ensures { result ≡ alignment size }
+{
+    match size {
+        Size::Byte | Size::Left | Size::Right => 1,
+        Size::Half => 2,
+        Size::Word => 4,
     }
 }

@@ -1,6 +1,8 @@
 //! Address translation.
-ghost use Rattle.std.specs.Prelude.{◌≡◌};
-ghost use Rattle.mips_tlb.specs.Segments.{is_refused, is_mapped, unmapped_address};
+ghost use Rattle.std.specs.Prelude.{◌≡◌, ℕ, List, Some, Ok};
+ghost use Rattle.mips_tlb.specs.Segments.{is_refused, is_mapped, unmapped_address, direct_address};
+ghost use Rattle.mips_tlb.specs.declared.kind.Kind.{Kind};
+ghost use Rattle.mips_tlb.specs.declared.tlb.Entry.{Entry};
 ghost use Rattle.mips_tlb.specs.Translation.{half_of, through_half, kernel_translation, translation, probed};
 
 use crate::{Entry, Kind, PageHalf, Tlb};
@@ -12,21 +14,7 @@ impl Tlb {
     /// address that user mode may not reach; in a mapped segment a refill where no entry matches, and else, by the
     /// matching entry of least index, the exception of a page that is not valid, or that is not dirty and stored to
     /// (volume III, Virtual Memory).
-    #[inline(always)]
     pub fn translate(&self, cp0: &Cp0, address: u32, kind: Kind) -> Result<u32, Exc>
-        ensures { result ≡ translation self.now cp0.now kind address }
-    {
-        // kseg0 and kseg1 in kernel mode first: most accesses are there, and they need no more than this
-        if (0x8000_0000..0xc000_0000).contains(&address) && !cp0.is_user_mode() {
-            Ok(unmapped(address))
-        } else {
-            self.translate_elsewhere(cp0, address, kind)
-        }
-    }
-
-    // What an access gets, wherever it is. It stays out of the callers' bodies.
-    #[inline(never)]
-    fn translate_elsewhere(&self, cp0: &Cp0, address: u32, kind: Kind) -> Result<u32, Exc>
         ensures { result ≡ translation self.now cp0.now kind address }
     {
         if cp0.is_user_mode() && address >= 0x8000_0000 {
@@ -67,6 +55,20 @@ impl Entry {
         } else {
             self.odd
         }
+    }
+}
+
+/// The physical address of one in kseg0 or kseg1 that kernel mode reaches, which is that of each kind of access and
+/// needs no entry; `None` of the others, which `Tlb::translate` tells.
+#[inline(always)]
+pub fn direct_address(cp0: &Cp0, address: u32) -> Option<u32>
+    ensures value { result ≡ direct_address cp0.now.status address }
+    ensures translated { (entries : List Entry) (kind : Kind) (physical : ℕ) → result ≡ Some physical → translation entries cp0.now kind address ≡ Ok physical }
+{
+    if (0x8000_0000..0xc000_0000).contains(&address) && !cp0.is_user_mode() {
+        Some(unmapped(address))
+    } else {
+        None
     }
 }
 

@@ -1,7 +1,22 @@
 //! Tests of the program on files, with the exact bytes that it writes.
+mod branches;
+mod changed_code;
+mod code;
+mod coprocessors;
+mod exceptions;
 mod failures;
+mod fetches;
+mod interrupts;
+mod layout;
+mod linked;
+mod past_memory;
+mod refills;
 mod refusals;
+mod run;
 mod runs;
+mod translations;
+mod unaligned;
+mod vectors;
 
 use crate::program::program;
 use std::alloc::{AllocError, Global};
