@@ -3,7 +3,8 @@
 //! The definition of a step stands in `specs/Step.antt` (and `specs/Effect.antt`), the pages that it accesses in
 //! `specs/Accesses.antt`. The crates above use `PhysBus` with its meaning (`world`, `lacks`), `Cpu` (in clauses a record,
 //! `Processor`) and `Cpu::step`: it answers `Done` where the machine has moved by the definition, `Need` exactly where the
-//! bus lacks a page that the step would access, and then nothing has changed. `Cpu::need` tells that beforehand.
+//! bus lacks a page that the step would access, and then nothing has changed. `Cpu::need` tells that beforehand. `laws`
+//! states that a step depends on the pages that it accesses alone.
 #![tactic(auto)]
 
 pub mod access;
