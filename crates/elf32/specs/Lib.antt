@@ -1,1 +1,4 @@
 pub mod Images
+pub mod Headers
+pub mod Faults
+pub mod Files

@@ -1,8 +1,11 @@
 //! Why a command is refused.
-ghost use Rattle.std.specs.Prelude.{◌≡◌};
+ghost use Rattle.std.specs.Prelude.{◌≡◌, ◌≢◌};
+ghost use Rattle.std.specs.IoError.{error_kind};
 ghost use Rattle.vmhost.specs.declared.fault.Fault.TheVariants.{Memory};
 
 use std::alloc::AllocError;
+use std::io;
+use std::io::ErrorKind;
 use thiserror::Error;
 
 /// Why a command is refused. Its text is what stands after `vmhost: ` on standard error.
@@ -11,9 +14,9 @@ pub enum Fault<'a> {
     /// The file of this name can't be read.
     #[error("file {name}")]
     File { name: &'a str },
-    /// The image is no ELF file that can be read. None can be yet.
-    #[error("elf 0")]
-    Elf,
+    /// The file is no ELF executable that the machine's pages hold, for this reason.
+    #[error("elf {number}", number = .fault.number())]
+    Elf { fault: elf32::Fault },
     /// A raw image is empty, or longer than the pages.
     #[error("raw")]
     Raw,
@@ -30,5 +33,16 @@ impl From<AllocError> for Fault<'_> {
 
     fn from(_error: AllocError) -> Self {
         Fault::Memory
+    }
+}
+
+/// The fault of a file that could not be read.
+pub fn unread<'a>(name: &'a str, error: &io::Error) -> Fault<'a>
+    ensures memory { error_kind error.now ≡ ErrorKind.OutOfMemory → result ≡ Fault.Memory }
+    ensures file { error_kind error.now ≢ ErrorKind.OutOfMemory → result ≡ Fault.File name.entry }
+{
+    match error.kind() {
+        ErrorKind::OutOfMemory => Fault::Memory,
+        _ => Fault::File { name },
     }
 }

@@ -8,6 +8,7 @@ mod command_line;
 mod dump;
 mod exec;
 mod fault;
+mod image_file;
 mod machine;
 mod program;
 

@@ -3,6 +3,7 @@ mod branches;
 mod changed_code;
 mod code;
 mod coprocessors;
+mod elf_files;
 mod exceptions;
 mod failures;
 mod fetches;

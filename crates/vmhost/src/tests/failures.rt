@@ -1,7 +1,7 @@
 //! Files that fail in mid-stream, and streams that can't be written.
 use super::{file_of, say, words_of};
 use crate::command_line::{Exec, Format, MachineKind};
-use crate::exec::raw_image;
+use crate::image_file::{elf_image, raw_image};
 use crate::fault::Fault;
 use crate::program::{program, unreadable};
 use guest::Stop;
@@ -56,6 +56,23 @@ fn a_read_that_fails_is_no_shorter_file(rt: HostRuntime) -> Result<(), Fail> {
                 let text = format!(in rt.alloc(); "{fault}")?;
                 assert_eq!(rt; text.as_str(), want, "{pages} pages, after {left} bytes");
             }
+        }
+    }
+    Ok(())
+}
+
+#[test]
+fn an_executable_that_cannot_be_read(rt: HostRuntime) -> Result<(), Fail> {
+    for left in [0, 1, 52, 4096] {
+        for (kind, want) in [
+            (io::ErrorKind::BrokenPipe, "file x"),
+            (io::ErrorKind::OutOfMemory, "memory"),
+        ] {
+            let fault = elf_image(rt.alloc(), Failing { left, kind }, "x", 16)
+                .err()
+                .ok_or("an image")?;
+            let text = format!(in rt.alloc(); "{fault}")?;
+            assert_eq!(rt; text.as_str(), want, "after {left} bytes");
         }
     }
     Ok(())

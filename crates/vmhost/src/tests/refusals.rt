@@ -160,12 +160,12 @@ const REFUSALS: [Refusal; 17] = [
     Refusal {
         length: Some(16),
         words: &["exec", "--pages", "1", "FILE"],
-        text: "vmhost: elf 0\n",
+        text: "vmhost: elf 1\n",
     },
     Refusal {
         length: Some(0),
         words: &["exec", "FILE"],
-        text: "vmhost: elf 0\n",
+        text: "vmhost: elf 1\n",
     },
 ];
 

@@ -1,0 +1,126 @@
+//! Images in files.
+ghost use Rattle.std.specs.Prelude.{◌≡◌, ◌<◌, ◌*◌, ◌^◌, ◌↔◌, IfErr, IfOk, IfSome, IsErrOf, IsTrue, MatchOption, Some, [], ◌∷◌, length, map};
+ghost use Rattle.elf32.specs.Images.{FitsPages};
+ghost use Rattle.elf32.specs.Files.{StandsFor};
+ghost use Rattle.vmhost.specs.Faults.{IsElfFault, IsElfRefusal, IsRawFault};
+ghost use Rattle.vmhost.specs.Raw.{IsPageCount, IsRaw};
+
+use crate::command_line::Exec;
+use crate::fault::{Fault, unread};
+use elf32::{ElfError, Image};
+use std::alloc::Global;
+use std::io;
+use std::io::Read;
+
+/// The least and the greatest number of pages.
+const LEAST_PAGES: u32 = 2;
+
+const MOST_PAGES: u32 = 16_384;
+
+/// Whether a machine may have so many pages.
+pub fn is_page_count(pages: u32) -> bool
+    ensures { IsTrue result ↔ IsPageCount pages }
+{
+    LEAST_PAGES <= pages && pages <= MOST_PAGES
+}
+
+/// The image of an ELF executable in the file of this name, for a memory of some pages, which hold it.
+///
+/// An error is `Elf` with the file's first fault, `Memory` where a request for memory was refused, and `File` where the
+/// file can't be read.
+pub fn elf_image<'a, F: Read + Drop>(
+    alloc: Global,
+    file: F,
+    name: &'a str,
+    pages: u32,
+) -> Result<Image, Fault<'a>>
+    ensures stands { IfSome (F.remaining file) (λ all. IfOk result (StandsFor all pages)) }
+    ensures fits { IfOk result (λ image. FitsPages image pages) }
+    ensures refused { IfSome (F.remaining file) (λ all. IfErr result (λ fault. IsElfRefusal all pages fault)) }
+    ensures faults { IfErr result (λ fault. IsElfFault (Fault.File name.entry) fault) }
+{
+    let bytes = whole_file(alloc, file).map_err(|e| unread(name, &e))?;
+    image_in(alloc, &bytes, pages)
+}
+
+/// The bytes of a file.
+fn whole_file<F: Read + Drop>(alloc: Global, mut file: F) -> io::Result<Vec<u8>>
+    ensures { IfSome (F.remaining file) (λ all. IfOk result (λ bytes. bytes.items ≡ all)) }
+{
+    let mut bytes = Vec::new(alloc);
+    file.read_to_end(&mut bytes)?;
+    Ok(bytes)
+}
+
+/// The image of an ELF executable of these bytes.
+fn image_in<'a>(alloc: Global, bytes: &[u8], pages: u32) -> Result<Image, Fault<'a>>
+    ensures stands { IfOk result (StandsFor bytes.now pages) }
+    ensures fits { IfOk result (λ image. FitsPages image pages) }
+    ensures refused { IfErr result (λ fault. IsElfRefusal bytes.now pages fault) }
+    ensures faults { IfErr result (λ fault. IsElfFault Fault.Memory fault) }
+{
+    match elf32::read(alloc, bytes, pages) {
+        Ok(image) => Ok(image),
+        Err(ElfError::Fault(fault)) => Err(Fault::Elf { fault }),
+        Err(ElfError::Memory) => Err(Fault::Memory),
+    }
+}
+
+/// The image of a file without a header, which the pages hold.
+///
+/// An error is `Raw` where the file is empty or longer than the pages, then `Limits` where the number of pages is outside
+/// its limits, `Memory` where a request for memory was refused, and `File` where the file can't be read.
+pub fn raw_image<'a, F: Read + Drop>(
+    alloc: Global,
+    file: F,
+    order: Exec<'a>,
+) -> Result<Image, Fault<'a>>
+    ensures fits { IfOk result (λ image. FitsPages image order.entry.pages) }
+    ensures legal { IfOk result (λ image. IsPageCount order.entry.pages) }
+    ensures bytes { IfSome (F.remaining file) (λ all. IfOk result (λ image. map (λ s. s.bytes.items) image.segments.items ≡ all ∷ [])) }
+    ensures raw { IfSome (F.remaining file) (λ all. IsPageCount order.entry.pages → IsErrOf result Fault.Raw → ¬ IsRaw (order.entry.pages * 4096) (length all)) }
+    ensures faults { IfErr result (λ fault. IsRawFault order.entry fault) }
+{
+    let room = u64::from(order.pages) * 4096;
+    if is_page_count(order.pages) {
+        match raw_bytes(alloc, file, room).map_err(|e| unread(order.image, &e))? {
+            Some(bytes) => Ok(Image::raw(alloc, bytes)?),
+            None => Err(Fault::Raw),
+        }
+    } else {
+        let length = length_up_to(file, room + 1).map_err(|e| unread(order.image, &e))?;
+        Err(if is_raw(length, room) {
+            Fault::Limits
+        } else {
+            Fault::Raw
+        })
+    }
+}
+
+/// The bytes of a file, or `None` where it is no raw image for a memory of `room` bytes; of a file that is too long, one
+/// byte more than that is read.
+fn raw_bytes<F: Read + Drop>(alloc: Global, file: F, room: u64) -> io::Result<Option<Vec<u8>>>
+    requires { room < 2 ^ 32 }
+    ensures raw { IfOk result (λ found. IfSome found (λ bytes. IsRaw room (length bytes.items))) }
+    ensures bytes { IfSome (F.remaining file) (λ all. IfOk result (λ found. MatchOption found (¬ IsRaw room (length all)) (λ bytes. bytes.items ≡ all))) }
+{
+    let mut bytes = Vec::new(alloc);
+    file.take(room + 1).read_to_end(&mut bytes)?;
+    if is_raw(bytes.len() as u64, room) {
+        Ok(Some(bytes))
+    } else {
+        Ok(None)
+    }
+}
+
+/// Whether a file of this many bytes is a raw image for a memory of `room` bytes.
+fn is_raw(length: u64, room: u64) -> bool
+    ensures { IsTrue result ↔ IsRaw room length }
+{
+    0 < length && length <= room
+}
+
+/// How many bytes there are to be read, but at most `most`; none is kept.
+fn length_up_to<F: Read + Drop>(file: F, most: u64) -> io::Result<u64> {
+    io::copy(&mut file.take(most), &mut io::sink())
+}
