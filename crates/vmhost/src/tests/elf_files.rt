@@ -216,7 +216,12 @@ fn check_refusal<R: Files + AllocGlobal + Abort>(
     let words = words_of(rt.alloc(), refusal.words, file)?;
     let said = say(rt, words.as_slice());
     let err = str::from_utf8(said.err.as_slice())?;
-    assert_eq!(rt; err, refusal.text, "{:?}, {:?}", refusal.changes, refusal.words);
+    assert_eq!(rt;
+        err,
+        refusal.text,
+        "{:?}, {:?}",
+        refusal.changes, refusal.words
+    );
     assert!(rt; said.out.is_empty(), "{:?}", refusal.words);
     assert_eq!(rt; said.status, 1, "{:?}", refusal.words);
     Ok(())

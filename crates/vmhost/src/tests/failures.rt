@@ -1,8 +1,8 @@
 //! Files that fail in mid-stream, and streams that can't be written.
 use super::{file_of, say, words_of};
 use crate::command_line::{Exec, Format, MachineKind};
-use crate::image_file::{elf_image, raw_image};
 use crate::fault::Fault;
+use crate::image_file::{elf_image, raw_image};
 use crate::program::{program, unreadable};
 use guest::Stop;
 use std::alloc::Global;
