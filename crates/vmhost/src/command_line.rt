@@ -6,8 +6,28 @@ use std::alloc::{AllocError, Global};
 /// What the command line asks for.
 #[derive(Clone, Copy, Debug)]
 pub enum Order<'a> {
+    /// Assemble a source into an executable.
+    Asm(Asm<'a>),
+    /// Print the disassembly of an executable.
+    Dis(Dis<'a>),
     /// Run an image and print the state that the machine ends in.
     Exec(Exec<'a>),
+}
+
+/// What `asm` assembles.
+#[derive(Clone, Copy, Debug)]
+pub struct Asm<'a> {
+    /// The name of the source's file.
+    pub source: &'a str,
+    /// The name of the file that the executable is written to.
+    pub output: &'a str,
+}
+
+/// What `dis` disassembles.
+#[derive(Clone, Copy, Debug)]
+pub struct Dis<'a> {
+    /// The name of the executable's file.
+    pub image: &'a str,
 }
 
 /// What `exec` runs.
@@ -49,24 +69,52 @@ pub enum MachineKind {
 pub fn parse<'a>(alloc: Global, words: &'a [String]) -> Result<Order<'a>, Error> {
     let mut command = whole_command(alloc)?;
     let matches = command.try_get_matches_from_mut(words)?;
-    match matches.subcommand_matches(EXEC).and_then(exec_of) {
-        Some(exec) => Ok(Order::Exec(exec)),
+    match order_of(&matches) {
+        Some(order) => Ok(order),
         None => Err(command.error(ErrorKind::MissingSubcommand, "no command")?),
     }
 }
 
+/// What the matches ask for, of which one command is a part.
+fn order_of<'a>(matches: &ArgMatches<'a>) -> Option<Order<'a>> {
+    match matches.subcommand()? {
+        (ASM, of_asm) => Some(Order::Asm(asm_of(of_asm)?)),
+        (DIS, of_dis) => Some(Order::Dis(dis_of(of_dis)?)),
+        (_, of_exec) => Some(Order::Exec(exec_of(of_exec)?)),
+    }
+}
+
 const NAME: &str = "vmhost";
+
+const ASM: &str = "asm";
+
+const DIS: &str = "dis";
 
 const EXEC: &str = "exec";
 
 fn whole_command<'a>(alloc: Global) -> Result<Command<'a>, AllocError> {
     Command::new(alloc, NAME)
         .bin_name(NAME)?
-        .about("Runs MIPS32 machine code in a virtual machine")
+        .about("Assembles, disassembles and runs MIPS32 machine code in a virtual machine")
         .no_binary_name(true)
         .subcommand_required(true)
         .disable_help_subcommand(true)
+        .subcommand(asm_command(alloc)?)?
+        .subcommand(dis_command(alloc)?)?
         .subcommand(exec_command(alloc)?)
+}
+
+fn asm_command<'a>(alloc: Global) -> Result<Command<'a>, AllocError> {
+    Command::new(alloc, ASM)
+        .about("Assembles a source and writes an ELF executable")
+        .arg(file(alloc, "source", "SRC").help("The file of the source"))?
+        .arg(file(alloc, "output", "OUT").help("The file that the executable is written to"))
+}
+
+fn dis_command<'a>(alloc: Global) -> Result<Command<'a>, AllocError> {
+    Command::new(alloc, DIS)
+        .about("Prints the instructions and bytes of an ELF executable")
+        .arg(file(alloc, "image", "IMAGE").help("The file of the executable"))
 }
 
 fn exec_command<'a>(alloc: Global) -> Result<Command<'a>, AllocError> {
@@ -76,12 +124,11 @@ fn exec_command<'a>(alloc: Global) -> Result<Command<'a>, AllocError> {
         .arg(flag(alloc, "flat").help("Use the table machine, on one plain memory"))?
         .arg(number(alloc, "pages", "16").help("How many pages of memory the machine has"))?
         .arg(number(alloc, "steps", "1000").help("How many steps are made"))?
-        .arg(
-            Arg::new(alloc, "image")
-                .value_name("IMAGE")
-                .required(true)
-                .help("The file of the image"),
-        )
+        .arg(file(alloc, "image", "IMAGE").help("The file of the image"))
+}
+
+fn file<'a>(alloc: Global, name: &'a str, value: &'a str) -> Arg<'a> {
+    Arg::new(alloc, name).value_name(value).required(true)
 }
 
 fn flag<'a>(alloc: Global, name: &'a str) -> Arg<'a> {
@@ -94,6 +141,21 @@ fn number<'a>(alloc: Global, name: &'a str, default: &'a str) -> Arg<'a> {
         .value_name("N")
         .value_parser(value_parser!(u32))
         .default_value(default)
+}
+
+/// What the matches of `asm` ask for; each argument is required.
+fn asm_of<'a>(matches: &ArgMatches<'a>) -> Option<Asm<'a>> {
+    Some(Asm {
+        source: matches.get_str("source")?,
+        output: matches.get_str("output")?,
+    })
+}
+
+/// What the matches of `dis` ask for; its argument is required.
+fn dis_of<'a>(matches: &ArgMatches<'a>) -> Option<Dis<'a>> {
+    Some(Dis {
+        image: matches.get_str("image")?,
+    })
 }
 
 /// What the matches of `exec` ask for; each argument is required or has a default.

@@ -7,7 +7,7 @@ ghost use Rattle.vmhost.specs.Runs.{IsCount};
 
 use crate::command_line::{Exec, Format, MachineKind};
 use crate::dump::Dump;
-use crate::fault::{Fault, unread};
+use crate::fault::{Fault, file_fault};
 use crate::image_file::{elf_image, is_page_count, raw_image};
 use crate::machine::{Machine, Ran, Runner, run};
 use elf32::Image;
@@ -74,7 +74,7 @@ fn load<'a, R: Files + AllocGlobal>(rt: &R, order: Exec<'a>) -> Result<Image, Fa
     ensures legal { IfOk result (λ image. IsPageCount order.entry.pages) }
     ensures faults { IfErr result (λ fault. IsFaultOf order.entry.format order.entry fault) }
 {
-    let file = File::open(rt, order.image).map_err(|e| unread(order.image, &e))?;
+    let file = File::open(rt, order.image).map_err(|e| file_fault(order.image, &e))?;
     match order.format {
         Format::Raw => raw_image(rt.alloc(), file, order),
         Format::Elf => {

@@ -1,8 +1,10 @@
 //! Why a command is refused.
 ghost use Rattle.std.specs.Prelude.{◌≡◌, ◌≢◌};
 ghost use Rattle.std.specs.IoError.{error_kind};
+ghost use Rattle.vmhost.specs.Faults.{fault_of};
 ghost use Rattle.vmhost.specs.declared.fault.Fault.TheVariants.{Memory};
 
+use masm::{AsmError, AsmFault};
 use std::alloc::AllocError;
 use std::io;
 use std::io::ErrorKind;
@@ -11,9 +13,12 @@ use thiserror::Error;
 /// Why a command is refused. Its text is what stands after `vmhost: ` on standard error.
 #[derive(Clone, Copy, Debug, Error)]
 pub enum Fault<'a> {
-    /// The file of this name can't be read.
+    /// The file of this name can't be read or written.
     #[error("file {name}")]
     File { name: &'a str },
+    /// The source has this fault in this line, counted from 1; 0 where the fault is of no line.
+    #[error("asm {number} line {line}", number = .fault.number())]
+    Asm { fault: AsmFault, line: u64 },
     /// The file is no ELF executable that the machine's pages hold, for this reason.
     #[error("elf {number}", number = .fault.number())]
     Elf { fault: elf32::Fault },
@@ -36,8 +41,19 @@ impl From<AllocError> for Fault<'_> {
     }
 }
 
-/// The fault of a file that could not be read.
-pub fn unread<'a>(name: &'a str, error: &io::Error) -> Fault<'a>
+impl From<AsmError> for Fault<'_> {
+    ghost from_gives = { λ error fault. fault ≡ fault_of error };
+
+    fn from(error: AsmError) -> Self {
+        match error {
+            AsmError::Fault { fault, line } => Fault::Asm { fault, line },
+            AsmError::Memory(_) => Fault::Memory,
+        }
+    }
+}
+
+/// The fault of a file of this name that could not be read or written.
+pub fn file_fault<'a>(name: &'a str, error: &io::Error) -> Fault<'a>
     ensures memory { error_kind error.now ≡ ErrorKind.OutOfMemory → result ≡ Fault.Memory }
     ensures file { error_kind error.now ≢ ErrorKind.OutOfMemory → result ≡ Fault.File name.entry }
 {

@@ -6,7 +6,7 @@ ghost use Rattle.vmhost.specs.Faults.{IsElfFault, IsElfRefusal, IsRawFault};
 ghost use Rattle.vmhost.specs.Raw.{IsPageCount, IsRaw};
 
 use crate::command_line::Exec;
-use crate::fault::{Fault, unread};
+use crate::fault::{Fault, file_fault};
 use elf32::{ElfError, Image};
 use std::alloc::Global;
 use std::io;
@@ -39,12 +39,12 @@ pub fn elf_image<'a, F: Read + Drop>(
     ensures refused { IfSome (F.remaining file) (λ all. IfErr result (λ fault. IsElfRefusal all pages fault)) }
     ensures faults { IfErr result (λ fault. IsElfFault (Fault.File name.entry) fault) }
 {
-    let bytes = whole_file(alloc, file).map_err(|e| unread(name, &e))?;
+    let bytes = whole_file(alloc, file).map_err(|e| file_fault(name, &e))?;
     image_in(alloc, &bytes, pages)
 }
 
 /// The bytes of a file.
-fn whole_file<F: Read + Drop>(alloc: Global, mut file: F) -> io::Result<Vec<u8>>
+pub fn whole_file<F: Read + Drop>(alloc: Global, mut file: F) -> io::Result<Vec<u8>>
     ensures { IfSome (F.remaining file) (λ all. IfOk result (λ bytes. bytes.items ≡ all)) }
 {
     let mut bytes = Vec::new(alloc);
@@ -53,7 +53,7 @@ fn whole_file<F: Read + Drop>(alloc: Global, mut file: F) -> io::Result<Vec<u8>>
 }
 
 /// The image of an ELF executable of these bytes.
-fn image_in<'a>(alloc: Global, bytes: &[u8], pages: u32) -> Result<Image, Fault<'a>>
+pub fn image_in<'a>(alloc: Global, bytes: &[u8], pages: u32) -> Result<Image, Fault<'a>>
     ensures stands { IfOk result (StandsFor bytes.now pages) }
     ensures fits { IfOk result (λ image. FitsPages image pages) }
     ensures refused { IfErr result (λ fault. IsElfRefusal bytes.now pages fault) }
@@ -83,12 +83,12 @@ pub fn raw_image<'a, F: Read + Drop>(
 {
     let room = u64::from(order.pages) * 4096;
     if is_page_count(order.pages) {
-        match raw_bytes(alloc, file, room).map_err(|e| unread(order.image, &e))? {
+        match raw_bytes(alloc, file, room).map_err(|e| file_fault(order.image, &e))? {
             Some(bytes) => Ok(Image::raw(alloc, bytes)?),
             None => Err(Fault::Raw),
         }
     } else {
-        let length = length_up_to(file, room + 1).map_err(|e| unread(order.image, &e))?;
+        let length = length_up_to(file, room + 1).map_err(|e| file_fault(order.image, &e))?;
         Err(if is_raw(length, room) {
             Fault::Limits
         } else {

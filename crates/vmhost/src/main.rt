@@ -1,10 +1,13 @@
-//! The program `vmhost`: it runs MIPS32 machine code in a virtual machine.
+//! The program `vmhost`: it assembles, disassembles and runs MIPS32 machine code in a virtual machine.
 //!
 //! `program` does all of the work, over any files, reader and writers. `run` makes the steps of a machine: its contract
 //! says which state the machine is in afterwards, how many steps were made and why it ended before the last.
+//! `executable_of` is the executable that a source means, `disassembly` the lines of the image that a file stands for.
 #![tactic(auto)]
 
+mod asm;
 mod command_line;
+mod dis;
 mod dump;
 mod exec;
 mod fault;

@@ -3,7 +3,9 @@ ghost use Rattle.std.specs.Prelude.{◌≡◌, ◌<◌, ◌⊎◌, IfOk};
 ghost use Rattle.std.specs.IoError.{error_kind};
 ghost use Rattle.vmhost.specs.Exit.{code_of};
 
+use crate::asm::assemble_file;
 use crate::command_line::{Order, parse};
+use crate::dis::disassemble_file;
 use crate::exec::{Report, run_image};
 use crate::fault::Fault;
 use clap::Error;
@@ -40,7 +42,11 @@ impl Status {
 
 /// What the program has to say.
 enum Answer<'a> {
+    /// Nothing: what was asked for is done.
+    Nothing,
     /// What a command prints.
+    Text(String),
+    /// What a run prints, and how it went.
     Report(Report),
     /// Help, or what is wrong with the command line.
     CommandLine(Error),
@@ -82,12 +88,23 @@ fn respond<'a, R: Files + AllocGlobal>(rt: &R, words: &'a [String]) -> Answer<'a
         ),
         Err(error) => return Answer::CommandLine(error),
     };
-    let done = match order {
-        Order::Exec(order) => run_image(rt, order),
-    };
-    match done {
-        Ok(report) => Answer::Report(report),
+    match carry_out(rt, order) {
+        Ok(answer) => answer,
         Err(fault) => Answer::Fault(fault),
+    }
+}
+
+fn carry_out<'a, R: Files + AllocGlobal>(
+    rt: &R,
+    order: Order<'a>,
+) -> Result<Answer<'a>, Fault<'a>> {
+    match order {
+        Order::Asm(order) => {
+            assemble_file(rt, order)?;
+            Ok(Answer::Nothing)
+        }
+        Order::Dis(order) => Ok(Answer::Text(disassemble_file(rt, order)?)),
+        Order::Exec(order) => Ok(Answer::Report(run_image(rt, order)?)),
     }
 }
 
@@ -101,6 +118,12 @@ fn write_answer<O: Write, E: Write>(
     ensures stopped { IfOk result (λ s. code_of s ≡ 3 → err.new ≡ err.old) }
 {
     match answer {
+        Answer::Nothing => Ok(Status::Done),
+        Answer::Text(text) => {
+            out.write_all(text.as_bytes())?;
+            out.flush()?;
+            Ok(Status::Done)
+        }
         Answer::Report(report) => {
             out.write_all(report.text.as_bytes())?;
             out.flush()?;

@@ -1,6 +1,8 @@
 //! Files that fail in mid-stream, and streams that can't be written.
 use super::{file_of, say, words_of};
+use crate::asm::{executable_of, write_file};
 use crate::command_line::{Exec, Format, MachineKind};
+use crate::dis::disassembly;
 use crate::fault::Fault;
 use crate::image_file::{elf_image, raw_image};
 use crate::program::{program, unreadable};
@@ -62,17 +64,39 @@ fn a_read_that_fails_is_no_shorter_file(rt: HostRuntime) -> Result<(), Fail> {
 }
 
 #[test]
-fn an_executable_that_cannot_be_read(rt: HostRuntime) -> Result<(), Fail> {
+fn an_executable_or_a_source_that_cannot_be_read(rt: HostRuntime) -> Result<(), Fail> {
     for left in [0, 1, 52, 4096] {
         for (kind, want) in [
             (io::ErrorKind::BrokenPipe, "file x"),
             (io::ErrorKind::OutOfMemory, "memory"),
         ] {
-            let fault = elf_image(rt.alloc(), Failing { left, kind }, "x", 16)
-                .err()
-                .ok_or("an image")?;
-            let text = format!(in rt.alloc(); "{fault}")?;
-            assert_eq!(rt; text.as_str(), want, "after {left} bytes");
+            let faults = [
+                elf_image(rt.alloc(), Failing { left, kind }, "x", 16).err(),
+                disassembly(rt.alloc(), Failing { left, kind }, "x").err(),
+                executable_of(rt.alloc(), Failing { left, kind }, "x").err(),
+            ];
+            for fault in faults {
+                let fault = fault.ok_or("an answer")?;
+                let text = format!(in rt.alloc(); "{fault}")?;
+                assert_eq!(rt; text.as_str(), want, "after {left} bytes");
+            }
+        }
+    }
+    Ok(())
+}
+
+#[test]
+fn an_executable_that_cannot_be_written(rt: HostRuntime) -> Result<(), Fail> {
+    for room in 0..12 {
+        let mut file = Narrow::new(rt.alloc(), room);
+        let fault = write_file(&mut file, "x", b"executable").err();
+        if room < 10 {
+            let text = format!(in rt.alloc(); "{}", fault.ok_or("written")?)?;
+            assert_eq!(rt; text.as_str(), "file x", "room {room}");
+            assert_eq!(rt; file.got.as_slice(), &b"executable"[..room]);
+        } else {
+            assert!(rt; fault.is_none(), "room {room}");
+            assert_eq!(rt; file.got.as_slice(), b"executable".as_slice());
         }
     }
     Ok(())
@@ -115,10 +139,12 @@ impl Write for Narrow {
 }
 
 /// Words, and the status that they have where all can be written; `FILE` is a raw image.
-const ANSWERS: [(&[&str], u8); 4] = [
+const ANSWERS: [(&[&str], u8); 6] = [
     (&["--help"], 0),
     (&["exec", "--raw", "FILE"], 0),
     (&["exec", "FILE"], 1),
+    (&["dis", "FILE"], 1),
+    (&["asm", "FILE", "FILE"], 1),
     (&["exec"], 2),
 ];
 

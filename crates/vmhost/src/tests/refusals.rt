@@ -6,13 +6,21 @@ use std::rt::Files;
 use std::test::Fail;
 
 /// Words that are refused as a command line.
-const USAGE: [&[&str]; 22] = [
+const USAGE: [&[&str]; 30] = [
     &[],
     &["FILE"],
     &["run", "FILE"],
     &["help"],
     &["--version"],
     &["--raw", "exec", "FILE"],
+    &["asm"],
+    &["asm", "FILE"],
+    &["asm", "FILE", "FILE", "FILE"],
+    &["asm", "--raw", "FILE", "FILE"],
+    &["dis"],
+    &["dis", "FILE", "FILE"],
+    &["dis", "--pages", "16", "FILE"],
+    &["asm", "dis", "exec", "FILE"],
     &["exec"],
     &["exec", "--raw"],
     &["exec", "--raw", "FILE", "FILE"],
@@ -32,10 +40,13 @@ const USAGE: [&[&str]; 22] = [
 ];
 
 /// Words, each of which asks for help.
-const HELP: [&[&str]; 6] = [
+const HELP: [&[&str]; 9] = [
     &["--help"],
     &["-h"],
     &["--help", "exec"],
+    &["asm", "--help"],
+    &["asm", "-h", "FILE"],
+    &["dis", "--help"],
     &["exec", "--help"],
     &["exec", "-h"],
     &["exec", "--raw", "--help", "FILE"],

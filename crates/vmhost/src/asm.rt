@@ -1,0 +1,65 @@
+//! The command `asm`.
+ghost use Rattle.std.specs.Prelude.{◌≡◌, IfErr, IfOk, IfSome, OnOk};
+ghost use Rattle.std.specs.Io.KnownBytes.{Appends};
+ghost use Rattle.vmhost.specs.Faults.{IsAsmFault, IsAsmRefusal, IsAsmRunFault};
+ghost use Rattle.vmhost.specs.Sources.{IsExecutableOf};
+
+use crate::command_line::Asm;
+use crate::fault::{Fault, file_fault};
+use crate::image_file::whole_file;
+use masm::assemble;
+use std::alloc::Global;
+use std::fs::File;
+use std::io::{Read, Write};
+use std::rt::Files;
+
+/// Assembles the source of a file, and writes the executable into another file, which is opened only once the source is
+/// assembled: where that is refused, the file is as before.
+///
+/// An error is `Asm` with the source's first fault and its line; `File` where the source can't be read or the executable
+/// can't be written, and then the file may have a beginning of it; `Memory` where a request for memory was refused.
+pub fn assemble_file<'a, R: Files + AllocGlobal>(rt: &R, order: Asm<'a>) -> Result<(), Fault<'a>>
+    ensures { IfErr result (λ fault. IsAsmRunFault order.entry fault) }
+{
+    let source = File::open(rt, order.source).map_err(|e| file_fault(order.source, &e))?;
+    let executable = executable_of(rt.alloc(), source, order.source)?;
+    let mut output = File::create(rt, order.output).map_err(|e| file_fault(order.output, &e))?;
+    write_file(&mut output, order.output, &executable)
+}
+
+/// The executable of the source in the file of this name.
+///
+/// An error is `Asm` with the source's first fault and its line, `Memory` where a request for memory was refused, and `File`
+/// where the file can't be read.
+pub fn executable_of<'a, F: Read + Drop>(
+    alloc: Global,
+    file: F,
+    name: &'a str,
+) -> Result<Vec<u8>, Fault<'a>>
+    ensures means { IfSome (F.remaining file) (λ all. IfOk result (λ executable. IsExecutableOf all executable.items)) }
+    ensures refused { IfSome (F.remaining file) (λ all. IfErr result (λ fault. IsAsmRefusal all fault)) }
+    ensures faults { IfErr result (λ fault. IsAsmFault (Fault.File name.entry) fault) }
+{
+    let bytes = whole_file(alloc, file).map_err(|e| file_fault(name, &e))?;
+    executable_in(alloc, &bytes)
+}
+
+/// The executable of the source of these bytes.
+fn executable_in<'a>(alloc: Global, bytes: &[u8]) -> Result<Vec<u8>, Fault<'a>>
+    ensures means { IfOk result (λ executable. IsExecutableOf bytes.now executable.items) }
+    ensures refused { IfErr result (λ fault. IsAsmRefusal bytes.now fault) }
+    ensures faults { IfErr result (λ fault. IsAsmFault Fault.Memory fault) }
+{
+    let text = String::from_utf8_lossy(alloc, bytes)?;
+    Ok(assemble(alloc, &text)?)
+}
+
+/// Writes bytes into the file of this name.
+///
+/// An error is `File` where they can't be written, and `Memory` where a request for memory was refused.
+pub fn write_file<'a, F: Write>(file: &mut F, name: &'a str, bytes: &[u8]) -> Result<(), Fault<'a>>
+    ensures whole { OnOk result (Appends (F.contents file.old) (F.contents file.new) bytes.now) }
+    ensures faults { IfErr result (λ fault. IsAsmFault (Fault.File name.entry) fault) }
+{
+    file.write_all(bytes).map_err(|e| file_fault(name, &e))
+}
