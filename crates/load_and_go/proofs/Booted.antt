@@ -1,5 +1,5 @@
 -- The machine that is booted holds its listing.
-use Rattle.std.proofs.Common.{◌≡◌, ℕ, ◌+◌, ◌-◌, ◌*◌, ◌%◌, ◌^◌, ◌<◌, ◌≤◌, false, List, [], ◌∷◌, map, length, get_or, Some, refl, sym, ap, subst, ◌∙◌, arith}
+use Rattle.std.proofs.Common.{◌≡◌, ℕ, ◌+◌, ◌-◌, ◌*◌, ◌%◌, ◌^◌, ◌<◌, ◌≤◌, false, List, [], ◌∷◌, map, length, get_or, Some, sym, ap, subst, ◌∙◌, arith}
 use Rattle.std.specs.List.{list_any, AllByRecursion}
 use Rattle.std.proofs.lemmas.List.{length-replicate}
 use Rattle.std.proofs.lemmas.List.Elements.{All-from_recursion, recursion_from_All}
@@ -7,10 +7,8 @@ use Rattle.word32.specs.Zeros.{zeros}
 use Rattle.elf32.specs.declared.image.Segment.{Segment}
 use Rattle.elf32.specs.declared.image.Image.{Image}
 use Rattle.elf32.specs.declared.fault.Fault.TheVariants as fault
-use Rattle.elf32.specs.declared.header.ProgramHeader.{ProgramHeader}
-use Rattle.elf32.specs.declared.range.AddressRange.{AddressRange}
 use Rattle.elf32.specs.Images.{IsWithin}
-use Rattle.elf32.specs.Headers.{LoadedSegment, file_header, program_headers, loaded, range_of, ranges, segment_of, shown, range_shown}
+use Rattle.elf32.specs.Headers.{file_header, program_headers, ranges, range_shown}
 use Rattle.elf32.specs.Faults.{has_wrong_contents, overlap, header_faults, range_faults, segment_faults}
 use Rattle.elf32.specs.Files.{StandsFor}
 use Rattle.elf32.proofs.Firsts.{rest_passed, both_passed}
@@ -25,27 +23,15 @@ use Rattle.load_and_go.specs.Holds.{HoldsFrom, Holds}
 use Rattle.load_and_go.proofs.Placing.{IsIn, length-all, all_in}
 use Rattle.load_and_go.proofs.Addresses.{byte_there}
 use Rattle.load_and_go.proofs.Items.{AreAt, holds_from}
+use Rattle.load_and_go.proofs.Ranges.{same_ranges}
 use Rattle.load_and_go.proofs.Same.{segments_same}
-
--- the addresses of what a segment shows
-abbrev range_in : LoadedSegment → AddressRange
-range_in l = record { address = l.address; size = l.size }
-
-ranges_in_shown : (ss : List Segment) → map range_shown ss ≡ map range_in (map shown ss)
-ranges_in_shown [] = refl
-ranges_in_shown (s ∷ ss) = ap (λ (rs : List AddressRange). range_shown s ∷ rs) (ranges_in_shown ss)
-
-ranges_in_file : (file : List ℕ) (hs : List ProgramHeader) → map range_in (map (segment_of file) hs) ≡ map range_of hs
-ranges_in_file file [] = refl
-ranges_in_file file (h ∷ hs) = ap (λ (rs : List AddressRange). range_of h ∷ rs) (ranges_in_file file hs)
 
 -- no two segments of an image that a file stands for share an address
 no_overlap : (file : List ℕ) (pages : ℕ) (image : Image) → StandsFor file pages image → overlap (map range_shown image.segments.items) ≡ false
 no_overlap file pages image stands =
     let rest = rest_passed (header_faults file) (segment_faults file pages) stands.sound in
     let parts = both_passed (list_any (has_wrong_contents (length file)) (program_headers file)) fault.Contents (range_faults pages (file_header file).entry (ranges file)) rest in
-    let same : map range_shown image.segments.items ≡ ranges file = ranges_in_shown image.segments.items ∙ ap (map range_in) stands.segments ∙ ranges_in_file file (loaded file) in
-    ap overlap same ∙ (returning.placed pages (file_header file).entry (ranges file) parts.1).apart
+    ap overlap (same_ranges file pages image stands) ∙ (returning.placed pages (file_header file).entry (ranges file) parts.1).apart
 
 -- where memory has a segment's bytes at their places, they are read at their addresses
 bytes_at_addresses : (m : Machine) (n : ℕ) (s : Segment) → length m.world.memory ≡ n → IsWithin n s → IsWithin (131072 * 4096) s → IsIn m.world.memory s → AreAt m s.address s.bytes.items

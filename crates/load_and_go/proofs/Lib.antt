@@ -1,6 +1,8 @@
-pub mod Placing
 pub mod Addresses
-pub mod Items
-pub mod Same
 pub mod Booted
+pub mod Items
+pub mod Placing
+pub mod Ranges
+pub mod Refused
+pub mod Same
 pub mod Told

@@ -1,5 +1,5 @@
 -- What the calls have answered, put together.
-use Rattle.std.proofs.Common.{◌≡◌, ℕ, List, sym, subst, Result, Ok, Err}
+use Rattle.std.proofs.Common.{◌≡◌, ◌∙◌, ℕ, List, sym, subst, Result, Ok, Err}
 use Rattle.std.specs.Prelude.{IfErr}
 use Rattle.std.specs.Result.{IsErrAnd}
 use Rattle.elf32.specs.declared.image.Image.{Image}
@@ -14,6 +14,7 @@ use Rattle.load_and_go.specs.Executables.{IsExecutableOf}
 use Rattle.load_and_go.specs.Errors.{IsErrorOf, of_reading}
 use Rattle.load_and_go.specs.Holds.{Holds}
 use Rattle.load_and_go.specs.declared.error.BootError.{BootError}
+use Rattle.load_and_go.proofs.Refused.{executable_fault}
 
 -- an error that `?` has made of another one is as that one says
 pub error_told : {A : Type 0} (P : BootError → Type 0) (r : Result A BootError) (e : BootError) → IsErrAnd r (λ x. x ≡ e) → P e → IfErr r P
@@ -26,7 +27,7 @@ executable_told text file h = record { listing = h.0; image = h.1; means = h.2; 
 
 -- a refusal of the text's executable is an error of the text
 pub refusal_told : (text file : List ℕ) (pages : ℕ) (e : ElfError) → IsExecutableOf text file → IsRefusal file pages e → IsErrorOf text pages (of_reading e)
-refusal_told text file pages (elf.Fault fault) is h = record { file = file; executable = is; first = h }
+refusal_told text file pages (elf.Fault fault) is h = record { file = file; executable = is; first = h; past = sym (executable_fault is.listing is.image file pages is.assembled is.written) ∙ h }
 refusal_told text file pages elf.Memory is h = tt
 
 -- what one machine holds, the same machine holds

@@ -12,3 +12,6 @@ pub mod laws;
 
 pub use boot::{boot_text, flat_text};
 pub use error::BootError;
+
+#[cfg(test)]
+mod tests;
