@@ -1,5 +1,5 @@
 -- The machine that is booted holds its listing.
-use Rattle.std.proofs.Common.{◌≡◌, ℕ, ◌+◌, ◌-◌, ◌*◌, ◌%◌, ◌^◌, ◌<◌, ◌≤◌, false, List, [], ◌∷◌, map, length, get_or, Some, sym, ap, subst, ◌∙◌, arith}
+use Rattle.std.proofs.Common.{◌≡◌, ℕ, ◌+◌, ◌-◌, ◌*◌, ◌%◌, ◌^◌, false, List, [], ◌∷◌, map, length, get_or, Some, sym, ap, subst, ◌∙◌, arith}
 use Rattle.std.specs.List.{list_any, AllByRecursion}
 use Rattle.std.proofs.lemmas.List.{length-replicate}
 use Rattle.std.proofs.lemmas.List.Elements.{All-from_recursion, recursion_from_All}
@@ -17,7 +17,7 @@ use Rattle.elf32.proofs.Returning as returning
 use Rattle.masm.specs.Listings.{Part, Listing}
 use Rattle.masm.specs.Images.{IsSegmentOf, AreSegmentsOf, IsImageOf}
 use Rattle.mips_step.specs.Step.{Machine}
-use Rattle.flatvm.specs.Boot.{boot_memory, boot_machine}
+use Rattle.flatvm.specs.Boot.{boot_machine}
 use Rattle.flatvm.specs.Replies.{byte_at}
 use Rattle.load_and_go.specs.Holds.{HoldsFrom, Holds}
 use Rattle.load_and_go.proofs.Placing.{IsIn, length-all, all_in}
@@ -43,6 +43,7 @@ bytes_at_addresses m n s size is reached held k below =
     ∙ ap (λ (p : ℕ). Some (get_or m.world.memory p 0)) place
     ∙ ap Some (held k below)
 
+-- where a segment's bytes are read at their addresses, its part is held
 part_held : (m : Machine) (part : Part) (s : Segment) → IsSegmentOf part s → AreAt m s.address s.bytes.items → HoldsFrom m part.address part.items
 part_held m part s is all = subst (λ (n : ℕ). HoldsFrom m n part.items) is.address (holds_from m s.address part.items s.bytes.items is.bytes all)
 
@@ -53,10 +54,12 @@ parts_held m n (part ∷ parts) [] size is reached held all = absurd all
 parts_held m n (part ∷ parts) (s ∷ ss) size is reached held all =
     (part_held m part s all.0 (bytes_at_addresses m n s size is.0 reached.0 held.0), parts_held m n parts ss size is.1 reached.1 held.1 all.1)
 
+-- how many zeros there are
 length-zeros : (n : ℕ) → length (zeros n) ≡ n
 unfolding zeros
 length-zeros n = length-replicate n 0
 
+-- the machine that is booted from what is read holds the listing of what was assembled
 pub machine_holds : (listing : Listing) (assembled read : Image) (file : List ℕ) (pages : ℕ) → IsImageOf listing assembled → StandsFor file 131072 assembled → StandsFor file pages read → Holds (boot_machine read pages) listing
 machine_holds listing assembled read file pages image written stands =
     let ss = read.segments.items in

@@ -17,12 +17,12 @@ item_length : (item : Item) (bytes : List ℕ) → StandFor bytes item → lengt
 item_length (Code i) bytes h = ap length h.1
 item_length (Bytes written) bytes h = ap length h
 
--- what stands before other bytes
+-- bytes at their addresses, and so those of them that stand first
 at_first : (m : Machine) (address : ℕ) (first more : List ℕ) → AreAt m address (first ++ more) → AreAt m address first
 at_first m address first more all k below =
     all k (omega (arith, length-append first more)) ∙ ap Some (get_or_append_left first more 0 k below)
 
--- and behind them
+-- and those behind the first
 at_more : (m : Machine) (address : ℕ) (first more : List ℕ) → AreAt m address (first ++ more) → AreAt m (address + length first) more
 at_more m address first more all k below =
     let same : address + length first + k ≡ address + (length first + k) = omega arith in
@@ -30,6 +30,7 @@ at_more m address first more all k below =
     ∙ all (length first + k) (omega (arith, length-append first more))
     ∙ ap Some (get_or-append-add first more k 0)
 
+-- where the bytes of an item are read at their addresses, the item is held
 holds_item : (m : Machine) (address : ℕ) (item : Item) (bytes : List ℕ) → StandFor bytes item → AreAt m address bytes → HoldsItem m address item
 holds_item m address item bytes stands all =
     (bytes, ap (bytes_at m address) (sym (item_length item bytes stands)) ∙ read_whole m address bytes all, stands)

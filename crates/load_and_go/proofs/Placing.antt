@@ -1,5 +1,5 @@
 -- What memory has once segments are placed.
-use Rattle.std.proofs.Common.{◌≡◌, ℕ, ◌+◌, ◌-◌, ◌<◌, ◌≤◌, ◌⊎◌, inl, inr, false, List, [], ◌∷◌, ◌++◌, length, take, drop, get_or, fold, map, refl, sym, ap, ◌∙◌, arith, length-append, length-take, length-drop}
+use Rattle.std.proofs.Common.{◌≡◌, ℕ, ◌+◌, ◌-◌, ◌<◌, ◌≤◌, ◌⊎◌, inl, inr, false, List, [], ◌∷◌, ◌++◌, length, take, drop, get_or, fold, map, refl, ap, ◌∙◌, arith, length-append, length-take, length-drop}
 use Rattle.std.specs.List.{list_any, AllByRecursion}
 use Rattle.std.proofs.lemmas.Bool.Decides.{nat_tests}
 use Rattle.std.proofs.lemmas.List.{get_or_append_left, get_or-append_right, get_or-take, get_or-drop}
@@ -16,6 +16,7 @@ use Rattle.flatvm.specs.Boot.{placed}
 length-patched : (memory new : List ℕ) (i : ℕ) → i + length new ≤ length memory → length (patched memory i new (length new)) ≡ length memory
 length-patched memory new i h = omega (arith, length-append (take i memory ++ new) (drop (i + length new) memory), length-append (take i memory) new, length-take i memory, length-drop (i + length new) memory)
 
+-- how many bytes come before those that stay behind them
 front : (memory new : List ℕ) (i : ℕ) → i + length new ≤ length memory → length (take i memory ++ new) ≡ i + length new
 front memory new i h = omega (arith, length-append (take i memory) new, length-take i memory)
 
@@ -51,6 +52,7 @@ IsIn memory s = (k : ℕ) → k < length s.bytes.items → get_or memory (s.addr
 abbrev Misses : ℕ → Segment → Type 0
 Misses p s = (p < s.address - 0x80000000) ⊎ (s.address - 0x80000000 + length s.bytes.items ≤ p)
 
+-- a segment within a memory has room for its bytes there
 room : (n : ℕ) (s : Segment) → IsWithin n s → s.address - 0x80000000 + length s.bytes.items ≤ n
 room n s is = omega (arith, is.file_part, is.start, is.end)
 
@@ -74,6 +76,7 @@ kept memory n p (s ∷ ss) e within misses =
 apart : (r x : AddressRange) → share_address r x ≡ false → (x.address + x.size ≤ r.address) ⊎ (r.address + r.size ≤ x.address)
 apart r x h = grind (arith, nat_tests)
 
+-- the place of a segment's byte is none of a segment's that lies before it or behind it
 missed : (n k : ℕ) (s t : Segment) → IsWithin n s → IsWithin n t → k < length s.bytes.items → (t.address + t.size ≤ s.address) ⊎ (s.address + s.size ≤ t.address) → Misses (s.address - 0x80000000 + k) t
 missed n k s t own is below (inl left) = inr (omega (arith, own.start, is.file_part, is.start))
 missed n k s t own is below (inr right) = inl (omega (arith, own.file_part, own.start, is.start))

@@ -11,10 +11,12 @@ use Rattle.elf32.specs.Files.{StandsFor}
 abbrev range_in : LoadedSegment → AddressRange
 range_in l = record { address = l.address; size = l.size }
 
+-- segments have the addresses of what they show
 ranges_in_shown : (ss : List Segment) → map range_shown ss ≡ map range_in (map shown ss)
 ranges_in_shown [] = refl
 ranges_in_shown (s ∷ ss) = ap (λ (rs : List AddressRange). range_shown s ∷ rs) (ranges_in_shown ss)
 
+-- the segments of program headers have the headers' addresses
 ranges_in_file : (file : List ℕ) (hs : List ProgramHeader) → map range_in (map (segment_of file) hs) ≡ map range_of hs
 ranges_in_file file [] = refl
 ranges_in_file file (h ∷ hs) = ap (λ (rs : List AddressRange). range_of h ∷ rs) (ranges_in_file file hs)

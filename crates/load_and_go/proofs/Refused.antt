@@ -1,5 +1,5 @@
 -- The fault of a listing's executable for a machine with some pages.
-use Rattle.std.proofs.Common.{◌≡◌, ℕ, ◌+◌, ◌*◌, ◌≤◌, Bool, true, false, ◌||◌, nat_lt, if◌then◌else◌, Option, Some, None, List, [], ◌∷◌, ◌++◌, map, length, refl, sym, ap, ◌∙◌}
+use Rattle.std.proofs.Common.{◌≡◌, ℕ, ◌+◌, ◌*◌, Bool, true, false, ◌||◌, nat_lt, if◌then◌else◌, Some, None, List, [], ◌∷◌, ◌++◌, map, length, refl, sym, ap, ◌∙◌}
 use Rattle.std.specs.List.{list_any}
 use Rattle.elf32.specs.declared.image.Segment.{Segment}
 use Rattle.elf32.specs.declared.image.Image.{Image}
@@ -29,6 +29,7 @@ place_decides : (b : Bool) (later : List (Bool × Fault)) → first_fault_of lat
 place_decides true later h = refl
 place_decides false later h = h
 
+-- where ranges have no fault but that of a place, places decide
 ranges_decide : (pages entry : ℕ) (rs : List AddressRange) → is_empty rs ≡ false → overlap rs ≡ false → has_wrong_entry entry rs ≡ false → first_fault_of (range_faults pages entry rs) ≡ (if list_any (is_outside pages) rs then Some fault.Place else None)
 ranges_decide pages entry rs some apart entered =
     let last = (has_wrong_entry entry rs, fault.Entry) ∷ [] in
@@ -55,6 +56,7 @@ outside_past : (start past : Bool) → start ≡ false → (start || past) ≡ p
 outside_past true past h = cc
 outside_past false past h = refl
 
+-- a segment within kseg0 is outside where its part passes the pages
 outside_passes : (pages : ℕ) (part : Part) (s : Segment) → IsSegmentOf part s → is_outside 131072 (range_shown s) ≡ false → is_outside pages (range_shown s) ≡ passes pages part
 outside_passes pages part s is within =
     let edges = neither (nat_lt s.address 0x80000000) (nat_lt (0x80000000 + 4096 * 131072) (s.address + s.size)) within in
@@ -73,6 +75,7 @@ some_passes pages (part ∷ parts) (s ∷ ss) all within =
     ap (λ (b : Bool). b || list_any (is_outside pages) (map range_shown ss)) (outside_passes pages part s all.0 both.0)
     ∙ ap (λ (b : Bool). passes pages part || b) (some_passes pages parts ss all.1 both.1)
 
+-- the executable of a listing has the fault of a place where a part passes the pages, and no other
 pub executable_fault : (listing : Listing) (assembled : Image) (file : List ℕ) (pages : ℕ) → IsImageOf listing assembled → StandsFor file 131072 assembled → first_fault file pages ≡ fault_of pages listing
 executable_fault listing assembled file pages image written =
     let entry = (file_header file).entry in

@@ -22,8 +22,9 @@ use std::alloc::Global;
 /// holds the listing's instruction or data, and PC is its entry; the rest is as a machine boots. The log, of at most
 /// `log_runs` runs, is empty.
 ///
-/// The error is `Assembler` with the text's first fault, then `Executable` with the first fault of its executable for so
-/// many pages; or `Memory`, where a request for memory was refused.
+/// The error is `Assembler` with the text's first fault, then `Executable` with the first fault that its executable has for
+/// so many pages, which is `Place`: a part of the listing passes their end. It is `Memory` where a request for memory was
+/// refused. An error leaves nothing behind.
 pub fn boot_text(alloc: Global, text: &str, pages: u32, log_runs: u32) -> Result<Guest, BootError>
     // The guest's machine holds the listing that the text means.
     ensures machine { IfOk result (λ g. (listing : Listing) × Means text.now listing × Holds g.machine listing) }

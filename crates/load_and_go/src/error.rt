@@ -14,7 +14,8 @@ pub enum BootError {
     /// The text's first fault and its line, counted from 1; 0 where the fault is of no line.
     #[error("asm {number} line {line}", number = .fault.number())]
     Assembler { fault: AsmFault, line: u64 },
-    /// The first fault that the text's executable has for a machine with so many pages.
+    /// The first fault that the text's executable has for a machine with so many pages: `Place`, since a part of the listing
+    /// passes their end.
     #[error("elf {number}", number = .fault.number())]
     Executable { fault: Fault },
     /// A request for memory was refused.

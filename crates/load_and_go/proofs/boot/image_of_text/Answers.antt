@@ -1,4 +1,4 @@
-use Rattle.std.proofs.Common.{ℕ, List, sym, subst}
+use Rattle.std.proofs.Common.{ℕ, List, subst}
 use Rattle.elf32.specs.Files.{StandsFor, IsRefusal}
 use Rattle.load_and_go.specs.Errors.{IsErrorOf, of_reading}
 use Rattle.load_and_go.proofs.Told.{error_told, executable_told, refusal_told}
