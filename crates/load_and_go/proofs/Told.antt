@@ -2,15 +2,13 @@
 use Rattle.std.proofs.Common.{◌≡◌, ◌∙◌, ℕ, List, sym, subst, Result, Ok, Err}
 use Rattle.std.specs.Prelude.{IfErr}
 use Rattle.std.specs.Result.{IsErrAnd}
-use Rattle.elf32.specs.declared.image.Image.{Image}
 use Rattle.elf32.specs.declared.fault.ElfError.{ElfError}
 use Rattle.elf32.specs.declared.fault.ElfError.TheVariants as elf
-use Rattle.elf32.specs.Files.{StandsFor, IsRefusal}
+use Rattle.elf32.specs.Files.{IsRefusal}
 use Rattle.masm.specs.Assembly.{Means}
-use Rattle.masm.specs.Images.{IsImageOf}
 use Rattle.masm.specs.Listings.{Listing}
 use Rattle.mips_step.specs.Step.{Machine}
-use Rattle.load_and_go.specs.Executables.{IsExecutableOf}
+use Rattle.masm.specs.Executables.{IsExecutableOf}
 use Rattle.load_and_go.specs.Errors.{IsErrorOf, of_reading}
 use Rattle.load_and_go.specs.Holds.{Holds}
 use Rattle.load_and_go.specs.declared.error.BootError.{BootError}
@@ -20,10 +18,6 @@ use Rattle.load_and_go.proofs.Refused.{executable_fault}
 pub error_told : {A : Type 0} (P : BootError → Type 0) (r : Result A BootError) (e : BootError) → IsErrAnd r (λ x. x ≡ e) → P e → IfErr r P
 error_told P (Ok a) e h p = absurd h
 error_told P (Err x) e h p = subst P (sym h) p
-
--- what the assembler has answered is the executable of the text
-pub executable_told : (text file : List ℕ) → (listing : Listing) × (image : Image) × Means text listing × IsImageOf listing image × StandsFor file 131072 image → IsExecutableOf text file
-executable_told text file h = record { listing = h.0; image = h.1; means = h.2; assembled = h.3; written = h.4 }
 
 -- a refusal of the text's executable is an error of the text
 pub refusal_told : (text file : List ℕ) (pages : ℕ) (e : ElfError) → IsExecutableOf text file → IsRefusal file pages e → IsErrorOf text pages (of_reading e)

@@ -1,4 +1,4 @@
--- The executable of a text, and the image that is read of it.
+-- What is read of the executable of a text.
 use Rattle.std.specs.Prelude.{◌≡◌, ℕ, ◌+◌, ◌*◌, Bool, nat_lt, if◌then◌else◌, List, Option, Some, None}
 use Rattle.std.specs.List.{list_any}
 use Rattle.elf32.specs.declared.fault.Fault.{Fault}
@@ -6,17 +6,8 @@ use Rattle.elf32.specs.declared.fault.Fault.TheVariants.{Place}
 use Rattle.elf32.specs.declared.image.Image.{Image}
 use Rattle.elf32.specs.Faults.{first_fault}
 use Rattle.elf32.specs.Files.{StandsFor}
+use Rattle.masm.specs.Executables.{IsExecutableOf}
 use Rattle.masm.specs.Listings.{Part, Listing, part_size}
-use Rattle.masm.specs.Images.{IsImageOf}
-use Rattle.masm.specs.Assembly.{Means}
-
--- the file stands for an image of the listing that the text means, for a machine with the 131072 pages that kseg0 reaches
-pub record IsExecutableOf (text file : List ℕ) : Type 0 where
-  pub listing : Listing
-  pub image : Image
-  pub means : Means text listing
-  pub assembled : IsImageOf listing image
-  pub written : StandsFor file 131072 image
 
 -- an image that the text's executable stands for, for a machine with some pages
 pub record IsReadFrom (text : List ℕ) (pages : ℕ) (image : Image) : Type 0 where

@@ -3,6 +3,7 @@ pub mod Assembly
 pub mod Characters
 pub mod Classes
 pub mod Disassembly
+pub mod Executables
 pub mod Faults
 pub mod Grammar
 pub mod Images

@@ -1,10 +1,9 @@
 //! Assembling.
 ghost use Rattle.std.specs.Prelude.{◌≡◌, map, IfOk, IfErr, IfSome, Some};
 ghost use Rattle.std.specs.Str.Lines.{lines};
-ghost use Rattle.elf32.specs.Files.{StandsFor};
-ghost use Rattle.elf32.specs.declared.image.Image as elf;
 ghost use Rattle.masm.specs.Answers.{fault_in};
 ghost use Rattle.masm.specs.Assembly.{Means, first_fault};
+ghost use Rattle.masm.specs.Executables.{IsExecutableOf};
 ghost use Rattle.masm.specs.Images.{IsImageOf};
 ghost use Rattle.masm.specs.Listings.{Listing};
 ghost use Rattle.masm.specs.Views.{text_view};
@@ -32,8 +31,8 @@ pub fn assemble_image(alloc: Global, text: &str) -> Result<Image, AsmError>
 /// The ELF32 executable of the listing that a text means: a machine with the 131072 pages that kseg0 reaches can load it.
 /// The error is the text's first fault with its line, or comes where memory is refused.
 pub fn assemble(alloc: Global, text: &str) -> Result<Vec<u8>, AsmError>
-    // What is answered is the file of an image that stands for the listing that the text means.
-    ensures file { IfOk result (λ file. (listing : Listing) × (image : elf.Image) × Means text.now listing × IsImageOf listing image × StandsFor file.items 131072 image) }
+    // What is answered stands for an image of the listing that the text means.
+    ensures file { IfOk result (λ file. IsExecutableOf text.now file.items) }
     // A refusal for another cause than memory is the text's first fault, with its line.
     ensures fault { IfErr result (λ error. IfSome (fault_in error) (λ fault. first_fault text.now ≡ Some fault)) }
 {

@@ -1,8 +1,9 @@
 //! The command `asm`.
 ghost use Rattle.std.specs.Prelude.{◌≡◌, IfErr, IfOk, IfSome, OnOk};
 ghost use Rattle.std.specs.Io.KnownBytes.{Appends};
+ghost use Rattle.masm.specs.Executables.{IsExecutableOf};
 ghost use Rattle.vmhost.specs.Faults.{IsAsmFault, IsAsmRefusal, IsAsmRunFault};
-ghost use Rattle.vmhost.specs.Sources.{IsExecutableOf};
+ghost use Rattle.vmhost.specs.Sources.{source_text};
 
 use crate::command_line::Asm;
 use crate::fault::{Fault, file_fault};
@@ -36,7 +37,7 @@ pub fn executable_of<'a, F: Read + Drop>(
     file: F,
     name: &'a str,
 ) -> Result<Vec<u8>, Fault<'a>>
-    ensures means { IfSome (F.remaining file) (λ all. IfOk result (λ executable. IsExecutableOf all executable.items)) }
+    ensures means { IfSome (F.remaining file) (λ all. IfOk result (λ executable. IsExecutableOf (source_text all) executable.items)) }
     ensures refused { IfSome (F.remaining file) (λ all. IfErr result (λ fault. IsAsmRefusal all fault)) }
     ensures faults { IfErr result (λ fault. IsAsmFault (Fault.File name.entry) fault) }
 {
@@ -46,7 +47,7 @@ pub fn executable_of<'a, F: Read + Drop>(
 
 /// The executable of the source of these bytes.
 fn executable_in<'a>(alloc: Global, bytes: &[u8]) -> Result<Vec<u8>, Fault<'a>>
-    ensures means { IfOk result (λ executable. IsExecutableOf bytes.now executable.items) }
+    ensures means { IfOk result (λ executable. IsExecutableOf (source_text bytes.now) executable.items) }
     ensures refused { IfErr result (λ fault. IsAsmRefusal bytes.now fault) }
     ensures faults { IfErr result (λ fault. IsAsmFault Fault.Memory fault) }
 {

@@ -1,7 +1,7 @@
 use Rattle.std.proofs.Common.{ℕ, List, subst}
 use Rattle.elf32.specs.Files.{StandsFor, IsRefusal}
 use Rattle.load_and_go.specs.Errors.{IsErrorOf, of_reading}
-use Rattle.load_and_go.proofs.Told.{error_told, executable_told, refusal_told}
+use Rattle.load_and_go.proofs.Told.{error_told, refusal_told}
 use Rattle.load_and_go.proofs.boot.image_of_text.Goals as goal
 
 pub returns-in_err-read-clause-refused : goal.returns-in_err-read-clause-refused
@@ -10,11 +10,11 @@ returns-in_err-read-clause-refused c =
     let file = c.in_ok-file.file.items in
     let e = c.in_err-read.field-0.0 in
     error_told (IsErrorOf text c.args.pages) c.from_residual-in_err-read.result (of_reading e) c.from_residual-in_err-read.ensures.1
-    (refusal_told text file c.args.pages e (executable_told text file c.in_ok-file.ensures.file) (subst (λ (b : List ℕ). IsRefusal b c.args.pages e) c.deref.ensures.value c.in_err-read.ensures.refused))
+    (refusal_told text file c.args.pages e c.in_ok-file.ensures.file (subst (λ (b : List ℕ). IsRefusal b c.args.pages e) c.deref.ensures.value c.in_err-read.ensures.refused))
 
 pub returns-clause-read : goal.returns-clause-read
 returns-clause-read c = record {
   file = c.in_ok-file.file.items;
-  executable = executable_told c.args.text.now c.in_ok-file.file.items c.in_ok-file.ensures.file;
+  executable = c.in_ok-file.ensures.file;
   stands = subst (λ (b : List ℕ). StandsFor b c.args.pages c.in_ok-read.field-0) c.deref.ensures.value c.in_ok-read.ensures.ok;
 }

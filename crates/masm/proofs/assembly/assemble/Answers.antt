@@ -8,4 +8,4 @@ returns-clause-file c =
     let image = c.in_ok-image.image in
     let found = c.in_ok-image.ensures.image in
     let stands = c.written_file_stands_for_its_image.ensures.stands image 131072 (loadable c.args.text.now found.0 image found.1 found.2) in
-    (found.0, image, found.1, found.2, subst (λ file. StandsFor file 131072 image) (sym c.in_ok-write.ensures) stands)
+    record { listing = found.0; image = image; means = found.1; assembled = found.2; written = subst (λ file. StandsFor file 131072 image) (sym c.in_ok-write.ensures) stands }
