@@ -1,6 +1,7 @@
 //! Images at the edge of a memory, files that are read and files that are refused.
 mod beginnings;
 mod files;
+mod memory;
 mod refusals;
 mod single;
 

@@ -1,9 +1,11 @@
 //! Sources with their words and their faults, worked out from the rules.
 mod beginnings;
 mod corners;
+mod executables;
 mod faults;
 mod images;
 mod instructions;
+mod memory;
 mod rows;
 
 use crate::{AsmError, assemble_image, listing};
