@@ -1,6 +1,6 @@
 //! The faults of a text.
-ghost use Rattle.std.specs.Prelude.{◌≡◌};
-ghost use Rattle.masm.specs.Faults.{fault_number, located};
+ghost use Rattle.std.specs.Prelude.{◌≡◌, Some};
+ghost use Rattle.masm.specs.Faults.{fault_number, fault_text, located};
 
 use std::alloc::AllocError;
 use std::fmt;
@@ -50,6 +50,8 @@ impl AsmFault {
 }
 
 impl fmt::Display for AsmFault {
+    ghost output = { λ fault. Some (fault_text fault) };
+
     fn fmt<W: fmt::Write>(&self, f: &mut fmt::Formatter<W>) -> fmt::Result {
         f.write_str(match *self {
             AsmFault::Syntax => "syntax",
