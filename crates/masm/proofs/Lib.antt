@@ -1,5 +1,6 @@
 pub mod Answered
 pub mod Bytes
+pub mod DecodedFields
 pub mod Digits
 pub mod DisassemblyLines
 pub mod Fronts
@@ -15,5 +16,12 @@ pub mod OutputSteps
 pub mod OutputWhole
 pub mod OutputWords
 pub mod Passes
+pub mod PrintedInstructions
+pub mod PrintedLines
+pub mod PrintedNames
+pub mod PrintedNumbers
+pub mod PrintedOperands
+pub mod PrintedRanges
 pub mod Signs
 pub mod Spans
+pub mod TakenApart

@@ -1,6 +1,14 @@
 //! Laws of the definitions: a line is read as the instruction that is printed as that line.
-ghost use Rattle.mips_isa.specs.Table.{special_rows, regimm_rows, special2_rows, cop0_rows, opcode_rows, memory_rows};
-ghost use Rattle.masm.specs.Laws.{AreNamed};
+ghost use Rattle.std.specs.Prelude.{◌≡◌, ℕ, ◌≤◌, ◌<◌, ◌%◌, ◌∷◌, [], codes, Some, Ok};
+ghost use Rattle.mips_isa.specs.Table.{readings, special_rows, regimm_rows, special2_rows, cop0_rows, opcode_rows, memory_rows};
+ghost use Rattle.mips_isa.specs.declared.instr.Instr.{Instr};
+ghost use Rattle.mips_isa.specs.declared.instr.Instr.TheVariants.{Branch};
+ghost use Rattle.mips_isa.specs.Text.{instr_text};
+ghost use Rattle.mips_isa.specs.declared.instr.BranchOp.TheVariants.{Beq};
+ghost use Rattle.masm.specs.Assembly.{assembly, first_fault};
+ghost use Rattle.masm.specs.Laws.{AreNamed, HasFields, LinePuts, item_printed};
+ghost use Rattle.masm.specs.Meanings.{Code};
+ghost use Rattle.masm.specs.declared.error.AsmFault.TheVariants as fault;
 
 /// A law: the instruction of each row of the table is found by the name by which it is printed.
 #[tactic(auto, unfolding(crate::specs::Mnemonics::named_instruction))]
@@ -11,4 +19,24 @@ pub fn each_row_is_named()
     ensures cop0 { AreNamed cop0_rows }
     ensures opcode { AreNamed opcode_rows }
     ensures memory { AreNamed memory_rows }
+{}
+
+/// A law: the line that is printed of an instruction at an address where one may stand is read as that instruction there;
+/// the line of an instruction of coprocessor 1 or 2 as its word.
+pub fn printed_line_means_its_instruction()
+    ensures line { (i : Instr) (address : ℕ) → HasFields i → address % 4 ≡ 0 → 0x80000000 ≤ address → address < 0xa0000000 → LinePuts (instr_text i address) address (item_printed i) }
+    // Each word's instruction is such a one.
+    ensures table { (word : ℕ) (i : Instr) → readings word ≡ i ∷ [] → HasFields i }
+{}
+
+/// Worked texts: the first fault of each, with its line, and the farthest branch with its word.
+pub fn texts_worked_out()
+    ensures no_content { first_fault (codes "") ≡ Some (fault.Empty, 0) }
+    ensures two_labels { first_fault (codes "a: a: eret") ≡ Some (fault.Syntax, 1) }
+    ensures name_twice { first_fault (codes "x: eret\nx: eret\n") ≡ Some (fault.DoubleName, 2) }
+    ensures unknown_name { first_fault (codes "j nowhere") ≡ Some (fault.UnknownName, 1) }
+    ensures place { first_fault (codes ".org 0x80000002\neret\n") ≡ Some (fault.Place, 2) }
+    ensures too_far { first_fault (codes "beq $0,$0,0x80020004") ≡ Some (fault.Range, 1) }
+    ensures farthest { assembly (codes "beq $0,$0,0x80020000") ≡ Ok (record { parts = record { address = 0x80000000; items = Code (Branch Beq 0 0 0x7fff) ∷ [] } ∷ []; entry = 0x80000000 }) }
+    ensures word { readings 0x10007fff ≡ Branch Beq 0 0 0x7fff ∷ [] }
 {}
