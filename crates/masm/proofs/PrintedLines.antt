@@ -23,10 +23,11 @@ unfolding label_of
 no_label name more h =
     rw (front_stops continues_name name 32 more h refl, get_or-append_seam name 32 more 0, and-false (is_name (take (length name) (name ++ 32 ∷ more)))) refl
 
--- a line of dense texts is its own body
+-- a line of dense texts has no comment
 no_comment : (name ops : List ℕ) → list_all is_dense name ≡ true → list_all is_dense ops ≡ true → list_all (λ c. not (begins_comment c)) (name ++ 32 ∷ ops) ≡ true
 no_comment name ops n o = all_of_two (λ c. not (begins_comment c)) name (32 ∷ ops) (all_imply is_dense (λ c. not (begins_comment c)) dense_no_comment name n) (all_imply is_dense (λ c. not (begins_comment c)) dense_no_comment ops o)
 
+-- a line of dense texts is its own body
 whole_body : (name ops : List ℕ) → 0 < length name → 0 < length ops → list_all is_dense name ≡ true → list_all is_dense ops ≡ true → body_of (name ++ 32 ∷ ops) ≡ name ++ 32 ∷ ops
 unfolding body_of
 whole_body [] ops some more n o = absurd (omega (arith, some))
@@ -43,11 +44,13 @@ blank_skipped [] some o = refl
 blank_skipped (c ∷ ops) some o =
     rw (is_false (is_blank c) (dense_no_blank c (both (is_dense c) (list_all is_dense ops) o).0)) refl
 
+-- a name and operands are read as their statement
 statement_read : (name ops : List ℕ) (o : Operation) (ws : List Written) (s : Statement) → list_all is_dense name ≡ true → operation_of name ≡ Ok o → AreOperands ops ws → statement_of o ws ≡ Ok s → statement_in (name ++ 32 ∷ ops) ≡ Ok s
 unfolding statement_in
 statement_read name ops o ws s dense named are is =
     rw (before_it is_blank name 32 ops (all_imply is_dense (λ x. not (is_blank x)) dense_no_blank name dense) refl, named, drop-append_seam name (32 ∷ ops), blank_skipped ops are.some are.dense, are.read) is
 
+-- a line is read as the statement of its name and operands
 pub line_read : (name ops : List ℕ) (o : Operation) (ws : List Written) (s : Statement) → 0 < length name → list_all is_dense name ≡ true → label_of (name ++ 32 ∷ ops) ≡ None → operation_of name ≡ Ok o → AreOperands ops ws → statement_of o ws ≡ Ok s → line_of (name ++ 32 ∷ ops) ≡ Ok (record { label = None; statement = Some s })
 unfolding line_of statement_or_nothing
 line_read name ops o ws s some dense unlabelled named are is =

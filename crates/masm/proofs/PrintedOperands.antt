@@ -12,10 +12,12 @@ use Rattle.masm.specs.Operands.{Register, Plain, Number, Based, written_of, base
 use Rattle.masm.proofs.TakenApart.{is_solid, IsOperand, all_of_two, none_pass, before_it, behind_it}
 use Rattle.masm.proofs.PrintedNumbers.{AllBelow, below, IsNumber}
 
+-- a number is read as an operand
 plain : (text : List ℕ) (z : ℤ) → IsNumber text z → written_of text ≡ Some (Plain (Number z))
 unfolding written_of
 plain text z is = rw (is.no_name, is.no_register, none_pass is_open text is.closed, is.reads) refl
 
+-- a number is an operand
 pub number_operand : (text : List ℕ) (z : ℤ) → IsNumber text z → IsOperand text (Plain (Number z))
 number_operand text z is = record {
   some = is.some;
@@ -30,6 +32,7 @@ pub record PrintsRegister (r : ℕ) : Type 0 where
   pub solid : list_all is_solid (decimal r) ≡ true
   pub reads : register_of (codes "$" ++ decimal r) ≡ Some r
 
+-- so is each register
 registers : AllBelow PrintsRegister 32
 unfolding written_of register_of digits
 registers =
@@ -67,6 +70,7 @@ registers =
     let is31 : PrintsRegister 31 = record { operand = record { some = ltb-true 0 3 refl; solid = refl; reads = refl }; ends = refl; solid = refl; reads = refl } in
     ((((((((((((((((((((((((((((((((tt, is0), is1), is2), is3), is4), is5), is6), is7), is8), is9), is10), is11), is12), is13), is14), is15), is16), is17), is18), is19), is20), is21), is22), is23), is24), is25), is26), is27), is28), is29), is30), is31)
 
+-- a printed register is an operand
 pub register_operand : (r : ℕ) → r < 32 → IsOperand (codes "$" ++ decimal r) (Register r)
 register_operand r h = (below PrintsRegister 32 registers r h).operand
 
@@ -78,6 +82,7 @@ based text z r is base =
     let size : length ((36 ∷ decimal r) ++ 41 ∷ []) - 1 ≡ length (36 ∷ decimal r) = omega (arith, length-append (36 ∷ decimal r) (41 ∷ [])) in
     rw (is.no_name_before (40 ∷ ((36 ∷ decimal r) ++ 41 ∷ [])), is.no_register_before (40 ∷ ((36 ∷ decimal r) ++ 41 ∷ [])), opens, behind_it is_open text 40 ((36 ∷ decimal r) ++ 41 ∷ []) is.closed refl, before_it is_open text 40 ((36 ∷ decimal r) ++ 41 ∷ []) is.closed refl, size, get_or-append_seam (36 ∷ decimal r) 41 [] 0, take-append_seam (36 ∷ decimal r) (41 ∷ []), is.reads, base.reads) refl
 
+-- an offset with its base is an operand
 behind_number : (text : List ℕ) (z : ℤ) (r : ℕ) → IsNumber text z → r < 32 → IsOperand (text ++ 40 ∷ ((36 ∷ decimal r) ++ 41 ∷ [])) (Based z r)
 behind_number text z r is h =
     let base = below PrintsRegister 32 registers r h in
@@ -87,6 +92,7 @@ behind_number text z r is h =
       reads = based text z r is base;
     }
 
+-- the same in the words of the printer
 pub based_operand : (text : List ℕ) (z : ℤ) (r : ℕ) → IsNumber text z → r < 32 → IsOperand (text ++ codes "($" ++ decimal r ++ codes ")") (Based z r)
 based_operand text z r is h =
     let same : ((text ++ codes "($") ++ decimal r) ++ codes ")" ≡ text ++ 40 ∷ ((36 ∷ decimal r) ++ 41 ∷ []) = append_assoc (text ++ codes "($") (decimal r) (codes ")") ∙ append_assoc text (codes "($") (decimal r ++ codes ")") in

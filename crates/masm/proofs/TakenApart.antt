@@ -19,10 +19,12 @@ is_dense c = is_ascii c && (not (is_blank c) && not (begins_comment c))
 abbrev pub is_solid : ℕ → Bool
 is_solid c = is_dense c && not (is_comma c)
 
+-- both of two are true where their conjunction is
 pub both : (b c : Bool) → (b && c) ≡ true → (b ≡ true) × (c ≡ true)
 both true c h = (refl, h)
 both false c h = cc
 
+-- what is not true is false
 pub is_false : (b : Bool) → not b ≡ true → b ≡ false
 is_false true h = cc
 is_false false h = refl
@@ -42,6 +44,7 @@ front_stops p (x ∷ xs) c more h stop =
     let rest = front_stops p xs c more parts.1 stop in
     rw parts.0 (omega (arith, rest))
 
+-- where all pass
 pub front_whole : (p : ℕ → Bool) (xs : List ℕ) → list_all p xs ≡ true → prefix_len p xs ≡ length xs
 front_whole p [] h = refl
 front_whole p (x ∷ xs) h =
@@ -49,6 +52,7 @@ front_whole p (x ∷ xs) h =
     let rest = front_whole p xs parts.1 in
     rw parts.0 (omega (arith, rest))
 
+-- where none passes, not any does
 pub none_pass : (p : ℕ → Bool) (xs : List ℕ) → list_all (λ c. not (p c)) xs ≡ true → list_any p xs ≡ false
 none_pass p [] h = refl
 none_pass p (x ∷ xs) h =
@@ -56,17 +60,19 @@ none_pass p (x ∷ xs) h =
     let fails = is_false (p x) parts.0 in
     rw fails (none_pass p xs parts.1)
 
--- the text before the first character that passes, and the text behind it
+-- what stands before the first character that passes
 pub before_it : (p : ℕ → Bool) (xs : List ℕ) (c : ℕ) (more : List ℕ) → list_all (λ x. not (p x)) xs ≡ true → p c ≡ true → before_first p (xs ++ c ∷ more) ≡ xs
 before_it p xs c more h stop =
     let stops : not (p c) ≡ false = rw stop refl in
     rw (front_stops (λ x. not (p x)) xs c more h stops) (take-append_seam xs (c ∷ more))
 
+-- what stands behind the first character that passes
 pub behind_it : (p : ℕ → Bool) (xs : List ℕ) (c : ℕ) (more : List ℕ) → list_all (λ x. not (p x)) xs ≡ true → p c ≡ true → after_first p (xs ++ c ∷ more) ≡ more
 behind_it p xs c more h stop =
     let stops : not (p c) ≡ false = rw stop refl in
     rw (front_stops (λ x. not (p x)) xs c more h stops) (drop-append-add xs (c ∷ more) 1)
 
+-- all of a text stands before a character that it lacks
 pub before_none : (p : ℕ → Bool) (xs : List ℕ) → list_all (λ x. not (p x)) xs ≡ true → before_first p xs ≡ xs
 before_none p xs h = rw (front_whole (λ x. not (p x)) xs h) (take-length xs)
 
@@ -79,22 +85,27 @@ back_stops p xs ys some h =
     let all = suffix_len_is p (xs ++ ys) (length (xs ++ ys)) 0 (omega arith) (λ k low high. absurd (omega arith)) (λ some. last) in
     omega arith
 
--- what the tests of characters say of each
+-- a dense character is ASCII
 pub dense_ascii : (c : ℕ) → is_dense c ≡ true → is_ascii c ≡ true
 dense_ascii c h = (both (is_ascii c) (not (is_blank c) && not (begins_comment c)) h).0
 
+-- a dense character is no blank
 pub dense_no_blank : (c : ℕ) → is_dense c ≡ true → not (is_blank c) ≡ true
 dense_no_blank c h = (both (not (is_blank c)) (not (begins_comment c)) (both (is_ascii c) (not (is_blank c) && not (begins_comment c)) h).1).0
 
+-- a dense character is no `#`
 pub dense_no_comment : (c : ℕ) → is_dense c ≡ true → not (begins_comment c) ≡ true
 dense_no_comment c h = (both (not (is_blank c)) (not (begins_comment c)) (both (is_ascii c) (not (is_blank c) && not (begins_comment c)) h).1).1
 
+-- a solid character is dense
 pub solid_dense : (c : ℕ) → is_solid c ≡ true → is_dense c ≡ true
 solid_dense c h = (both (is_dense c) (not (is_comma c)) h).0
 
+-- a solid character is no comma
 pub solid_no_comma : (c : ℕ) → is_solid c ≡ true → not (is_comma c) ≡ true
 solid_no_comma c h = (both (is_dense c) (not (is_comma c)) h).1
 
+-- a solid character is no blank
 pub solid_no_blank : (c : ℕ) → is_solid c ≡ true → not (is_blank c) ≡ true
 solid_no_blank c h = dense_no_blank c (solid_dense c h)
 
@@ -102,9 +113,11 @@ solid_no_blank c h = dense_no_blank c (solid_dense c h)
 pub all_of_two : (p : ℕ → Bool) (xs ys : List ℕ) → list_all p xs ≡ true → list_all p ys ≡ true → list_all p (xs ++ ys) ≡ true
 all_of_two p xs ys h k = list_all-append p xs ys ∙ rw (h, k) refl
 
+-- all of a text is taken
 take_to : (n : ℕ) (xs : List ℕ) → n ≡ length xs → take n xs ≡ xs
 take_to n xs e = ap (λ m. take m xs) e ∙ take-length xs
 
+-- a length above 0 is not 0
 pub is_some : (n : ℕ) → 0 < n → (n == 0) ≡ false
 is_some n h = grind (arith, nat_tests)
 
@@ -114,6 +127,7 @@ unfolding trimmed trimmed_start
 untrimmed c xs ys h none =
     rw (is_false (is_blank c) h, none) (take_to (length ((c ∷ xs) ++ ys) - 0) ((c ∷ xs) ++ ys) (omega arith))
 
+-- one operand is not trimmed
 pub solid_untrimmed : (xs : List ℕ) → 0 < length xs → list_all is_solid xs ≡ true → trimmed xs ≡ xs
 unfolding trimmed trimmed_start
 solid_untrimmed [] some h = refl
@@ -123,17 +137,19 @@ solid_untrimmed (c ∷ xs) some h =
     let none : suffix_len is_blank (c ∷ xs) ≡ 0 = back_stops is_blank [] (c ∷ xs) some no_blanks in
     rw (first, none) (take_to (length (c ∷ xs) - 0) (c ∷ xs) (omega arith))
 
--- one operand, and an operand with others behind a comma
+-- a text is one operand
 pub record IsOperand (text : List ℕ) (w : Written) : Type 0 where
   pub some : 0 < length text
   pub solid : list_all is_solid text ≡ true
   pub reads : written_of text ≡ Some w
 
+-- an operand without a comma is the last
 pub last_operand : (most : ℕ) (text : List ℕ) (w : Written) → IsOperand text w → operands_up_to (suc most) text ≡ Ok (w ∷ [])
 last_operand most text w is =
     let no_commas = all_imply is_solid (λ x. not (is_comma x)) solid_no_comma text is.solid in
     rw (before_none is_comma text no_commas, solid_untrimmed text is.some is.solid, is.reads, none_pass is_comma text no_commas) refl
 
+-- an operand with a comma behind it is followed by others
 pub next_operand : (most : ℕ) (text more : List ℕ) (w : Written) (ws : List Written) → IsOperand text w → operands_up_to most more ≡ Ok ws → operands_up_to (suc most) (text ++ 44 ∷ more) ≡ Ok (w ∷ ws)
 next_operand most text more w ws is others =
     let no_commas = all_imply is_solid (λ x. not (is_comma x)) solid_no_comma text is.solid in
@@ -146,17 +162,21 @@ pub record AreOperands (text : List ℕ) (ws : List Written) : Type 0 where
   pub dense : list_all is_dense text ≡ true
   pub read : operands_in text ≡ Ok ws
 
+-- up to three operands in a text that is not empty are its operands
 in_text : (text : List ℕ) (ws : List Written) → 0 < length text → operands_up_to 3 text ≡ Ok ws → operands_in text ≡ Ok ws
 unfolding operands_in
 in_text [] ws some h = absurd (omega (arith, some))
 in_text (c ∷ text) ws some h = rw (is_some (length (c ∷ text)) some) h
 
+-- the operands of a line with one
 pub one_operand : (a : List ℕ) (x : Written) → IsOperand a x → AreOperands a (x ∷ [])
 one_operand a x is = record { some = is.some; dense = all_imply is_solid is_dense solid_dense a is.solid; read = in_text a (x ∷ []) is.some (last_operand 2 a x is) }
 
+-- a text that begins with some is not empty
 with_some : (a more : List ℕ) → 0 < length a → 0 < length (a ++ more)
 with_some a more h = omega (arith, length-append a more)
 
+-- the operands of a line with two
 pub two_operands : (a b : List ℕ) (x y : Written) → IsOperand a x → IsOperand b y → AreOperands (a ++ 44 ∷ b) (x ∷ y ∷ [])
 two_operands a b x y isa isb = record {
   some = with_some a (44 ∷ b) isa.some;
@@ -164,6 +184,7 @@ two_operands a b x y isa isb = record {
   read = in_text (a ++ 44 ∷ b) (x ∷ y ∷ []) (with_some a (44 ∷ b) isa.some) (next_operand 2 a b x (y ∷ []) isa (last_operand 1 b y isb));
 }
 
+-- the operands of a line with three
 pub three_operands : (a b d : List ℕ) (x y z : Written) → IsOperand a x → IsOperand b y → IsOperand d z → AreOperands (a ++ 44 ∷ (b ++ 44 ∷ d)) (x ∷ y ∷ z ∷ [])
 three_operands a b d x y z isa isb isd = record {
   some = with_some a (44 ∷ (b ++ 44 ∷ d)) isa.some;
