@@ -106,12 +106,9 @@ const LISTINGS: [(&str, &str); 6] = [
         "80000102 04030201 bgezl $0,0x8000090a\n80000106 05 .byte 0x05\n80000010 42000018 eret\n80000014 80000010 lb $0,16($0)\n",
     ),
     // the last word that kseg0 reaches
+    (".org 0x9ffffffc\neret\n", "9ffffffc 42000018 eret\n"),
     (
-        ".org 0x9ffffffc\nj 0x9ffffffc\n",
-        "9ffffffc 0bffffff j 0x9ffffffc\n",
-    ),
-    (
-        ".org 0x80001ffd\n.space 3\n.org 0x80000000\nsll $0,$0,0",
+        ".org 0x80001ffd\n.space 3\n.org 0x80000000\n.entry a\na: sll $0,$0,0",
         "80001ffd 00 .byte 0x00\n80001ffe 00 .byte 0x00\n80001fff 00 .byte 0x00\n80000000 00000000 sll $0,$0,0\n",
     ),
 ];
