@@ -1,25 +1,11 @@
 //! Tests of the program on files, with the exact bytes that it writes.
-mod branches;
-mod changed_code;
-mod code;
-mod coprocessors;
 mod elf_files;
 mod examples;
-mod exceptions;
 mod failures;
-mod fetches;
-mod interrupts;
-mod layout;
-mod linked;
-mod past_memory;
-mod refills;
 mod refusals;
 mod run;
 mod runs;
 mod sources;
-mod translations;
-mod unaligned;
-mod vectors;
 
 use crate::program::program;
 use std::alloc::{AllocError, Global};

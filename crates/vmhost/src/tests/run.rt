@@ -1,5 +1,4 @@
-//! A run of an image on both machines, and the dump that it has to end with.
-use super::code::{Code, image_of};
+//! A run of a source on both machines, and the dump that it has to end with.
 use super::{say, words_of};
 use std::alloc::{AllocError, Global};
 use std::fs;
@@ -7,12 +6,12 @@ use std::process::Abort;
 use std::rt::Files;
 use std::test::Fail;
 
-/// A run of a raw image, and what its dump has.
+/// A run of a source of one segment, and what its dump has.
 #[derive(Clone, Copy)]
 pub struct Run<'a> {
     pub name: &'a str,
-    /// The image, which stands and is entered at 80000000.
-    pub code: &'a [Code],
+    /// The source, whose first byte stands and is entered at 80000000.
+    pub source: &'a str,
     /// Words of the command line beside the format and the steps.
     pub options: &'a [&'a str],
     pub steps: usize,
@@ -25,18 +24,42 @@ pub struct Run<'a> {
     pub system: [u32; 4],
 }
 
-/// Runs the image on a guest and on the table machine, by way of this file.
+/// Where the bytes of an executable's only segment begin.
+const FIRST_BYTE: usize = 84;
+
+/// Assembles the source to this file and runs the executable, and then its segment as a raw image, on a guest and on the
+/// table machine.
 pub fn check_run<R: Files + AllocGlobal + Abort>(rt: &R, file: &str, run: Run) -> Result<(), Fail> {
-    fs::write(rt, file, image_of(rt.alloc(), run.code)?)?;
+    let source = format!(in rt.alloc(); "{file}.s")?;
+    fs::write(rt, source.as_str(), run.source.as_bytes())?;
+    let mut words = words_of(rt.alloc(), &["asm", "FILE"], source.as_str())?;
+    words.push(String::from_str(rt.alloc(), file)?)?;
+    let said = say(rt, words.as_slice());
+    assert_eq!(rt; said.status, 0, "{}", run.name);
+    check_dump(rt, file, run, &[])?;
+    let executable = fs::read(rt, file)?;
+    assert!(rt; FIRST_BYTE < executable.len(), "{}", run.name);
+    fs::write(rt, file, &executable[FIRST_BYTE..])?;
+    check_dump(rt, file, run, &["--raw"])?;
+    fs::remove_file(rt, source.as_str())?;
+    Ok(())
+}
+
+/// Runs the image of this file on a guest and on the table machine.
+fn check_dump<R: Files + AllocGlobal + Abort>(
+    rt: &R,
+    file: &str,
+    run: Run,
+    format: &[&str],
+) -> Result<(), Fail> {
     let steps = format!(in rt.alloc(); "{}", run.steps)?;
     let want = dump_of(rt.alloc(), run)?;
     for flat in [false, true] {
-        let mut words = words_of(
-            rt.alloc(),
-            &["exec", "--raw", "--steps", &steps, "FILE"],
-            file,
-        )?;
+        let mut words = words_of(rt.alloc(), &["exec", "--steps", &steps, "FILE"], file)?;
         for option in run.options {
+            words.push(String::from_str(rt.alloc(), option)?)?;
+        }
+        for option in format {
             words.push(String::from_str(rt.alloc(), option)?)?;
         }
         if flat {
@@ -44,9 +67,9 @@ pub fn check_run<R: Files + AllocGlobal + Abort>(rt: &R, file: &str, run: Run) -
         }
         let said = say(rt, words.as_slice());
         let out = str::from_utf8(said.out.as_slice())?;
-        assert_eq!(rt; out, want.as_str(), "{}, flat {flat}", run.name);
-        assert!(rt; said.err.is_empty(), "{}, flat {flat}", run.name);
-        assert_eq!(rt; said.status, 0, "{}, flat {flat}", run.name);
+        assert_eq!(rt; out, want.as_str(), "{} {words:?}", run.name);
+        assert!(rt; said.err.is_empty(), "{} {words:?}", run.name);
+        assert_eq!(rt; said.status, 0, "{} {words:?}", run.name);
     }
     Ok(())
 }

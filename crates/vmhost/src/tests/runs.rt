@@ -1,6 +1,4 @@
 //! Runs and their dumps, on the table machine and on a guest.
-use super::code::Code::*;
-use super::code::{COMPARE, STATUS};
 use super::file_of;
 use super::run::{Run, check_run};
 use std::fs;
@@ -9,12 +7,12 @@ use std::test::Fail;
 const RUNS: [Run<'static>; 29] = [
     Run {
         name: "a store and a load of it",
-        code: &[
-            Addiu(2, 0, 5),
-            Lui(1, 0x8000),
-            Sw(2, 0x0100, 1),
-            Lw(3, 0x0100, 1),
-        ],
+        source: "
+            addiu $2,$0,5
+            lui $1,0x8000
+            sw $2,0x100($1)
+            lw $3,0x100($1)
+        ",
         options: &[],
         steps: 4,
         pc: 0x8000_0010,
@@ -24,15 +22,15 @@ const RUNS: [Run<'static>; 29] = [
     },
     Run {
         name: "registers",
-        code: &[
-            Addiu(1, 0, 7),
-            Addiu(2, 0, 0xfffd),
-            Addu(3, 2, 1),
-            Subu(4, 1, 2),
-            Nor(5, 1, 2),
-            Sra(6, 2, 1),
-            Srl(7, 2, 28),
-        ],
+        source: "
+            addiu $1,$0,7
+            addiu $2,$0,-3
+            addu $3,$2,$1
+            subu $4,$1,$2
+            nor $5,$1,$2
+            sra $6,$2,1
+            srl $7,$2,28
+        ",
         options: &[],
         steps: 7,
         pc: 0x8000_001c,
@@ -49,7 +47,9 @@ const RUNS: [Run<'static>; 29] = [
     },
     Run {
         name: "no step",
-        code: &[Addiu(1, 0, 7)],
+        source: "
+            addiu $1,$0,7
+        ",
         options: &[],
         steps: 0,
         pc: 0x8000_0000,
@@ -59,7 +59,9 @@ const RUNS: [Run<'static>; 29] = [
     },
     Run {
         name: "a write to register 0",
-        code: &[Addiu(0, 0, 5)],
+        source: "
+            addiu $0,$0,5
+        ",
         options: &[],
         steps: 1,
         pc: 0x8000_0004,
@@ -69,7 +71,10 @@ const RUNS: [Run<'static>; 29] = [
     },
     Run {
         name: "a load by way of kseg1",
-        code: &[Lui(1, 0xa000), Lw(2, 0, 1)],
+        source: "
+            lui $1,0xa000
+            lw $2,0($1)
+        ",
         options: &[],
         steps: 2,
         pc: 0x8000_0008,
@@ -79,7 +84,9 @@ const RUNS: [Run<'static>; 29] = [
     },
     Run {
         name: "a load at an odd address",
-        code: &[Lw(1, 2, 0)],
+        source: "
+            lw $1,2($0)
+        ",
         options: &[],
         steps: 1,
         pc: 0x8000_0180,
@@ -89,7 +96,10 @@ const RUNS: [Run<'static>; 29] = [
     },
     Run {
         name: "a store at an odd address",
-        code: &[Addiu(1, 0, 7), Sw(1, 2, 0)],
+        source: "
+            addiu $1,$0,7
+            sw $1,2($0)
+        ",
         options: &[],
         steps: 2,
         pc: 0x8000_0180,
@@ -99,7 +109,10 @@ const RUNS: [Run<'static>; 29] = [
     },
     Run {
         name: "a word of no row",
-        code: &[Addiu(1, 0, 7), Word(0x0020_0000)],
+        source: "
+            addiu $1,$0,7
+            .word 0x200000
+        ",
         options: &[],
         steps: 2,
         pc: 0x8000_0180,
@@ -109,7 +122,10 @@ const RUNS: [Run<'static>; 29] = [
     },
     Run {
         name: "a store to an address without memory",
-        code: &[Lui(1, 0xbf00), Sw(2, 0, 1)],
+        source: "
+            lui $1,0xbf00
+            sw $2,0($1)
+        ",
         options: &[],
         steps: 2,
         pc: 0x8000_0180,
@@ -119,7 +135,10 @@ const RUNS: [Run<'static>; 29] = [
     },
     Run {
         name: "a load from an address without memory",
-        code: &[Lui(1, 0xbf00), Lw(2, 0, 1)],
+        source: "
+            lui $1,0xbf00
+            lw $2,0($1)
+        ",
         options: &[],
         steps: 2,
         pc: 0x8000_0180,
@@ -129,7 +148,10 @@ const RUNS: [Run<'static>; 29] = [
     },
     Run {
         name: "a load past the memory",
-        code: &[Lui(1, 0x8000), Lw(2, 0x2000, 1)],
+        source: "
+            lui $1,0x8000
+            lw $2,0x2000($1)
+        ",
         options: &["--pages", "2"],
         steps: 2,
         pc: 0x8000_0180,
@@ -139,7 +161,9 @@ const RUNS: [Run<'static>; 29] = [
     },
     Run {
         name: "a fetch past the memory",
-        code: &[Addiu(1, 0, 7)],
+        source: "
+            addiu $1,$0,7
+        ",
         options: &["--pages", "2"],
         steps: 2049,
         pc: 0x8000_0180,
@@ -149,7 +173,11 @@ const RUNS: [Run<'static>; 29] = [
     },
     Run {
         name: "the greatest memory",
-        code: &[Lui(1, 0x8400), Lw(2, 0xfffc, 1), Lw(2, 0, 1)],
+        source: "
+            lui $1,0x8400
+            lw $2,-4($1)
+            lw $2,0($1)
+        ",
         options: &["--pages", "16384"],
         steps: 3,
         pc: 0x8000_0180,
@@ -159,7 +187,10 @@ const RUNS: [Run<'static>; 29] = [
     },
     Run {
         name: "a last word of one byte",
-        code: &[Addiu(1, 0, 7), Byte(0x21)],
+        source: "
+            addiu $1,$0,7
+            .byte 0x21
+        ",
         options: &[],
         steps: 2,
         pc: 0x8000_0008,
@@ -169,7 +200,12 @@ const RUNS: [Run<'static>; 29] = [
     },
     Run {
         name: "a last word of two bytes",
-        code: &[Addiu(1, 0, 7), Addiu(2, 0, 9), Byte(0x21), Byte(0x10)],
+        source: "
+            addiu $1,$0,7
+            addiu $2,$0,9
+            .byte 0x21
+            .byte 0x10
+        ",
         options: &[],
         steps: 3,
         pc: 0x8000_000c,
@@ -179,7 +215,12 @@ const RUNS: [Run<'static>; 29] = [
     },
     Run {
         name: "a last word of three bytes",
-        code: &[Addiu(1, 0, 7), Byte(0x80), Byte(0x10), Byte(0x01)],
+        source: "
+            addiu $1,$0,7
+            .byte 0x80
+            .byte 0x10
+            .byte 0x1
+        ",
         options: &[],
         steps: 2,
         pc: 0x8000_0008,
@@ -189,12 +230,12 @@ const RUNS: [Run<'static>; 29] = [
     },
     Run {
         name: "a sum that overflows",
-        code: &[
-            Lui(1, 0x7fff),
-            Ori(1, 1, 0xffff),
-            Addiu(2, 0, 1),
-            Add(3, 1, 2),
-        ],
+        source: "
+            lui $1,0x7fff
+            ori $1,$1,0xffff
+            addiu $2,$0,1
+            add $3,$1,$2
+        ",
         options: &[],
         steps: 4,
         pc: 0x8000_0180,
@@ -204,17 +245,17 @@ const RUNS: [Run<'static>; 29] = [
     },
     Run {
         name: "parts of words, unaligned",
-        code: &[
-            Lui(5, 0x8000),
-            Lui(1, 0x4433),
-            Ori(1, 1, 0x2211),
-            Sw(1, 0x0100, 5),
-            Lui(1, 0x8877),
-            Ori(1, 1, 0x6655),
-            Sw(1, 0x0104, 5),
-            Lwr(4, 0x0101, 5),
-            Lwl(4, 0x0104, 5),
-        ],
+        source: "
+            lui $5,0x8000
+            lui $1,0x4433
+            ori $1,$1,0x2211
+            sw $1,0x100($5)
+            lui $1,0x8877
+            ori $1,$1,0x6655
+            sw $1,0x104($5)
+            lwr $4,0x101($5)
+            lwl $4,0x104($5)
+        ",
         options: &[],
         steps: 9,
         pc: 0x8000_0024,
@@ -224,12 +265,12 @@ const RUNS: [Run<'static>; 29] = [
     },
     Run {
         name: "an exception in a delay slot",
-        code: &[
-            Lui(1, 0x7fff),
-            Ori(1, 1, 0xffff),
-            Beq(0, 0, 5),
-            Addi(3, 1, 1),
-        ],
+        source: "
+            lui $1,0x7fff
+            ori $1,$1,0xffff
+            beq $0,$0,0x80000020
+            addi $3,$1,1
+        ",
         options: &[],
         steps: 4,
         pc: 0x8000_0180,
@@ -239,12 +280,12 @@ const RUNS: [Run<'static>; 29] = [
     },
     Run {
         name: "a likely branch that is not taken",
-        code: &[
-            Addiu(1, 0, 0xffff),
-            Bgezl(1, 2),
-            Addiu(2, 0, 5),
-            Addiu(4, 0, 7),
-        ],
+        source: "
+            addiu $1,$0,-1
+            bgezl $1,0x80000010
+            addiu $2,$0,5
+            addiu $4,$0,7
+        ",
         options: &[],
         steps: 3,
         pc: 0x8000_0010,
@@ -254,7 +295,10 @@ const RUNS: [Run<'static>; 29] = [
     },
     Run {
         name: "a division by zero",
-        code: &[Addiu(1, 0, 7), Divu(1, 0)],
+        source: "
+            addiu $1,$0,7
+            divu $1,$0
+        ",
         options: &[],
         steps: 2,
         pc: 0x8000_0008,
@@ -264,7 +308,11 @@ const RUNS: [Run<'static>; 29] = [
     },
     Run {
         name: "a signed quotient that is no word",
-        code: &[Lui(1, 0x8000), Addiu(2, 0, 0xffff), Div(1, 2)],
+        source: "
+            lui $1,0x8000
+            addiu $2,$0,-1
+            div $1,$2
+        ",
         options: &[],
         steps: 3,
         pc: 0x8000_000c,
@@ -274,7 +322,10 @@ const RUNS: [Run<'static>; 29] = [
     },
     Run {
         name: "a jump in a delay slot",
-        code: &[Beq(0, 0, 3), Jr(31)],
+        source: "
+            beq $0,$0,0x80000010
+            jr $31
+        ",
         options: &[],
         steps: 2,
         pc: 0x8000_0180,
@@ -284,12 +335,12 @@ const RUNS: [Run<'static>; 29] = [
     },
     Run {
         name: "a loop with its decrement in the slot",
-        code: &[
-            Addiu(1, 0, 5),
-            Addu(2, 2, 1),
-            Bne(1, 0, 0xfffe),
-            Addiu(1, 1, 0xffff),
-        ],
+        source: "
+            addiu $1,$0,5
+            addu $2,$2,$1
+            bne $1,$0,0x80000004
+            addiu $1,$1,-1
+        ",
         options: &[],
         steps: 19,
         pc: 0x8000_0010,
@@ -299,14 +350,14 @@ const RUNS: [Run<'static>; 29] = [
     },
     Run {
         name: "load linked and store conditional",
-        code: &[
-            Lui(5, 0x8000),
-            Addiu(2, 0, 9),
-            Ll(1, 0x0100, 5),
-            Sc(2, 0x0100, 5),
-            Sc(3, 0x0100, 5),
-            Lw(4, 0x0100, 5),
-        ],
+        source: "
+            lui $5,0x8000
+            addiu $2,$0,9
+            ll $1,0x100($5)
+            sc $2,0x100($5)
+            sc $3,0x100($5)
+            lw $4,0x100($5)
+        ",
         options: &[],
         steps: 6,
         pc: 0x8000_0018,
@@ -316,7 +367,10 @@ const RUNS: [Run<'static>; 29] = [
     },
     Run {
         name: "leading zeros",
-        code: &[Lui(1, 1), Clz(2, 1)],
+        source: "
+            lui $1,0x1
+            clz $2,$1
+        ",
         options: &[],
         steps: 2,
         pc: 0x8000_0008,
@@ -326,7 +380,9 @@ const RUNS: [Run<'static>; 29] = [
     },
     Run {
         name: "leading zeros with rt and rd apart",
-        code: &[Word(0x7021_1020)],
+        source: "
+            .word 0x70211020
+        ",
         options: &[],
         steps: 1,
         pc: 0x8000_0180,
@@ -336,14 +392,14 @@ const RUNS: [Run<'static>; 29] = [
     },
     Run {
         name: "the interrupt of the timer",
-        code: &[
-            Addiu(1, 0, 6),
-            Mtc0(1, COMPARE),
-            Ori(2, 0, 0x8001),
-            Mtc0(2, STATUS),
-            Nop,
-            Nop,
-        ],
+        source: "
+            addiu $1,$0,6
+            mtc0 $1,$11,0
+            ori $2,$0,0x8001
+            mtc0 $2,$12,0
+            sll $0,$0,0
+            sll $0,$0,0
+        ",
         options: &[],
         steps: 6,
         pc: 0x8000_0180,
@@ -353,16 +409,16 @@ const RUNS: [Run<'static>; 29] = [
     },
     Run {
         name: "a store at an odd address leaves its word",
-        code: &[
-            Lui(1, 0x8000),
-            Sw(1, 0x0402, 1),
-            At(0x180),
-            Lw(2, 0x0400, 1),
-            Lw(3, 0x0404, 1),
-            At(0x400),
-            Word(0x1234),
-            Word(0x5678),
-        ],
+        source: "
+            lui $1,0x8000
+            sw $1,0x402($1)
+            .space 0x178
+            lw $2,0x400($1)
+            lw $3,0x404($1)
+            .space 0x278
+            .word 0x1234
+            .word 0x5678
+        ",
         options: &[],
         steps: 4,
         pc: 0x8000_0188,

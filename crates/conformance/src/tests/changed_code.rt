@@ -1,9 +1,7 @@
 //! Stores to the page that is being executed: an instruction is fetched as it is when its step comes.
 use super::code::Code::*;
 use super::code::{ENTRY_HI, ENTRY_LO0, ENTRY_LO1};
-use super::file_of;
 use super::run::{Run, check_run};
-use std::fs;
 use std::test::Fail;
 
 const RUNS: [Run<'static>; 8] = [
@@ -16,7 +14,7 @@ const RUNS: [Run<'static>; 8] = [
             Sw(2, 0x0010, 1),
             Addiu(3, 0, 1),
         ],
-        options: &[],
+        pages: 16,
         steps: 5,
         pc: 0x8000_0014,
         hi_lo: [0, 0],
@@ -31,7 +29,7 @@ const RUNS: [Run<'static>; 8] = [
             Sb(2, 0x000c, 1),
             Addiu(3, 0, 1),
         ],
-        options: &[],
+        pages: 16,
         steps: 4,
         pc: 0x8000_0010,
         hi_lo: [0, 0],
@@ -46,7 +44,7 @@ const RUNS: [Run<'static>; 8] = [
             Sh(2, 0x000c, 1),
             Addiu(3, 0, 1),
         ],
-        options: &[],
+        pages: 16,
         steps: 4,
         pc: 0x8000_0010,
         hi_lo: [0, 0],
@@ -65,7 +63,7 @@ const RUNS: [Run<'static>; 8] = [
             Sb(2, 0x001c, 1),
             Addiu(3, 0, 1),
         ],
-        options: &[],
+        pages: 16,
         steps: 8,
         pc: 0x8000_0020,
         hi_lo: [0, 0],
@@ -80,7 +78,7 @@ const RUNS: [Run<'static>; 8] = [
             Swr(2, 0x000e, 1),
             Word(0x0000_0007), // the lower half alone
         ],
-        options: &[],
+        pages: 16,
         steps: 4,
         pc: 0x8000_0010,
         hi_lo: [0, 0],
@@ -97,7 +95,7 @@ const RUNS: [Run<'static>; 8] = [
             Nop,
             Addiu(3, 0, 1), // the target
         ],
-        options: &[],
+        pages: 16,
         steps: 5,
         pc: 0x8000_0018,
         hi_lo: [0, 0],
@@ -115,7 +113,7 @@ const RUNS: [Run<'static>; 8] = [
             Nop,
             Addiu(4, 0, 1), // the target
         ],
-        options: &[],
+        pages: 16,
         steps: 6,
         pc: 0x8000_001c,
         hi_lo: [0, 0],
@@ -133,7 +131,7 @@ const RUNS: [Run<'static>; 8] = [
             Bne(2, 0, 0xfffc),
             Nop,
         ],
-        options: &[],
+        pages: 16,
         steps: 17,
         pc: 0x8000_001c,
         hi_lo: [0, 0],
@@ -144,10 +142,8 @@ const RUNS: [Run<'static>; 8] = [
 
 #[test]
 fn changed_instructions_are_executed_as_changed(rt: HostRuntime) -> Result<(), Fail> {
-    let file = file_of(&rt, "changed-code")?;
     for run in &RUNS {
-        check_run(&rt, file.as_str(), *run)?;
+        check_run(&rt, *run)?;
     }
-    fs::remove_file(&rt, file.as_str())?;
     Ok(())
 }

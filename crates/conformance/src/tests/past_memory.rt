@@ -1,10 +1,8 @@
 //! Each kind of access at the last place of memory and at the first place past it.
 use super::code::Code;
 use super::code::Code::*;
-use super::file_of;
 use super::layout::joined;
 use super::run::{Run, check_run};
-use std::fs;
 use std::test::Fail;
 
 /// A load or store, of register 2 with register 1 as its base. The base is the end of memory, register 2 has aabbccdd, and
@@ -154,29 +152,26 @@ const SETUP: [Code; 5] = [
 
 #[test]
 fn accesses_past_memory_are_bus_errors(rt: HostRuntime) -> Result<(), Fail> {
-    let file = file_of(&rt, "past-memory")?;
     for access in &ACCESSES {
         let last = [access.past, Lw(4, 0, 1)];
         let code = joined(rt.alloc(), &[&SETUP, &last, &LAST_WORD])?;
         let run = Run {
             name: access.name,
             code: code.as_slice(),
-            options: &["--pages", "2"],
+            pages: 2,
             steps: 6,
             pc: 0x8000_0180,
             hi_lo: [0, 0],
             regs: &[(1, 0x8000_2000), (2, REGISTER), (3, UNCHANGED)],
             system: [0x02, 0x1c, 0x8000_0014, 0],
         };
-        check_run(&rt, file.as_str(), run)?;
+        check_run(&rt, run)?;
     }
-    fs::remove_file(&rt, file.as_str())?;
     Ok(())
 }
 
 #[test]
 fn accesses_at_the_end_of_memory_succeed(rt: HostRuntime) -> Result<(), Fail> {
-    let file = file_of(&rt, "end-of-memory")?;
     for access in &ACCESSES {
         let last = [access.last, Lw(4, 0xfffc, 1)];
         let code = joined(rt.alloc(), &[&SETUP, &last, &LAST_WORD])?;
@@ -189,16 +184,15 @@ fn accesses_at_the_end_of_memory_succeed(rt: HostRuntime) -> Result<(), Fail> {
         let run = Run {
             name: access.name,
             code: code.as_slice(),
-            options: &["--pages", "2"],
+            pages: 2,
             steps: 7,
             pc: 0x8000_001c,
             hi_lo: [0, 0],
             regs: &regs,
             system: [0, 0, 0, 0],
         };
-        check_run(&rt, file.as_str(), run)?;
+        check_run(&rt, run)?;
     }
-    fs::remove_file(&rt, file.as_str())?;
     Ok(())
 }
 
@@ -213,7 +207,7 @@ const RUNS: [Run<'static>; 14] = [
             Sc(2, 0, 1),
             Addiu(4, 0, 1),
         ],
-        options: &["--pages", "2"],
+        pages: 2,
         steps: 5,
         pc: 0x8000_0014,
         hi_lo: [0, 0],
@@ -231,7 +225,7 @@ const RUNS: [Run<'static>; 14] = [
             At(0x1ffc),
             Word(0x8483_8281),
         ],
-        options: &["--pages", "2"],
+        pages: 2,
         steps: 5,
         pc: 0x8000_0014,
         hi_lo: [0, 0],
@@ -252,7 +246,7 @@ const RUNS: [Run<'static>; 14] = [
             At(0x1ffc),
             Word(0x8483_8281),
         ],
-        options: &["--pages", "2"],
+        pages: 2,
         steps: 7,
         pc: 0x8000_0188,
         hi_lo: [0, 0],
@@ -262,7 +256,7 @@ const RUNS: [Run<'static>; 14] = [
     Run {
         name: "a word that begins past memory by one byte",
         code: &[Lui(1, 0x8000), Ori(1, 1, 0x2000), Lw(2, 1, 1)],
-        options: &["--pages", "2"],
+        pages: 2,
         steps: 3,
         pc: 0x8000_0180,
         hi_lo: [0, 0],
@@ -279,7 +273,7 @@ const RUNS: [Run<'static>; 14] = [
             At(0x1ffc),
             Word(0x8483_8281),
         ],
-        options: &["--pages", "2"],
+        pages: 2,
         steps: 4,
         pc: 0x8000_0180,
         hi_lo: [0, 0],
@@ -295,7 +289,7 @@ const RUNS: [Run<'static>; 14] = [
             Pref(0, 1, 1),
             Addiu(4, 0, 1),
         ],
-        options: &["--pages", "2"],
+        pages: 2,
         steps: 5,
         pc: 0x8000_0014,
         hi_lo: [0, 0],
@@ -312,7 +306,7 @@ const RUNS: [Run<'static>; 14] = [
             At(0x1ffc),
             Addiu(4, 0, 1),
         ],
-        options: &["--pages", "2"],
+        pages: 2,
         steps: 6,
         pc: 0x8000_0180,
         hi_lo: [0, 0],
@@ -322,7 +316,7 @@ const RUNS: [Run<'static>; 14] = [
     Run {
         name: "a jump past memory",
         code: &[Lui(1, 0x8000), Ori(1, 1, 0x2000), Jr(1), Addiu(4, 0, 1)],
-        options: &["--pages", "2"],
+        pages: 2,
         steps: 5,
         pc: 0x8000_0180,
         hi_lo: [0, 0],
@@ -339,7 +333,7 @@ const RUNS: [Run<'static>; 14] = [
             At(0x1ffc),
             Beq(0, 0, 0xf000),
         ],
-        options: &["--pages", "2"],
+        pages: 2,
         steps: 6,
         pc: 0x8000_0180,
         hi_lo: [0, 0],
@@ -356,7 +350,7 @@ const RUNS: [Run<'static>; 14] = [
             At(0x1ffc),
             Bnel(0, 0, 0xf000),
         ],
-        options: &["--pages", "2"],
+        pages: 2,
         steps: 6,
         pc: 0x8000_0180,
         hi_lo: [0, 0],
@@ -374,7 +368,7 @@ const RUNS: [Run<'static>; 14] = [
             Beq(0, 0, 0xf805), // 2043 instructions back from its slot: to 80000010
             Addiu(4, 0, 1),
         ],
-        options: &["--pages", "2"],
+        pages: 2,
         steps: 6,
         pc: 0x8000_0010,
         hi_lo: [0, 0],
@@ -387,7 +381,7 @@ const RUNS: [Run<'static>; 14] = [
             Lui(1, 0xc000),
             Lw(2, 0xfffc, 1), // at bffffffc
         ],
-        options: &["--pages", "2"],
+        pages: 2,
         steps: 2,
         pc: 0x8000_0180,
         hi_lo: [0, 0],
@@ -400,7 +394,7 @@ const RUNS: [Run<'static>; 14] = [
             Lui(1, 0x8000),
             Lw(2, 0x8000, 1), // at 7fff8000, of which the TLB has no entry
         ],
-        options: &["--pages", "2"],
+        pages: 2,
         steps: 2,
         pc: 0x8000_0000,
         hi_lo: [0, 0],
@@ -413,7 +407,7 @@ const RUNS: [Run<'static>; 14] = [
             Addiu(1, 0, 0xfffc),
             Lw(2, 8, 1), // at 00000004, of which the TLB's entries are not valid
         ],
-        options: &["--pages", "2"],
+        pages: 2,
         steps: 2,
         pc: 0x8000_0180,
         hi_lo: [0, 0],
@@ -424,10 +418,8 @@ const RUNS: [Run<'static>; 14] = [
 
 #[test]
 fn runs_at_the_end_of_memory(rt: HostRuntime) -> Result<(), Fail> {
-    let file = file_of(&rt, "runs-at-the-end")?;
     for run in &RUNS {
-        check_run(&rt, file.as_str(), *run)?;
+        check_run(&rt, *run)?;
     }
-    fs::remove_file(&rt, file.as_str())?;
     Ok(())
 }

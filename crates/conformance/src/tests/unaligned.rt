@@ -2,12 +2,9 @@
 //! in the middle of memory and at its end.
 use super::code::Code;
 use super::code::Code::*;
-use super::file_of;
 use super::layout::joined;
 use super::run::{Run, check_run};
-use std::fs;
 use std::process::Abort;
-use std::rt::Files;
 use std::test::Fail;
 
 /// What is done to words of memory whose address is in register 1; register 2 has aabbccdd.
@@ -23,7 +20,7 @@ struct Parts {
     /// Where it would go on after them.
     pc: u32,
     /// The registers from 3 on that are not 0.
-    regs: &'static [(usize, u32)],
+    regs: &'static [(u32, u32)],
 }
 
 /// The bytes 11 22 33 44.
@@ -211,12 +208,7 @@ const PARTS: [Parts; 6] = [
 const END: u32 = 0x2000;
 
 /// The parts at this offset of memory.
-fn check_parts<R: Files + AllocGlobal + Abort>(
-    rt: &R,
-    file: &str,
-    parts: &Parts,
-    at: u32,
-) -> Result<(), Fail> {
+fn check_parts<R: AllocGlobal + Abort>(rt: &R, parts: &Parts, at: u32) -> Result<(), Fail> {
     let name = format!(in rt.alloc(); "{} at {at:04x}", parts.name)?;
     let setup = [
         Lui(1, 0x8000),
@@ -231,24 +223,22 @@ fn check_parts<R: Files + AllocGlobal + Abort>(
     let run = Run {
         name: name.as_str(),
         code: code.as_slice(),
-        options: &["--pages", "2"],
+        pages: 2,
         steps: parts.steps,
         pc: parts.pc,
         hi_lo: [0, 0],
         regs: regs.as_slice(),
         system: [0, 0, 0, 0],
     };
-    check_run(rt, file, run)
+    check_run(rt, run)
 }
 
 #[test]
 fn parts_of_words_in_memory_and_at_its_end(rt: HostRuntime) -> Result<(), Fail> {
-    let file = file_of(&rt, "unaligned")?;
     for parts in &PARTS {
         for at in [0x0400, 0x0ffc, END.wrapping_sub(parts.from_end)] {
-            check_parts(&rt, file.as_str(), parts, at)?;
+            check_parts(&rt, parts, at)?;
         }
     }
-    fs::remove_file(&rt, file.as_str())?;
     Ok(())
 }

@@ -1,12 +1,9 @@
 //! Refills: a handler at the vector writes an entry and returns, and the access succeeds.
 use super::code::Code::*;
 use super::code::{CONTEXT, Code, ENTRY_LO0, ENTRY_LO1, EPC, INDEX, STATUS};
-use super::file_of;
 use super::layout::joined;
 use super::run::{Run, check_run};
-use std::fs;
 use std::process::Abort;
-use std::rt::Files;
 use std::test::Fail;
 
 /// The start of each image. The vector of a refill is the entry of the image too; register 27 tells the two apart. The
@@ -47,7 +44,7 @@ const RUNS: [Run<'static>; 9] = [
             At(0x5124),
             Word(0x1234_5678),
         ],
-        options: &[],
+        pages: 16,
         steps: 21,
         pc: 0x8000_0218,
         hi_lo: [0, 0],
@@ -73,7 +70,7 @@ const RUNS: [Run<'static>; 9] = [
             At(0x5124),
             Word(0x1234_5678),
         ],
-        options: &[],
+        pages: 16,
         steps: 22,
         pc: 0x8000_021c,
         hi_lo: [0, 0],
@@ -100,7 +97,7 @@ const RUNS: [Run<'static>; 9] = [
             At(0x5124),
             Word(0x1234_5678),
         ],
-        options: &[],
+        pages: 16,
         steps: 23,
         pc: 0x8000_0304,
         hi_lo: [0, 0],
@@ -124,7 +121,7 @@ const RUNS: [Run<'static>; 9] = [
             Sw(1, 0x1124, 2),
             Lw(3, 0x6124, 1), // the same word, in kseg0
         ],
-        options: &[],
+        pages: 16,
         steps: 20,
         pc: 0x8000_0214,
         hi_lo: [0, 0],
@@ -147,7 +144,7 @@ const RUNS: [Run<'static>; 9] = [
             Addiu(4, 0, 1),
             Lw(3, 0x6124, 1), // the target; the same word, in kseg0
         ],
-        options: &[],
+        pages: 16,
         steps: 22,
         pc: 0x8000_021c,
         hi_lo: [0, 0],
@@ -165,7 +162,7 @@ const RUNS: [Run<'static>; 9] = [
     Run {
         name: "a store to a page that is not writable: a refill, then Mod",
         code: &[Sw(1, 0x0124, 2)],
-        options: &[],
+        pages: 16,
         steps: 19,
         pc: 0x8000_0180,
         hi_lo: [0, 0],
@@ -187,7 +184,7 @@ const RUNS: [Run<'static>; 9] = [
             At(0x5000), // at 00008000
             Addiu(4, 0, 7),
         ],
-        options: &[],
+        pages: 16,
         steps: 21,
         pc: 0x8004,
         hi_lo: [0, 0],
@@ -214,7 +211,7 @@ const RUNS: [Run<'static>; 9] = [
             Addiu(4, 4, 1),
             Addiu(5, 5, 1),
         ],
-        options: &[],
+        pages: 16,
         steps: 36,
         pc: 0xa008,
         hi_lo: [0, 0],
@@ -244,7 +241,7 @@ const RUNS: [Run<'static>; 9] = [
             At(0x8124), // at 0000b124
             Word(0x1234_5678),
         ],
-        options: &[],
+        pages: 16,
         steps: 35,
         pc: 0x8008,
         hi_lo: [0, 0],
@@ -264,21 +261,19 @@ const RUNS: [Run<'static>; 9] = [
 ];
 
 /// The run with the handler before its own code.
-fn check_refill<R: Files + AllocGlobal + Abort>(rt: &R, file: &str, run: &Run) -> Result<(), Fail> {
+fn check_refill<R: AllocGlobal + Abort>(rt: &R, run: &Run) -> Result<(), Fail> {
     let code = joined(rt.alloc(), &[&HANDLER, run.code])?;
     let whole = Run {
         code: code.as_slice(),
         ..*run
     };
-    check_run(rt, file, whole)
+    check_run(rt, whole)
 }
 
 #[test]
 fn handlers_of_refills_return_to_the_access(rt: HostRuntime) -> Result<(), Fail> {
-    let file = file_of(&rt, "refills")?;
     for run in &RUNS {
-        check_refill(&rt, file.as_str(), run)?;
+        check_refill(&rt, run)?;
     }
-    fs::remove_file(&rt, file.as_str())?;
     Ok(())
 }

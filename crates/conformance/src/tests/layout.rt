@@ -74,7 +74,7 @@ pub const TLB_SETUP: [Code; 32] = [
     Mtc0(5, ENTRY_HI),
 ];
 
-pub const SETUP_REGS: [(usize, u32); 3] = [(3, 3), (4, 0x00ab_c000), (5, 0x5a)];
+pub const SETUP_REGS: [(u32, u32); 3] = [(3, 3), (4, 0x00ab_c000), (5, 0x5a)];
 
 /// To 80000300, in kernel mode.
 const TO_KERNEL: [Code; 2] = [J(0x8000_0300), Nop];
@@ -89,7 +89,7 @@ const TO_USER: [Code; 6] = [
     Eret,
 ];
 
-const USER_REGS: [(usize, u32); 2] = [(8, 0x0040_0300), (9, 0x12)];
+const USER_REGS: [(u32, u32); 2] = [(8, 0x0040_0300), (9, 0x12)];
 
 /// To 00400300, in user mode with coprocessor 0.
 const TO_USER_WITH_CP0: [Code; 7] = [
@@ -102,7 +102,7 @@ const TO_USER_WITH_CP0: [Code; 7] = [
     Eret,
 ];
 
-const USER_WITH_CP0_REGS: [(usize, u32); 2] = [(8, 0x0040_0300), (9, 0x1000_0012)];
+const USER_WITH_CP0_REGS: [(u32, u32); 2] = [(8, 0x0040_0300), (9, 0x1000_0012)];
 
 /// The mode that 300 is reached in.
 #[derive(Clone, Copy)]
@@ -117,7 +117,7 @@ pub enum Mode {
 #[derive(Clone, Copy)]
 pub struct Way {
     pub code: &'static [Code],
-    pub regs: &'static [(usize, u32)],
+    pub regs: &'static [(u32, u32)],
 }
 
 impl Mode {

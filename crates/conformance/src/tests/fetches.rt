@@ -1,12 +1,9 @@
 //! Each exception of a fetch, from each place where it can come.
 use super::code::Code;
 use super::code::Code::*;
-use super::file_of;
 use super::layout::{Mode, SETUP_REGS, STEPS_TO_SETUP, TLB_SETUP, VECTORS, joined, total};
 use super::run::{Run, check_run};
-use std::fs;
 use std::process::Abort;
-use std::rt::Files;
 use std::test::Fail;
 
 /// A place that can't be fetched from. The word before it, where there is one, is the last of page 4: a branch.
@@ -191,12 +188,7 @@ const USER_PATHS: [Path; 2] = [
 ];
 
 /// The exception of the fetch on that path, and two steps of its handler. Nothing where there is no such path.
-fn check_fault<R: Files + AllocGlobal + Abort>(
-    rt: &R,
-    file: &str,
-    fault: &Fault,
-    path: &Path,
-) -> Result<(), Fail> {
+fn check_fault<R: AllocGlobal + Abort>(rt: &R, fault: &Fault, path: &Path) -> Result<(), Fail> {
     let (branch, branch_regs) = match fault.branch {
         Some(branch) => (branch, [(1, fault.place), (2, branch)]),
         None if path.by_branch => return Ok(()),
@@ -236,7 +228,7 @@ fn check_fault<R: Files + AllocGlobal + Abort>(
     let run = Run {
         name: name.as_str(),
         code: code.as_slice(),
-        options: &[],
+        pages: 16,
         steps,
         pc: if fault.refill && first_level {
             0x8000_0008
@@ -252,23 +244,21 @@ fn check_fault<R: Files + AllocGlobal + Abort>(
             fault.bad_address,
         ],
     };
-    check_run(rt, file, run)
+    check_run(rt, run)
 }
 
 #[test]
 fn exceptions_of_fetches_from_each_place(rt: HostRuntime) -> Result<(), Fail> {
-    let file = file_of(&rt, "fetches")?;
     for fault in &FAULTS {
         for path in &PATHS {
-            check_fault(&rt, file.as_str(), fault, path)?;
+            check_fault(&rt, fault, path)?;
         }
     }
     for path in &USER_PATHS {
         for fault in &FAULTS {
-            check_fault(&rt, file.as_str(), fault, path)?;
+            check_fault(&rt, fault, path)?;
         }
-        check_fault(&rt, file.as_str(), &USER_FAULT, path)?;
+        check_fault(&rt, &USER_FAULT, path)?;
     }
-    fs::remove_file(&rt, file.as_str())?;
     Ok(())
 }

@@ -1,12 +1,9 @@
 //! Which mode may execute what of the coprocessors.
 use super::code::Code::*;
 use super::code::{CONFIG, CONTEXT, Code};
-use super::file_of;
 use super::layout::{Mode, SETUP_REGS, STEPS_TO_SETUP, TLB_SETUP, VECTORS, joined, total};
 use super::run::{Run, check_run};
-use std::fs;
 use std::process::Abort;
-use std::rt::Files;
 use std::test::Fail;
 
 /// What comes of an instruction.
@@ -224,9 +221,8 @@ const BRANCH: Before = Before {
 };
 
 /// One step of each instruction of the row in that place.
-fn check_row<R: Files + AllocGlobal + Abort>(
+fn check_row<R: AllocGlobal + Abort>(
     rt: &R,
-    file: &str,
     row: &Row,
     before: Before,
     place: &Place,
@@ -264,7 +260,7 @@ fn check_row<R: Files + AllocGlobal + Abort>(
         let run = Run {
             name: name.as_str(),
             code: code.as_slice(),
-            options: &[],
+            pages: 16,
             steps: total(&[
                 STEPS_TO_SETUP,
                 TLB_SETUP.len(),
@@ -277,24 +273,22 @@ fn check_row<R: Files + AllocGlobal + Abort>(
             regs: regs.as_slice(),
             system,
         };
-        check_run(rt, file, run)?;
+        check_run(rt, run)?;
     }
     Ok(())
 }
 
 #[test]
 fn coprocessors_in_each_mode(rt: HostRuntime) -> Result<(), Fail> {
-    let file = file_of(&rt, "coprocessors")?;
     for row in &ROWS {
         for (place, outcome) in PLACES.iter().zip(row.outcomes) {
-            check_row(&rt, file.as_str(), row, NOTHING, place, outcome)?;
+            check_row(&rt, row, NOTHING, place, outcome)?;
         }
     }
     for row in &IN_SLOT {
         for (place, outcome) in PLACES.iter().zip(row.outcomes) {
-            check_row(&rt, file.as_str(), row, BRANCH, place, outcome)?;
+            check_row(&rt, row, BRANCH, place, outcome)?;
         }
     }
-    fs::remove_file(&rt, file.as_str())?;
     Ok(())
 }

@@ -1,9 +1,7 @@
 //! Interrupts, of the timer and of software. A step adds 1 to Count first, so a Compare of n is met in step n.
 use super::code::Code::*;
 use super::code::{CAUSE, COMPARE, COUNT, ENTRY_HI, ENTRY_LO0, ENTRY_LO1, EPC, STATUS};
-use super::file_of;
 use super::run::{Run, check_run};
-use std::fs;
 use std::test::Fail;
 
 const RUNS: [Run<'static>; 25] = [
@@ -17,7 +15,7 @@ const RUNS: [Run<'static>; 25] = [
             Nop,
             Nop,
         ],
-        options: &[],
+        pages: 16,
         steps: 6,
         pc: 0x8000_0180,
         hi_lo: [0, 0],
@@ -34,7 +32,7 @@ const RUNS: [Run<'static>; 25] = [
             Beq(0, 0, 3),
             Nop,
         ],
-        options: &[],
+        pages: 16,
         steps: 5,
         pc: 0x8000_0180,
         hi_lo: [0, 0],
@@ -51,7 +49,7 @@ const RUNS: [Run<'static>; 25] = [
             Beq(0, 0, 3),
             Addiu(3, 0, 1),
         ],
-        options: &[],
+        pages: 16,
         steps: 6,
         pc: 0x8000_0180,
         hi_lo: [0, 0],
@@ -68,7 +66,7 @@ const RUNS: [Run<'static>; 25] = [
             Bne(0, 0, 3),
             Addiu(3, 0, 1),
         ],
-        options: &[],
+        pages: 16,
         steps: 6,
         pc: 0x8000_0180,
         hi_lo: [0, 0],
@@ -85,7 +83,7 @@ const RUNS: [Run<'static>; 25] = [
             Jalr(31, 2), // to 00008001, which is not reached
             Addiu(3, 0, 1),
         ],
-        options: &[],
+        pages: 16,
         steps: 6,
         pc: 0x8000_0180,
         hi_lo: [0, 0],
@@ -102,7 +100,7 @@ const RUNS: [Run<'static>; 25] = [
             Beq(0, 0, 3),
             Addiu(3, 0, 1),
         ],
-        options: &[],
+        pages: 16,
         steps: 7,
         pc: 0x8000_0180,
         hi_lo: [0, 0],
@@ -120,7 +118,7 @@ const RUNS: [Run<'static>; 25] = [
             Addiu(3, 0, 1),
             Addiu(4, 0, 1),
         ],
-        options: &[],
+        pages: 16,
         steps: 6,
         pc: 0x8000_0180,
         hi_lo: [0, 0],
@@ -142,7 +140,7 @@ const RUNS: [Run<'static>; 25] = [
             Mtc0(0, COMPARE),
             Eret,
         ],
-        options: &[],
+        pages: 16,
         steps: 11,
         pc: 0x8000_0024,
         hi_lo: [0, 0],
@@ -164,7 +162,7 @@ const RUNS: [Run<'static>; 25] = [
             Mtc0(0, COMPARE),
             Eret,
         ],
-        options: &[],
+        pages: 16,
         steps: 10,
         pc: 0x8000_0024,
         hi_lo: [0, 0],
@@ -184,7 +182,7 @@ const RUNS: [Run<'static>; 25] = [
             Mtc0(0, COMPARE),
             Eret,
         ],
-        options: &[],
+        pages: 16,
         steps: 10,
         pc: 0x8000_0180,
         hi_lo: [0, 0],
@@ -200,7 +198,7 @@ const RUNS: [Run<'static>; 25] = [
             Mtc0(2, STATUS),
             Syscall,
         ],
-        options: &[],
+        pages: 16,
         steps: 5,
         pc: 0x8000_0180,
         hi_lo: [0, 0],
@@ -217,7 +215,7 @@ const RUNS: [Run<'static>; 25] = [
             Nop,
             Nop,
         ],
-        options: &[],
+        pages: 16,
         steps: 6,
         pc: 0x8000_0018,
         hi_lo: [0, 0],
@@ -236,7 +234,7 @@ const RUNS: [Run<'static>; 25] = [
             Mtc0(3, EPC),
             Eret,
         ],
-        options: &[],
+        pages: 16,
         steps: 9,
         pc: 0x8000_0180,
         hi_lo: [0, 0],
@@ -253,7 +251,7 @@ const RUNS: [Run<'static>; 25] = [
             Nop,
             Nop,
         ],
-        options: &[],
+        pages: 16,
         steps: 6,
         pc: 0x8000_0018,
         hi_lo: [0, 0],
@@ -270,7 +268,7 @@ const RUNS: [Run<'static>; 25] = [
             Nop,
             Nop,
         ],
-        options: &[],
+        pages: 16,
         steps: 6,
         pc: 0x8000_0018,
         hi_lo: [0, 0],
@@ -287,7 +285,7 @@ const RUNS: [Run<'static>; 25] = [
             Nop,
             Nop,
         ],
-        options: &[],
+        pages: 16,
         steps: 6,
         pc: 0x8000_0018,
         hi_lo: [0, 0],
@@ -303,7 +301,7 @@ const RUNS: [Run<'static>; 25] = [
             Mtc0(2, STATUS),
             Nop,
         ],
-        options: &[],
+        pages: 16,
         steps: 5,
         pc: 0x8000_0180,
         hi_lo: [0, 0],
@@ -319,7 +317,7 @@ const RUNS: [Run<'static>; 25] = [
             Mtc0(1, CAUSE),
             Nop,
         ],
-        options: &[],
+        pages: 16,
         steps: 5,
         pc: 0x8000_0180,
         hi_lo: [0, 0],
@@ -335,7 +333,7 @@ const RUNS: [Run<'static>; 25] = [
             Beq(0, 0, 3),
             Mtc0(1, CAUSE),
         ],
-        options: &[],
+        pages: 16,
         steps: 6,
         pc: 0x8000_0180,
         hi_lo: [0, 0],
@@ -363,7 +361,7 @@ const RUNS: [Run<'static>; 25] = [
             Beq(0, 0, 2),
             Nop,
         ],
-        options: &[],
+        pages: 16,
         steps: 15,
         pc: 0x8000_0180,
         hi_lo: [0, 0],
@@ -391,7 +389,7 @@ const RUNS: [Run<'static>; 25] = [
             Beq(0, 0, 2),
             Nop,
         ],
-        options: &[],
+        pages: 16,
         steps: 16,
         pc: 0x8000_0180,
         hi_lo: [0, 0],
@@ -419,7 +417,7 @@ const RUNS: [Run<'static>; 25] = [
             Beq(0, 0, 2),
             Nop,
         ],
-        options: &[],
+        pages: 16,
         steps: 17,
         pc: 0x8000_0180,
         hi_lo: [0, 0],
@@ -437,7 +435,7 @@ const RUNS: [Run<'static>; 25] = [
             Mtc0(1, COMPARE),
             Mfc0(3, CAUSE),
         ],
-        options: &[],
+        pages: 16,
         steps: 7,
         pc: 0x8000_001c,
         hi_lo: [0, 0],
@@ -455,7 +453,7 @@ const RUNS: [Run<'static>; 25] = [
             Mfc0(4, CAUSE),
             Mfc0(5, COUNT),
         ],
-        options: &[],
+        pages: 16,
         steps: 7,
         pc: 0x8000_001c,
         hi_lo: [0, 0],
@@ -465,7 +463,7 @@ const RUNS: [Run<'static>; 25] = [
     Run {
         name: "Compare gets the number that Count has",
         code: &[Ori(1, 0, 2), Mtc0(1, COMPARE), Mfc0(2, CAUSE)],
-        options: &[],
+        pages: 16,
         steps: 3,
         pc: 0x8000_000c,
         hi_lo: [0, 0],
@@ -476,10 +474,8 @@ const RUNS: [Run<'static>; 25] = [
 
 #[test]
 fn interrupts_are_taken_and_held_back(rt: HostRuntime) -> Result<(), Fail> {
-    let file = file_of(&rt, "interrupts")?;
     for run in &RUNS {
-        check_run(&rt, file.as_str(), *run)?;
+        check_run(&rt, *run)?;
     }
-    fs::remove_file(&rt, file.as_str())?;
     Ok(())
 }

@@ -1,12 +1,9 @@
 //! Load linked and store conditional, and what stands between them.
 use super::code::Code::*;
 use super::code::{COMPARE, Code, ENTRY_LO0, ENTRY_LO1, EPC, ERROR_EPC, STATUS};
-use super::file_of;
 use super::layout::joined;
 use super::run::{Run, check_run};
-use std::fs;
 use std::process::Abort;
-use std::rt::Files;
 use std::test::Fail;
 
 /// The start of the images of `BETWEEN`: a word at 100, and a handler that returns past the instruction. Four steps are
@@ -31,7 +28,7 @@ const BETWEEN: [Run<'static>; 8] = [
     Run {
         name: "nothing between",
         code: &[Ll(1, 0x0100, 5), Sc(2, 0x0100, 5), Lw(3, 0x0100, 5)],
-        options: &[],
+        pages: 16,
         steps: 7,
         pc: 0x8000_0214,
         hi_lo: [0, 0],
@@ -41,7 +38,7 @@ const BETWEEN: [Run<'static>; 8] = [
     Run {
         name: "no load linked",
         code: &[Sc(2, 0x0100, 5), Lw(3, 0x0100, 5)],
-        options: &[],
+        pages: 16,
         steps: 6,
         pc: 0x8000_0210,
         hi_lo: [0, 0],
@@ -57,7 +54,7 @@ const BETWEEN: [Run<'static>; 8] = [
             Sc(4, 0x0100, 5),
             Lw(3, 0x0100, 5),
         ],
-        options: &[],
+        pages: 16,
         steps: 9,
         pc: 0x8000_021c,
         hi_lo: [0, 0],
@@ -72,7 +69,7 @@ const BETWEEN: [Run<'static>; 8] = [
             Sc(2, 0x0100, 5),
             Lw(3, 0x0100, 5),
         ],
-        options: &[],
+        pages: 16,
         steps: 12,
         pc: 0x8000_0218,
         hi_lo: [0, 0],
@@ -93,7 +90,7 @@ const BETWEEN: [Run<'static>; 8] = [
             Sc(2, 0x0100, 5),
             Lw(3, 0x0100, 5),
         ],
-        options: &[],
+        pages: 16,
         steps: 13,
         pc: 0x8000_021c,
         hi_lo: [0, 0],
@@ -114,7 +111,7 @@ const BETWEEN: [Run<'static>; 8] = [
             Sc(2, 0x0100, 5),
             Lw(3, 0x0100, 5),
         ],
-        options: &[],
+        pages: 16,
         steps: 8,
         pc: 0x8000_0218,
         hi_lo: [0, 0],
@@ -131,7 +128,7 @@ const BETWEEN: [Run<'static>; 8] = [
             Sc(2, 0x0100, 5), // the target
             Lw(3, 0x0100, 5),
         ],
-        options: &[],
+        pages: 16,
         steps: 9,
         pc: 0x8000_0220,
         hi_lo: [0, 0],
@@ -146,7 +143,7 @@ const BETWEEN: [Run<'static>; 8] = [
             Lw(3, 0x0100, 5),
             Lw(4, 0x0104, 5),
         ],
-        options: &[],
+        pages: 16,
         steps: 8,
         pc: 0x8000_0218,
         hi_lo: [0, 0],
@@ -178,7 +175,7 @@ const RUNS: [Run<'static>; 10] = [
             At(0x400),
             Word(0x1234),
         ],
-        options: &[],
+        pages: 16,
         steps: 14,
         pc: 0x8000_0224,
         hi_lo: [0, 0],
@@ -204,7 +201,7 @@ const RUNS: [Run<'static>; 10] = [
             At(0x400),
             Word(0x1234),
         ],
-        options: &[],
+        pages: 16,
         steps: 6,
         pc: 0x8000_0188,
         hi_lo: [0, 0],
@@ -227,7 +224,7 @@ const RUNS: [Run<'static>; 10] = [
             At(0x400),
             Word(0x1234),
         ],
-        options: &[],
+        pages: 16,
         steps: 10,
         pc: 0x8000_0028,
         hi_lo: [0, 0],
@@ -252,7 +249,7 @@ const RUNS: [Run<'static>; 10] = [
             At(0x400),
             Word(0x1234),
         ],
-        options: &[],
+        pages: 16,
         steps: 5,
         pc: 0x8000_0188,
         hi_lo: [0, 0],
@@ -272,7 +269,7 @@ const RUNS: [Run<'static>; 10] = [
             At(0x400),
             Word(0x1234),
         ],
-        options: &[],
+        pages: 16,
         steps: 6,
         pc: 0x8000_018c,
         hi_lo: [0, 0],
@@ -282,7 +279,7 @@ const RUNS: [Run<'static>; 10] = [
     Run {
         name: "a store conditional at an odd place, LLbit 0",
         code: &[Ori(2, 0, 9), Sc(2, 2, 0)],
-        options: &[],
+        pages: 16,
         steps: 2,
         pc: 0x8000_0180,
         hi_lo: [0, 0],
@@ -292,7 +289,7 @@ const RUNS: [Run<'static>; 10] = [
     Run {
         name: "a store conditional through an entry that is not valid, LLbit 0",
         code: &[Ori(2, 0, 9), Sc(2, 0x1004, 0)],
-        options: &[],
+        pages: 16,
         steps: 2,
         pc: 0x8000_0180,
         hi_lo: [0, 0],
@@ -302,7 +299,7 @@ const RUNS: [Run<'static>; 10] = [
     Run {
         name: "a store conditional that no entry has, LLbit 0",
         code: &[Lui(5, 0xc000), Ori(2, 0, 9), Sc(2, 4, 5)],
-        options: &[],
+        pages: 16,
         steps: 3,
         pc: 0x8000_0000,
         hi_lo: [0, 0],
@@ -319,7 +316,7 @@ const RUNS: [Run<'static>; 10] = [
             Ori(2, 0, 9),
             Sc(2, 0x0400, 0),
         ],
-        options: &[],
+        pages: 16,
         steps: 6,
         pc: 0x8000_0180,
         hi_lo: [0, 0],
@@ -343,7 +340,7 @@ const RUNS: [Run<'static>; 10] = [
             At(0x400),
             Word(0x1234),
         ],
-        options: &[],
+        pages: 16,
         steps: 10,
         pc: 0x8000_0188,
         hi_lo: [0, 0],
@@ -353,28 +350,22 @@ const RUNS: [Run<'static>; 10] = [
 ];
 
 /// The run with `START` before its own code.
-fn check_between<R: Files + AllocGlobal + Abort>(
-    rt: &R,
-    file: &str,
-    run: &Run,
-) -> Result<(), Fail> {
+fn check_between<R: AllocGlobal + Abort>(rt: &R, run: &Run) -> Result<(), Fail> {
     let code = joined(rt.alloc(), &[&START, run.code])?;
     let whole = Run {
         code: code.as_slice(),
         ..*run
     };
-    check_run(rt, file, whole)
+    check_run(rt, whole)
 }
 
 #[test]
 fn a_store_conditional_is_tied_to_a_load_linked(rt: HostRuntime) -> Result<(), Fail> {
-    let file = file_of(&rt, "linked")?;
     for run in &BETWEEN {
-        check_between(&rt, file.as_str(), run)?;
+        check_between(&rt, run)?;
     }
     for run in &RUNS {
-        check_run(&rt, file.as_str(), *run)?;
+        check_run(&rt, *run)?;
     }
-    fs::remove_file(&rt, file.as_str())?;
     Ok(())
 }

@@ -1,16 +1,14 @@
 //! Addresses by way of the TLB, and the instructions that write, read and look for its entries.
 use super::code::Code::*;
 use super::code::{ENTRY_HI, ENTRY_LO0, ENTRY_LO1, EPC, INDEX, RANDOM, STATUS, WIRED};
-use super::file_of;
 use super::run::{Run, check_run};
-use std::fs;
 use std::test::Fail;
 
 const RUNS: [Run<'static>; 20] = [
     Run {
         name: "a load through an entry that is not valid",
         code: &[Addiu(1, 0, 7), Lw(1, 0, 0)],
-        options: &[],
+        pages: 16,
         steps: 2,
         pc: 0x8000_0180,
         hi_lo: [0, 0],
@@ -20,7 +18,7 @@ const RUNS: [Run<'static>; 20] = [
     Run {
         name: "a store through an entry that is not valid",
         code: &[Addiu(1, 0, 7), Sw(1, 0, 0)],
-        options: &[],
+        pages: 16,
         steps: 2,
         pc: 0x8000_0180,
         hi_lo: [0, 0],
@@ -30,7 +28,7 @@ const RUNS: [Run<'static>; 20] = [
     Run {
         name: "a load from kseg2, a refill",
         code: &[Lui(1, 0xc000), Lw(2, 0, 1)],
-        options: &[],
+        pages: 16,
         steps: 2,
         pc: 0x8000_0000,
         hi_lo: [0, 0],
@@ -57,7 +55,7 @@ const RUNS: [Run<'static>; 20] = [
             Mtc0(3, STATUS),
             Eret,
         ],
-        options: &[],
+        pages: 16,
         steps: 17,
         pc: 0x8000_0000,
         hi_lo: [0, 0],
@@ -93,7 +91,7 @@ const RUNS: [Run<'static>; 20] = [
             Jr(2),
             Nop,
         ],
-        options: &[],
+        pages: 16,
         steps: 20,
         pc: 0x8000_0180,
         hi_lo: [0, 0],
@@ -119,7 +117,7 @@ const RUNS: [Run<'static>; 20] = [
             Tlbwi,
             Sw(3, 0, 2),
         ],
-        options: &[],
+        pages: 16,
         steps: 8,
         pc: 0x8000_0180,
         hi_lo: [0, 0],
@@ -150,7 +148,7 @@ const RUNS: [Run<'static>; 20] = [
             Tlbwi,
             Lw(7, 0, 2),
         ],
-        options: &[],
+        pages: 16,
         steps: 20,
         pc: 0x8000_0050,
         hi_lo: [0, 0],
@@ -180,7 +178,7 @@ const RUNS: [Run<'static>; 20] = [
             At(0x4000), // page 4
             Word(0x1234),
         ],
-        options: &[],
+        pages: 16,
         steps: 10,
         pc: 0x8000_0028,
         hi_lo: [0, 0],
@@ -203,7 +201,7 @@ const RUNS: [Run<'static>; 20] = [
             At(0x4000), // page 4
             Word(0x1234),
         ],
-        options: &[],
+        pages: 16,
         steps: 10,
         pc: 0x8000_0000,
         hi_lo: [0, 0],
@@ -226,7 +224,7 @@ const RUNS: [Run<'static>; 20] = [
             At(0x4000), // page 4
             Word(0x1234),
         ],
-        options: &[],
+        pages: 16,
         steps: 10,
         pc: 0x8000_0028,
         hi_lo: [0, 0],
@@ -249,7 +247,7 @@ const RUNS: [Run<'static>; 20] = [
             At(0x4000), // page 4
             Word(0x1234),
         ],
-        options: &[],
+        pages: 16,
         steps: 10,
         pc: 0x8000_0000,
         hi_lo: [0, 0],
@@ -276,7 +274,7 @@ const RUNS: [Run<'static>; 20] = [
             Mfc0(6, ENTRY_LO0),
             Mfc0(7, ENTRY_LO1),
         ],
-        options: &[],
+        pages: 16,
         steps: 16,
         pc: 0x8000_0040,
         hi_lo: [0, 0],
@@ -307,7 +305,7 @@ const RUNS: [Run<'static>; 20] = [
             Tlbp,
             Mfc0(6, INDEX),
         ],
-        options: &[],
+        pages: 16,
         steps: 12,
         pc: 0x8000_0030,
         hi_lo: [0, 0],
@@ -324,7 +322,7 @@ const RUNS: [Run<'static>; 20] = [
             Mfc0(4, RANDOM),
             Mfc0(5, RANDOM),
         ],
-        options: &[],
+        pages: 16,
         steps: 6,
         pc: 0x8000_0018,
         hi_lo: [0, 0],
@@ -340,7 +338,7 @@ const RUNS: [Run<'static>; 20] = [
             At(0x400),
             Word(0x1234),
         ],
-        options: &[],
+        pages: 16,
         steps: 3,
         pc: 0x8000_000c,
         hi_lo: [0, 0],
@@ -358,7 +356,7 @@ const RUNS: [Run<'static>; 20] = [
             At(0x400),
             Word(0x1234),
         ],
-        options: &[],
+        pages: 16,
         steps: 5,
         pc: 0x8000_0014,
         hi_lo: [0, 0],
@@ -377,7 +375,7 @@ const RUNS: [Run<'static>; 20] = [
             Tlbwi,
             Lw(3, 0x2ffc, 0),
         ],
-        options: &[],
+        pages: 16,
         steps: 8,
         pc: 0x8000_0180,
         hi_lo: [0, 0],
@@ -400,7 +398,7 @@ const RUNS: [Run<'static>; 20] = [
             At(0x4000), // page 4
             Word(0x1234),
         ],
-        options: &[],
+        pages: 16,
         steps: 9,
         pc: 0x8000_0184,
         hi_lo: [0, 0],
@@ -410,7 +408,7 @@ const RUNS: [Run<'static>; 20] = [
     Run {
         name: "a part of a word that no entry has, loaded",
         code: &[Lui(1, 0x0040), Lwl(2, 0x3125, 1)],
-        options: &[],
+        pages: 16,
         steps: 2,
         pc: 0x8000_0000,
         hi_lo: [0, 0],
@@ -420,7 +418,7 @@ const RUNS: [Run<'static>; 20] = [
     Run {
         name: "a part of a word that no entry has, stored",
         code: &[Lui(1, 0x0040), Swr(1, 0x3127, 1)],
-        options: &[],
+        pages: 16,
         steps: 2,
         pc: 0x8000_0000,
         hi_lo: [0, 0],
@@ -431,10 +429,8 @@ const RUNS: [Run<'static>; 20] = [
 
 #[test]
 fn addresses_go_by_the_entries(rt: HostRuntime) -> Result<(), Fail> {
-    let file = file_of(&rt, "translations")?;
     for run in &RUNS {
-        check_run(&rt, file.as_str(), *run)?;
+        check_run(&rt, *run)?;
     }
-    fs::remove_file(&rt, file.as_str())?;
     Ok(())
 }

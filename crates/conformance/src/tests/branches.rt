@@ -1,9 +1,7 @@
 //! Branches, likely branches and jumps, beside one another and to odd places.
 use super::code::Code::*;
 use super::code::{ENTRY_HI, ENTRY_LO0, ENTRY_LO1, EPC, INDEX, STATUS};
-use super::file_of;
 use super::run::{Run, check_run};
-use std::fs;
 use std::test::Fail;
 
 const RUNS: [Run<'static>; 26] = [
@@ -14,7 +12,7 @@ const RUNS: [Run<'static>; 26] = [
             Beql(0, 0, 5), // skipped
             Addiu(2, 0, 1),
         ],
-        options: &[],
+        pages: 16,
         steps: 2,
         pc: 0x8000_000c,
         hi_lo: [0, 0],
@@ -33,7 +31,7 @@ const RUNS: [Run<'static>; 26] = [
             Addiu(4, 4, 1), // skipped
             Addiu(5, 5, 1),
         ],
-        options: &[],
+        pages: 16,
         steps: 5,
         pc: 0x8000_0020,
         hi_lo: [0, 0],
@@ -49,7 +47,7 @@ const RUNS: [Run<'static>; 26] = [
             Addiu(1, 1, 1), // skipped
             Addiu(2, 2, 1),
         ],
-        options: &[],
+        pages: 16,
         steps: 3,
         pc: 0x8000_0014,
         hi_lo: [0, 0],
@@ -59,7 +57,7 @@ const RUNS: [Run<'static>; 26] = [
     Run {
         name: "a likely branch that is taken, in the slot of one that is taken",
         code: &[Beql(0, 0, 4), Beql(0, 0, 4)],
-        options: &[],
+        pages: 16,
         steps: 2,
         pc: 0x8000_0180,
         hi_lo: [0, 0],
@@ -69,7 +67,7 @@ const RUNS: [Run<'static>; 26] = [
     Run {
         name: "a likely branch that is not taken, in the slot of one that is taken",
         code: &[Beql(0, 0, 4), Bnel(0, 0, 4)],
-        options: &[],
+        pages: 16,
         steps: 2,
         pc: 0x8000_0180,
         hi_lo: [0, 0],
@@ -79,7 +77,7 @@ const RUNS: [Run<'static>; 26] = [
     Run {
         name: "a likely branch in the slot of a branch that is not taken",
         code: &[Bne(0, 0, 4), Bnel(0, 0, 4)],
-        options: &[],
+        pages: 16,
         steps: 2,
         pc: 0x8000_0180,
         hi_lo: [0, 0],
@@ -89,7 +87,7 @@ const RUNS: [Run<'static>; 26] = [
     Run {
         name: "a branch that links, in a slot: nothing is linked",
         code: &[Beq(0, 0, 4), Jalr(31, 1)],
-        options: &[],
+        pages: 16,
         steps: 2,
         pc: 0x8000_0180,
         hi_lo: [0, 0],
@@ -99,7 +97,7 @@ const RUNS: [Run<'static>; 26] = [
     Run {
         name: "a return from an exception in a slot",
         code: &[Beq(0, 0, 4), Eret],
-        options: &[],
+        pages: 16,
         steps: 2,
         pc: 0x8000_0180,
         hi_lo: [0, 0],
@@ -114,7 +112,7 @@ const RUNS: [Run<'static>; 26] = [
             Bnel(0, 0, 9), // jumped over
             Syscall, // the target, and no slot
         ],
-        options: &[],
+        pages: 16,
         steps: 3,
         pc: 0x8000_0180,
         hi_lo: [0, 0],
@@ -131,7 +129,7 @@ const RUNS: [Run<'static>; 26] = [
             Addiu(1, 1, 1),
             Addiu(2, 2, 1),
         ],
-        options: &[],
+        pages: 16,
         steps: 5,
         pc: 0x8000_0018,
         hi_lo: [0, 0],
@@ -146,7 +144,7 @@ const RUNS: [Run<'static>; 26] = [
             Bnel(1, 0, 0xfffe),
             Addiu(2, 2, 1), // at each turn but the last
         ],
-        options: &[],
+        pages: 16,
         steps: 9,
         pc: 0x8000_0010,
         hi_lo: [0, 0],
@@ -156,7 +154,7 @@ const RUNS: [Run<'static>; 26] = [
     Run {
         name: "a branch to itself",
         code: &[Beq(0, 0, 0xffff), Addiu(1, 1, 1)],
-        options: &[],
+        pages: 16,
         steps: 5,
         pc: 0x8000_0004,
         hi_lo: [0, 0],
@@ -166,7 +164,7 @@ const RUNS: [Run<'static>; 26] = [
     Run {
         name: "an exception in the slot of a likely branch",
         code: &[Beql(0, 0, 4), Syscall],
-        options: &[],
+        pages: 16,
         steps: 2,
         pc: 0x8000_0180,
         hi_lo: [0, 0],
@@ -180,7 +178,7 @@ const RUNS: [Run<'static>; 26] = [
             Addiu(2, 2, 1), // skipped
             Addiu(3, 31, 0),
         ],
-        options: &[],
+        pages: 16,
         steps: 2,
         pc: 0x8000_000c,
         hi_lo: [0, 0],
@@ -197,7 +195,7 @@ const RUNS: [Run<'static>; 26] = [
             Nop,
             Addiu(3, 0, 1), // its target
         ],
-        options: &[],
+        pages: 16,
         steps: 4,
         pc: 0x8000_0018,
         hi_lo: [0, 0],
@@ -219,7 +217,7 @@ const RUNS: [Run<'static>; 26] = [
             At(0x20),
             Addiu(3, 0, 1),
         ],
-        options: &[],
+        pages: 16,
         steps: 5,
         pc: 0x8000_0024,
         hi_lo: [0, 0],
@@ -236,7 +234,7 @@ const RUNS: [Run<'static>; 26] = [
             At(0x20),
             Addiu(3, 0, 1),
         ],
-        options: &[],
+        pages: 16,
         steps: 5,
         pc: 0x8000_0024,
         hi_lo: [0, 0],
@@ -269,7 +267,7 @@ const RUNS: [Run<'static>; 26] = [
             At(0x2100), // at 10000100
             Addiu(5, 0, 1),
         ],
-        options: &[],
+        pages: 16,
         steps: 20,
         pc: 0x1000_0104,
         hi_lo: [0, 0],
@@ -284,7 +282,7 @@ const RUNS: [Run<'static>; 26] = [
             Jr(1),
             Addiu(2, 0, 1), // its slot
         ],
-        options: &[],
+        pages: 16,
         steps: 5,
         pc: 0x8000_0180,
         hi_lo: [0, 0],
@@ -299,7 +297,7 @@ const RUNS: [Run<'static>; 26] = [
             Jr(1),
             Addiu(2, 0, 1), // its slot
         ],
-        options: &[],
+        pages: 16,
         steps: 5,
         pc: 0x8000_0180,
         hi_lo: [0, 0],
@@ -314,7 +312,7 @@ const RUNS: [Run<'static>; 26] = [
             Jr(1),
             Addiu(2, 0, 1), // its slot
         ],
-        options: &[],
+        pages: 16,
         steps: 5,
         pc: 0x8000_0180,
         hi_lo: [0, 0],
@@ -328,7 +326,7 @@ const RUNS: [Run<'static>; 26] = [
             Jalr(31, 1),
             Addiu(2, 0, 1), // its slot
         ],
-        options: &[],
+        pages: 16,
         steps: 4,
         pc: 0x8000_0180,
         hi_lo: [0, 0],
@@ -338,7 +336,7 @@ const RUNS: [Run<'static>; 26] = [
     Run {
         name: "a jump to an odd place that no entry of the TLB has",
         code: &[Lui(1, 0xc000), Ori(1, 1, 0x0002), Jr(1), Nop],
-        options: &[],
+        pages: 16,
         steps: 5,
         pc: 0x8000_0180,
         hi_lo: [0, 0],
@@ -348,7 +346,7 @@ const RUNS: [Run<'static>; 26] = [
     Run {
         name: "an exception in the slot of a jump to an odd place",
         code: &[Ori(1, 0, 0x0101), Jr(1), Syscall],
-        options: &[],
+        pages: 16,
         steps: 3,
         pc: 0x8000_0180,
         hi_lo: [0, 0],
@@ -375,7 +373,7 @@ const RUNS: [Run<'static>; 26] = [
             Addiu(3, 3, 1),
             Eret,
         ],
-        options: &[],
+        pages: 16,
         steps: 16,
         pc: 0x0040_0104,
         hi_lo: [0, 0],
@@ -391,7 +389,7 @@ const RUNS: [Run<'static>; 26] = [
             Mtc0(2, STATUS),
             Eret,
         ],
-        options: &[],
+        pages: 16,
         steps: 6,
         pc: 0x8000_0180,
         hi_lo: [0, 0],
@@ -402,10 +400,8 @@ const RUNS: [Run<'static>; 26] = [
 
 #[test]
 fn branches_and_jumps_go_where_they_should(rt: HostRuntime) -> Result<(), Fail> {
-    let file = file_of(&rt, "branches")?;
     for run in &RUNS {
-        check_run(&rt, file.as_str(), *run)?;
+        check_run(&rt, *run)?;
     }
-    fs::remove_file(&rt, file.as_str())?;
     Ok(())
 }

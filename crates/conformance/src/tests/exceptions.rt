@@ -1,12 +1,9 @@
 //! Each exception of an instruction that was fetched, from each place where it can come.
 use super::code::Code::*;
 use super::code::{Code, STATUS};
-use super::file_of;
 use super::layout::{Mode, SETUP_REGS, STEPS_TO_SETUP, TLB_SETUP, VECTORS, joined, total};
 use super::run::{Run, check_run};
-use std::fs;
 use std::process::Abort;
-use std::rt::Files;
 use std::test::Fail;
 
 /// An instruction that raises an exception, and what that leaves behind wherever it stands.
@@ -22,7 +19,7 @@ struct Fault {
     bad_address: u32,
     entry_hi: u32,
     context: u32,
-    regs: &'static [(usize, u32)],
+    regs: &'static [(u32, u32)],
 }
 
 /// EntryHi where no exception has written it: the ASID.
@@ -371,12 +368,7 @@ const USER_PLACES: [Place; 2] = [
 ];
 
 /// The exception of the fault in that place, and two steps of its handler.
-fn check_fault<R: Files + AllocGlobal + Abort>(
-    rt: &R,
-    file: &str,
-    fault: &Fault,
-    place: &Place,
-) -> Result<(), Fail> {
+fn check_fault<R: AllocGlobal + Abort>(rt: &R, fault: &Fault, place: &Place) -> Result<(), Fail> {
     let name = format!(in rt.alloc(); "{} {}", fault.name, place.name)?;
     let way = place.mode.way_there();
     let last = [fault.instruction];
@@ -413,7 +405,7 @@ fn check_fault<R: Files + AllocGlobal + Abort>(
     let run = Run {
         name: name.as_str(),
         code: code.as_slice(),
-        options: &[],
+        pages: 16,
         steps,
         pc: if fault.refill && first_level {
             0x8000_0008
@@ -429,25 +421,23 @@ fn check_fault<R: Files + AllocGlobal + Abort>(
             fault.bad_address,
         ],
     };
-    check_run(rt, file, run)
+    check_run(rt, run)
 }
 
 #[test]
 fn exceptions_from_each_place(rt: HostRuntime) -> Result<(), Fail> {
-    let file = file_of(&rt, "exceptions")?;
     for fault in &FAULTS {
         for place in &PLACES {
-            check_fault(&rt, file.as_str(), fault, place)?;
+            check_fault(&rt, fault, place)?;
         }
     }
     for place in &USER_PLACES {
         for fault in &FAULTS {
-            check_fault(&rt, file.as_str(), fault, place)?;
+            check_fault(&rt, fault, place)?;
         }
         for fault in &USER_FAULTS {
-            check_fault(&rt, file.as_str(), fault, place)?;
+            check_fault(&rt, fault, place)?;
         }
     }
-    fs::remove_file(&rt, file.as_str())?;
     Ok(())
 }

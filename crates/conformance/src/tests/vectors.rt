@@ -1,9 +1,7 @@
 //! The vectors that IV, BEV and EXL choose.
 use super::code::Code::*;
 use super::code::{CAUSE, COMPARE, STATUS};
-use super::file_of;
 use super::run::{Run, check_run};
-use std::fs;
 use std::test::Fail;
 
 const RUNS: [Run<'static>; 10] = [
@@ -18,7 +16,7 @@ const RUNS: [Run<'static>; 10] = [
             Mtc0(2, STATUS),
             Nop,
         ],
-        options: &[],
+        pages: 16,
         steps: 7,
         pc: 0x8000_0200,
         hi_lo: [0, 0],
@@ -35,7 +33,7 @@ const RUNS: [Run<'static>; 10] = [
             Mtc0(2, STATUS),
             Nop,
         ],
-        options: &[],
+        pages: 16,
         steps: 6,
         pc: 0xbfc0_0380,
         hi_lo: [0, 0],
@@ -54,7 +52,7 @@ const RUNS: [Run<'static>; 10] = [
             Mtc0(2, STATUS),
             Nop,
         ],
-        options: &[],
+        pages: 16,
         steps: 8,
         pc: 0xbfc0_0400,
         hi_lo: [0, 0],
@@ -68,7 +66,7 @@ const RUNS: [Run<'static>; 10] = [
             Mtc0(3, CAUSE),
             Syscall,
         ],
-        options: &[],
+        pages: 16,
         steps: 3,
         pc: 0x8000_0180,
         hi_lo: [0, 0],
@@ -82,7 +80,7 @@ const RUNS: [Run<'static>; 10] = [
             Mtc0(2, STATUS),
             Syscall,
         ],
-        options: &[],
+        pages: 16,
         steps: 3,
         pc: 0xbfc0_0380,
         hi_lo: [0, 0],
@@ -96,7 +94,7 @@ const RUNS: [Run<'static>; 10] = [
             Mtc0(2, STATUS),
             Lw(3, 0, 2),
         ],
-        options: &[],
+        pages: 16,
         steps: 3,
         pc: 0xbfc0_0200,
         hi_lo: [0, 0],
@@ -111,7 +109,7 @@ const RUNS: [Run<'static>; 10] = [
             Mtc0(3, STATUS),
             Lw(4, 0, 2),
         ],
-        options: &[],
+        pages: 16,
         steps: 4,
         pc: 0xbfc0_0380,
         hi_lo: [0, 0],
@@ -125,7 +123,7 @@ const RUNS: [Run<'static>; 10] = [
             Mtc0(3, CAUSE),
             Lw(4, 0, 3),
         ],
-        options: &[],
+        pages: 16,
         steps: 3,
         pc: 0x8000_0000,
         hi_lo: [0, 0],
@@ -139,7 +137,7 @@ const RUNS: [Run<'static>; 10] = [
             Mtc0(2, STATUS),
             Syscall,
         ],
-        options: &[],
+        pages: 16,
         steps: 4,
         pc: 0xbfc0_0380,
         hi_lo: [0, 0],
@@ -153,7 +151,7 @@ const RUNS: [Run<'static>; 10] = [
             Mtc0(1, STATUS),
             Syscall,
         ],
-        options: &[],
+        pages: 16,
         steps: 3,
         pc: 0x8000_0180,
         hi_lo: [0, 0],
@@ -164,10 +162,8 @@ const RUNS: [Run<'static>; 10] = [
 
 #[test]
 fn exceptions_are_entered_at_their_vectors(rt: HostRuntime) -> Result<(), Fail> {
-    let file = file_of(&rt, "vectors")?;
     for run in &RUNS {
-        check_run(&rt, file.as_str(), *run)?;
+        check_run(&rt, *run)?;
     }
-    fs::remove_file(&rt, file.as_str())?;
     Ok(())
 }
