@@ -11,8 +11,6 @@ pub enum Code {
     At(u32),
     /// A word as it is.
     Word(u32),
-    /// One byte.
-    Byte(u8),
     /// `sll $0,$0,0`
     Nop,
     /// `addiu $rt,$rs,immediate`
@@ -23,24 +21,10 @@ pub enum Code {
     Ori(u32, u32, u32),
     /// `lui $rt,immediate`
     Lui(u32, u32),
-    /// `srl $rd,$rt,shift`
-    Srl(u32, u32, u32),
-    /// `sra $rd,$rt,shift`
-    Sra(u32, u32, u32),
     /// `add $rd,$rs,$rt`
     Add(u32, u32, u32),
     /// `addu $rd,$rs,$rt`
     Addu(u32, u32, u32),
-    /// `subu $rd,$rs,$rt`
-    Subu(u32, u32, u32),
-    /// `nor $rd,$rs,$rt`
-    Nor(u32, u32, u32),
-    /// `div $rs,$rt`
-    Div(u32, u32),
-    /// `divu $rs,$rt`
-    Divu(u32, u32),
-    /// `clz $rd,$rs`
-    Clz(u32, u32),
     /// `teq $rs,$rt`
     Teq(u32, u32),
     /// `lb $rt,offset($base)`, as each load and store
@@ -70,8 +54,6 @@ pub enum Code {
     Beql(u32, u32, u32),
     /// `bnel $rs,$rt,offset`
     Bnel(u32, u32, u32),
-    /// `bgezl $rs,offset`
-    Bgezl(u32, u32),
     /// `bltzall $rs,offset`
     Bltzall(u32, u32),
     /// `j`, to this place in the 256 MB of its delay slot
@@ -124,24 +106,17 @@ pub const CONFIG: u32 = 16;
 pub const ERROR_EPC: u32 = 30;
 
 impl Code {
-    /// The word of an instruction; zeros for a piece of data that is no word.
+    /// The word of an instruction or of data; zeros for a place.
     fn word(self) -> u32 {
         match self {
-            At(_) | Byte(_) | Nop => 0,
+            At(_) | Nop => 0,
             Word(word) => word,
             Addi(rt, rs, imm) => immediate(0x08, rs, rt, imm),
             Addiu(rt, rs, imm) => immediate(0x09, rs, rt, imm),
             Ori(rt, rs, imm) => immediate(0x0d, rs, rt, imm),
             Lui(rt, imm) => immediate(0x0f, 0, rt, imm),
-            Srl(rd, rt, sa) => special(0x02, 0, rt, rd) | sa << 6,
-            Sra(rd, rt, sa) => special(0x03, 0, rt, rd) | sa << 6,
             Add(rd, rs, rt) => special(0x20, rs, rt, rd),
             Addu(rd, rs, rt) => special(0x21, rs, rt, rd),
-            Subu(rd, rs, rt) => special(0x23, rs, rt, rd),
-            Nor(rd, rs, rt) => special(0x27, rs, rt, rd),
-            Div(rs, rt) => special(0x1a, rs, rt, 0),
-            Divu(rs, rt) => special(0x1b, rs, rt, 0),
-            Clz(rd, rs) => 0x1c << 26 | special(0x20, rs, rd, rd),
             Teq(rs, rt) => special(0x34, rs, rt, 0),
             Lb(rt, offset, base) => immediate(0x20, base, rt, offset),
             Lh(rt, offset, base) => immediate(0x21, base, rt, offset),
@@ -163,7 +138,6 @@ impl Code {
             Bne(rs, rt, offset) => immediate(0x05, rs, rt, offset),
             Beql(rs, rt, offset) => immediate(0x14, rs, rt, offset),
             Bnel(rs, rt, offset) => immediate(0x15, rs, rt, offset),
-            Bgezl(rs, offset) => immediate(0x01, rs, 0x03, offset),
             Bltzall(rs, offset) => immediate(0x01, rs, 0x12, offset),
             J(target) => 0x02 << 26 | target >> 2 & 0x03ff_ffff,
             Jr(rs) => special(0x08, rs, 0, 0),
@@ -203,7 +177,6 @@ pub fn image_of(alloc: Global, code: &[Code]) -> Result<Vec<u8>, Fail> {
                 }
                 bytes.resize(offset, 0)?;
             }
-            Byte(byte) => bytes.push(byte)?,
             instruction => bytes.extend_from_slice(&instruction.word().to_le_bytes())?,
         }
     }
