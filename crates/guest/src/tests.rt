@@ -1,5 +1,5 @@
 //! Steps of a guest, its log and its seats, and reads of its memory.
-ghost use Rattle.std.specs.Prelude.{◌<◌};
+ghost use Rattle.std.specs.Prelude.{◌≡◌, ◌<◌, [], IfOk};
 ghost use Rattle.guest.specs.Seats.{IsLegal};
 
 use crate::{Guest, Log, Refused, Seat, Stop};
@@ -10,10 +10,30 @@ use mips_step::StepOut;
 use std::process::Abort;
 use std::test::Fail;
 
-/// `addiu $1,$1,1` three times, and then a word of no row.
-const COUNTING: [u8; 16] = [
-    1, 0, 0x21, 0x24, 1, 0, 0x21, 0x24, 1, 0, 0x21, 0x24, 0, 0, 0x20, 0,
+const COUNTING: [u32; 4] = [
+    0x2421_0001, // addiu $1,$1,1
+    0x2421_0001,
+    0x2421_0001,
+    0x0020_0000, // a word of no row
 ];
+
+/// A guest with 2 pages that has booted these words.
+fn booted<R: AllocGlobal + Abort>(rt: &R, words: &[u32], log_runs: u32) -> Result<Guest, Fail>
+    ensures { IfOk result (λ guest. guest.log.items ≡ []) }
+{
+    let image = words_image(rt, words)?;
+    assert!(rt; image.fits(2));
+    Ok(Guest::boot(rt.alloc(), image, 2, log_runs)?)
+}
+
+fn words_image<R: AllocGlobal + Abort>(rt: &R, words: &[u32]) -> Result<Image, Fail> {
+    let mut bytes = Vec::new(rt.alloc());
+    for word in words {
+        bytes.extend_from_slice(&word.to_le_bytes())?;
+    }
+    assert!(rt; bytes.len() < 0x1000);
+    Ok(Image::raw(rt.alloc(), bytes)?)
+}
 
 fn step_once(rt: &impl Abort, guest: &mut Guest, seat: &mut Seat) -> StepOut
     requires { IsLegal seat.old guest.old.log.items }
@@ -33,45 +53,50 @@ fn make_steps(rt: &impl Abort, guest: &mut Guest, seat: &mut Seat, count: usize)
     }
 }
 
+/// Checks PC and register 1, and how many steps were made, in how many runs.
+fn check_steps(
+    rt: &impl Abort,
+    guest: &Guest,
+    seat: &Seat,
+    (pc, count): (u32, u32),
+    (steps, runs): (u64, u32),
+) {
+    let cpu = guest.view().cpu;
+    assert_eq!(rt; (cpu.pc(), cpu.reg(Reg::new(1))), (pc, count));
+    let log = guest.log();
+    assert_eq!(rt; (log.len(), log.runs(), seat.made()), (steps, runs, steps));
+}
+
 #[test]
 fn a_guest_steps_into_an_exception(rt: HostRuntime) -> Result<(), Fail> {
-    let one = Reg::new(1);
-    let image = Image::raw(rt.alloc(), COUNTING.to_vec(rt.alloc())?)?;
-    assert!(rt; image.fits(2));
-    let mut guest = Guest::boot(rt.alloc(), image, 2, 16)?;
+    let mut guest = booted(&rt, &COUNTING, 16)?;
     let mut seat = Seat::new(SeatNo::runner());
     assert!(rt; guest.log().is_empty());
-    assert!(rt; step_once(&rt, &mut guest, &mut seat) == StepOut::Done);
-    assert!(rt; step_once(&rt, &mut guest, &mut seat) == StepOut::Done);
-    assert!(rt; step_once(&rt, &mut guest, &mut seat) == StepOut::Done);
-    assert_eq!(rt; guest.view().cpu.pc(), 0x8000_000c);
-    assert!(rt; step_once(&rt, &mut guest, &mut seat) == StepOut::Done);
+    make_steps(&rt, &mut guest, &mut seat, 3);
+    check_steps(&rt, &guest, &seat, (0x8000_000c, 3), (3, 1));
+    make_steps(&rt, &mut guest, &mut seat, 1);
     guest.replay();
-    assert_eq!(rt; guest.view().cpu.reg(one), 3);
-    assert_eq!(rt; guest.view().cpu.pc(), 0x8000_0180);
-    assert_eq!(rt; guest.log().len(), 4);
-    assert_eq!(rt; guest.log().runs(), 1);
-    assert_eq!(rt; seat.made(), 4);
+    check_steps(&rt, &guest, &seat, (0x8000_0180, 3), (4, 1));
     assert!(rt; seat.number() == SeatNo::runner());
     Ok(())
 }
 
 #[test]
 fn a_guest_stops_where_its_log_is_full(rt: HostRuntime) -> Result<(), Fail> {
-    let image = Image::raw(rt.alloc(), COUNTING.to_vec(rt.alloc())?)?;
-    assert!(rt; image.fits(2));
-    let mut guest = Guest::boot(rt.alloc(), image, 2, 1)?;
+    let mut guest = booted(&rt, &COUNTING, 1)?;
     let mut seat = Seat::new(SeatNo::runner());
-    assert!(rt; step_once(&rt, &mut guest, &mut seat) == StepOut::Done);
+    make_steps(&rt, &mut guest, &mut seat, 1);
     assert!(rt; guest.log_room() == Err(Stop::LogFull));
     Ok(())
 }
 
-fn add(rt: &impl Abort, log: &mut Log, seat: u8)
+/// Adds a step of a seat, and checks how many steps there are, and in how many runs.
+fn check_step(rt: &impl Abort, log: &mut Log, seat: u8, len: u64, runs: u32)
     requires { seat < 4 }
 {
     assert!(rt; log.make_room().is_ok());
     log.step(SeatNo::new(seat));
+    assert_eq!(rt; (log.len(), log.runs()), (len, runs), "after item {len}");
 }
 
 #[test]
@@ -87,8 +112,7 @@ fn neighbouring_steps_of_one_seat_are_one_run(rt: HostRuntime) {
         (3, 6, 3),
         (1, 7, 4),
     ] {
-        add(&rt, &mut log, seat);
-        assert_eq!(rt; (log.len(), log.runs()), (len, runs), "after item {len}");
+        check_step(&rt, &mut log, seat, len, runs);
     }
     assert!(rt; log.make_room() == Err(Stop::LogFull));
 }
@@ -116,7 +140,7 @@ const MAPPING: [u32; 18] = [
 ];
 
 /// Reads as the machine boots, and what they give. The buffer has as many bytes.
-const GIVEN_AT_BOOT: [(u32, &[u8]); 8] = [
+static GIVEN_AT_BOOT: [(u32, &[u8]); 8] = [
     // the image's words, the lowest byte first
     (
         0x8000_0000,
@@ -134,7 +158,7 @@ const GIVEN_AT_BOOT: [(u32, &[u8]); 8] = [
 ];
 
 /// Reads of so many bytes that are refused as the machine boots.
-const REFUSED_AT_BOOT: [(u32, usize); 6] = [
+static REFUSED_AT_BOOT: [(u32, usize); 6] = [
     // past the end of memory, and across it
     (0x8000_2000, 1),
     (0x8000_1ffe, 3),
@@ -146,7 +170,7 @@ const REFUSED_AT_BOOT: [(u32, usize); 6] = [
     (0xffff_ffff, 2),
 ];
 
-const GIVEN_WHERE_MAPPED: [(u32, &[u8]); 4] = [
+static GIVEN_WHERE_MAPPED: [(u32, &[u8]); 4] = [
     // kseg0, which user mode may not reach itself
     (0x8000_0000, &[0x00, 0x80, 0x02, 0x3c]),
     (0x8000_1ffc, &[0x10, 0x32, 0x54, 0x76]),
@@ -155,12 +179,30 @@ const GIVEN_WHERE_MAPPED: [(u32, &[u8]); 4] = [
     (0xffff_fffe, &[0x54, 0x76, 0x00, 0x80, 0x02]),
 ];
 
-const REFUSED_WHERE_MAPPED: [(u32, usize); 3] = [
+static REFUSED_WHERE_MAPPED: [(u32, usize); 3] = [
     // from a page that is not valid, and into one
     (0xffff_efff, 2),
     (0x0000_0fff, 2),
     (0xffff_ffff, 0x1002),
 ];
+
+/// Checks the answer of a read and what its buffer has then. It had the bytes a5.
+fn check_read<R: AllocGlobal + Abort>(
+    rt: &R,
+    guest: &Guest,
+    address: u32,
+    answer: Result<(), Refused>,
+    bytes: &[u8],
+) -> Result<(), Fail> {
+    let mut buffer = vec![in rt.alloc(); 0xa5; bytes.len()]?;
+    let found = guest.debug_read(address, &mut buffer);
+    assert_eq!(rt;
+        (found, buffer.as_slice()),
+        (answer, bytes),
+        "{address:08x}"
+    );
+    Ok(())
+}
 
 fn check_given<R: AllocGlobal + Abort>(
     rt: &R,
@@ -168,12 +210,7 @@ fn check_given<R: AllocGlobal + Abort>(
     reads: &[(u32, &[u8])],
 ) -> Result<(), Fail> {
     for (address, bytes) in reads {
-        let mut buffer = vec![in rt.alloc(); 0xa5; bytes.len()]?;
-        assert!(rt;
-            guest.debug_read(*address, &mut buffer).is_ok(),
-            "{address:08x}"
-        );
-        assert_eq!(rt; buffer.as_slice(), *bytes, "{address:08x}");
+        check_read(rt, guest, *address, Ok(()), *bytes)?;
     }
     Ok(())
 }
@@ -184,34 +221,25 @@ fn check_refused<R: AllocGlobal + Abort>(
     reads: &[(u32, usize)],
 ) -> Result<(), Fail> {
     for (address, count) in reads {
-        let mut buffer = vec![in rt.alloc(); 0xa5; *count]?;
-        let answer = guest.debug_read(*address, &mut buffer);
-        assert!(rt; answer == Err(Refused::Machine), "{address:08x}");
-        assert!(rt; buffer.iter().all(|byte| *byte == 0xa5), "{address:08x}");
+        let unread = vec![in rt.alloc(); 0xa5; *count]?;
+        check_read(rt, guest, *address, Err(Refused::Machine), &unread)?;
     }
     Ok(())
-}
-
-fn words_image<R: AllocGlobal + Abort>(rt: &R, words: &[u32]) -> Result<Image, Fail> {
-    let mut bytes = Vec::new(rt.alloc());
-    for word in words {
-        bytes.extend_from_slice(&word.to_le_bytes())?;
-    }
-    assert!(rt; bytes.len() < 0x1000);
-    Ok(Image::raw(rt.alloc(), bytes)?)
 }
 
 #[test]
-fn a_guest_gives_its_bytes(rt: HostRuntime) -> Result<(), Fail> {
-    let image = words_image(&rt, MAPPING.as_slice())?;
-    assert!(rt; image.fits(2));
-    let mut guest = Guest::boot(rt.alloc(), image, 2, 16)?;
+fn a_guest_gives_its_bytes_at_boot(rt: HostRuntime) -> Result<(), Fail> {
+    let guest = booted(&rt, &MAPPING, 16)?;
+    check_given(&rt, &guest, &GIVEN_AT_BOOT)?;
+    check_refused(&rt, &guest, &REFUSED_AT_BOOT)
+}
+
+#[test]
+fn a_guest_gives_its_bytes_where_mapped(rt: HostRuntime) -> Result<(), Fail> {
+    let mut guest = booted(&rt, &MAPPING, 16)?;
     let mut seat = Seat::new(SeatNo::runner());
-    check_given(&rt, &guest, GIVEN_AT_BOOT.as_slice())?;
-    check_refused(&rt, &guest, REFUSED_AT_BOOT.as_slice())?;
     make_steps(&rt, &mut guest, &mut seat, MAPPING.len());
     assert!(rt; guest.view().cpu.cp0().is_user_mode());
-    check_given(&rt, &guest, GIVEN_WHERE_MAPPED.as_slice())?;
-    check_refused(&rt, &guest, REFUSED_WHERE_MAPPED.as_slice())?;
-    Ok(())
+    check_given(&rt, &guest, &GIVEN_WHERE_MAPPED)?;
+    check_refused(&rt, &guest, &REFUSED_WHERE_MAPPED)
 }

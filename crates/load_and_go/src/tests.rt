@@ -31,7 +31,7 @@ start:
 ";
 
 /// Virtual addresses, and the bytes from there on once `TWO_SEGMENTS` is booted with 16 pages.
-const BYTES_OF_TWO_SEGMENTS: [(u32, &[u8]); 7] = [
+static BYTES_OF_TWO_SEGMENTS: [(u32, &[u8]); 7] = [
     (0x8000_0000, &[0x00, 0x01, 0x00, 0x80]),
     (0x8000_0004, &[0x01, 0xff, 0xfe, 0, 0, 0, 0, 0]),
     // nothing is listed from 8000000c to 800000ff
@@ -43,13 +43,20 @@ const BYTES_OF_TWO_SEGMENTS: [(u32, &[u8]); 7] = [
     (0x8000_fffc, &[0, 0, 0, 0]),
 ];
 
+fn step_once(rt: &impl Abort, guest: &mut Guest, seat: &mut Seat)
+    requires { IsLegal seat.old guest.old.log.items }
+    ensures { IsLegal seat.new guest.new.log.items }
+{
+    assert!(rt; guest.log_room().is_ok());
+    assert!(rt; guest.step(seat) == StepOut::Done);
+}
+
 fn make_steps(rt: &impl Abort, guest: &mut Guest, seat: &mut Seat, count: usize)
     requires { IsLegal seat.old guest.old.log.items }
     ensures { IsLegal seat.new guest.new.log.items }
 {
     for _ in 0..count {
-        assert!(rt; guest.log_room().is_ok());
-        assert!(rt; guest.step(seat) == StepOut::Done);
+        step_once(rt, guest, seat);
     }
 }
 
@@ -99,17 +106,28 @@ fn booted_programs_run(rt: HostRuntime) -> Result<(), Fail> {
     )
 }
 
+fn check_bytes<R: AllocGlobal + Abort>(
+    rt: &R,
+    guest: &Guest,
+    address: u32,
+    bytes: &[u8],
+) -> Result<(), Fail> {
+    let mut buffer = vec![in rt.alloc(); 0xa5; bytes.len()]?;
+    let answer = guest.debug_read(address, &mut buffer);
+    assert_eq!(rt;
+        (answer, buffer.as_slice()),
+        (Ok(()), bytes),
+        "{address:08x}"
+    );
+    Ok(())
+}
+
 #[test]
 fn memory_has_what_is_listed(rt: HostRuntime) -> Result<(), Fail> {
     let guest = boot_text(rt.alloc(), TWO_SEGMENTS, 16, 1)?;
     assert_eq!(rt; guest.view().cpu.pc(), 0x8000_0100);
-    for (address, bytes) in BYTES_OF_TWO_SEGMENTS {
-        let mut buffer = vec![in rt.alloc(); 0xa5; bytes.len()]?;
-        assert!(rt;
-            guest.debug_read(address, &mut buffer).is_ok(),
-            "{address:08x}"
-        );
-        assert_eq!(rt; buffer.as_slice(), bytes, "{address:08x}");
+    for (address, bytes) in &BYTES_OF_TWO_SEGMENTS {
+        check_bytes(&rt, &guest, *address, *bytes)?;
     }
     Ok(())
 }
@@ -170,56 +188,73 @@ const REFUSALS: [(&str, u32, BootError, &str); 6] = [
     ),
 ];
 
-#[test]
-fn texts_are_refused(rt: HostRuntime) -> Result<(), Fail> {
-    for (text, pages, error, says) in REFUSALS {
-        assert!(rt;
-            boot_text(rt.alloc(), text, pages, 1).err() == Some(error),
-            "{text:?}"
-        );
-        assert!(rt;
-            flat_text(rt.alloc(), text, pages).err() == Some(error),
-            "{text:?}"
-        );
-        let said = format!(in rt.alloc(); "{error}")?;
-        assert_eq!(rt; said.as_str(), says);
-    }
-    let memory = format!(in rt.alloc(); "{}", BootError::Memory)?;
-    assert_eq!(rt; memory.as_str(), "memory");
+/// Checks the error of booting a text on either machine, `None` where it boots.
+fn check_error<R: AllocGlobal + Abort>(rt: &R, text: &str, pages: u32, want: Option<BootError>) {
+    let guest = boot_text(rt.alloc(), text, pages, 1).err();
+    let flat = flat_text(rt.alloc(), text, pages).err();
+    assert_eq!(rt; (guest, flat), (want, want), "{text:?}");
+}
+
+fn check_says<R: AllocGlobal + Abort>(rt: &R, error: BootError, says: &str) -> Result<(), Fail> {
+    let said = format!(in rt.alloc(); "{error}")?;
+    assert_eq!(rt; said.as_str(), says);
     Ok(())
 }
 
 #[test]
-fn the_last_bytes_of_memory_are_listed(rt: HostRuntime) -> Result<(), Fail> {
+fn texts_are_refused(rt: HostRuntime) -> Result<(), Fail> {
+    for (text, pages, error, says) in REFUSALS {
+        check_error(&rt, text, pages, Some(error));
+        check_says(&rt, error, says)?;
+    }
+    check_says(&rt, BootError::Memory, "memory")
+}
+
+#[test]
+fn the_last_bytes_of_memory_are_listed(rt: HostRuntime) {
     for (text, pages) in [
         (".org 0x80010000\neret", 17),
         (".org 0x8000fffc\neret", 16),
         ("eret\n.org 0x8000fffd\n.space 3", 16),
         ("eret", 1),
     ] {
-        assert!(rt; boot_text(rt.alloc(), text, pages, 1).is_ok(), "{text:?}");
-        assert!(rt; flat_text(rt.alloc(), text, pages).is_ok(), "{text:?}");
+        check_error(&rt, text, pages, None);
     }
-    Ok(())
+}
+
+/// Checks that a text is refused for this error or for want of memory.
+fn check_refused<R: AllocGlobal + Abort>(rt: &R, text: &str, pages: u32, want: BootError) {
+    let found = boot_text(rt.alloc(), text, pages, 1).err();
+    assert!(rt;
+        found == Some(want) || found == Some(BootError::Memory),
+        "{text:?}"
+    );
+}
+
+fn check_word(rt: &impl Abort, guest: &Guest, address: u32, want: [u8; 4]) {
+    let mut word = [0; 4];
+    let answer = guest.debug_read(address, &mut word);
+    assert_eq!(rt; (answer, word), (Ok(()), want));
 }
 
 /// Where a request for memory is refused, that is the answer, and no other one changes.
 #[test]
-fn the_answer_or_want_of_memory(rt: HostRuntime) {
+fn the_error_or_want_of_memory(rt: HostRuntime) {
     for (text, pages, error, _) in REFUSALS {
-        match boot_text(rt.alloc(), text, pages, 1) {
-            Ok(_) => assert!(rt; false, "{text:?}"),
-            Err(found) => assert!(rt; found == error || found == BootError::Memory, "{text:?}"),
-        }
+        check_refused(&rt, text, pages, error);
     }
+}
+
+#[test]
+fn the_guest_or_want_of_memory(rt: HostRuntime) {
     match boot_text(rt.alloc(), TWO_SEGMENTS, 16, 1) {
-        Ok(guest) => {
-            let mut word = [0; 4];
-            assert!(rt; guest.debug_read(0x8000_0104, &mut word).is_ok());
-            assert!(rt; word == [0x00, 0x00, 0x43, 0x8c]);
-        }
+        Ok(guest) => check_word(&rt, &guest, 0x8000_0104, [0x00, 0x00, 0x43, 0x8c]),
         Err(found) => assert!(rt; found == BootError::Memory),
     }
+}
+
+#[test]
+fn the_table_machine_or_want_of_memory(rt: HostRuntime) {
     match flat_text(rt.alloc(), TWO_SEGMENTS, 16) {
         Ok(flat) => assert_eq!(rt; flat.view().cpu.pc(), 0x8000_0100),
         Err(found) => assert!(rt; found == BootError::Memory),

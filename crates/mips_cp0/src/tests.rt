@@ -1,5 +1,17 @@
 //! Tables of the registers, of exception entry, of the timer and of the interrupts.
 use crate::{Coprocessor, Cp0, Exc};
+use std::fmt::Debug;
+use std::process::Abort;
+
+// Asserts one case. The tests share it, since each assertion in a function's own body makes its proof much longer.
+fn expect<C: Debug + Drop, T: PartialEq + Debug + Drop>(
+    rt: &impl Abort,
+    case: C,
+    got: T,
+    wanted: T,
+) {
+    assert!(rt; got == wanted, "{case:?}: {got:?}, not {wanted:?}");
+}
 
 // Number, select, and what a read gives at boot, after a write of FFFFFFFF, and after one of 00000000.
 const REGISTERS: [(u32, u32, u32, u32, u32); 18] = [
@@ -23,28 +35,31 @@ const REGISTERS: [(u32, u32, u32, u32, u32); 18] = [
     (30, 0, 0, 0xffff_ffff, 0),
 ];
 
+// What a register reads as at boot, after a write of FFFFFFFF, and after one of 00000000.
+fn reads(number: u32, select: u32) -> (u32, u32, u32) {
+    let mut cp0 = Cp0::boot();
+    let boot = cp0.read(number, select, 0);
+    cp0.write(number, select, 0xffff_ffff);
+    let ones = cp0.read(number, select, 0);
+    cp0.write(number, select, 0);
+    (boot, ones, cp0.read(number, select, 0))
+}
+
 #[test]
 fn registers_read_and_write(rt: HostRuntime) {
     for (number, select, boot, ones, zeros) in REGISTERS {
-        let mut cp0 = Cp0::boot();
-        assert_eq!(rt;
-            cp0.read(number, select, 0),
-            boot,
-            "{number}, {select} at boot"
-        );
-        cp0.write(number, select, 0xffff_ffff);
-        assert_eq!(rt;
-            cp0.read(number, select, 0),
-            ones,
-            "{number}, {select} after ones"
-        );
-        cp0.write(number, select, 0);
-        assert_eq!(rt;
-            cp0.read(number, select, 0),
-            zeros,
-            "{number}, {select} after zeros"
-        );
+        let values = (boot, ones, zeros);
+        expect(&rt, (number, select), reads(number, select), values);
     }
+}
+
+fn is_register(number: u32, select: u32) -> bool {
+    for (known, known_select, _, _, _) in REGISTERS {
+        if number == known && select == known_select {
+            return true;
+        }
+    }
+    false
 }
 
 #[test]
@@ -52,24 +67,15 @@ fn other_numbers_read_zero(rt: HostRuntime) {
     let mut cp0 = Cp0::boot();
     for number in 0..32 {
         for select in 0..8 {
-            let mut is_there = false;
-            for (known, known_select, _, _, _) in REGISTERS {
-                if number == known && select == known_select {
-                    is_there = true;
-                }
-            }
-            if !is_there {
+            if !is_register(number, select) {
                 cp0.write(number, select, 0xffff_ffff);
-                assert_eq!(rt; cp0.read(number, select, 0), 0, "{number}, {select}");
+                expect(&rt, (number, select), cp0.read(number, select, 0), 0);
             }
         }
     }
     for (number, select, boot, _, _) in REGISTERS {
-        assert_eq!(rt;
-            cp0.read(number, select, 0),
-            boot,
-            "{number}, {select} untouched"
-        );
+        let value = cp0.read(number, select, 0);
+        expect(&rt, ("untouched", number, select), value, boot);
     }
 }
 
@@ -84,11 +90,11 @@ fn cause_shows_the_lines(rt: HostRuntime) {
         (0xf3, 0),
         (0xff, 0x0c00),
     ] {
-        assert_eq!(rt; cp0.read(13, 0, lines), shown, "lines {lines}");
+        expect(&rt, ("lines", lines), cp0.read(13, 0, lines), shown);
     }
     cp0.write(13, 0, 0xffff_ffff);
-    assert_eq!(rt; cp0.read(13, 0, 0xff), 0x0080_0f00);
-    assert_eq!(rt; cp0.read(12, 0, 0xff), 0);
+    expect(&rt, "Cause", cp0.read(13, 0, 0xff), 0x0080_0f00);
+    expect(&rt, "Status", cp0.read(12, 0, 0xff), 0);
 }
 
 // An exception, its code, the coprocessor that it names, the offset of its vector with EXL clear, the address that
@@ -228,54 +234,60 @@ fn after_an_exception(nested: bool, bootstrap: bool) -> Cp0 {
     cp0
 }
 
-#[test]
-fn exceptions_enter(rt: HostRuntime) {
+// EPC, Cause, Status, BadVAddr, Context and EntryHi.
+fn exception_registers(cp0: &Cp0) -> [u32; 6] {
+    [
+        cp0.epc(),
+        cp0.cause(),
+        cp0.status(),
+        cp0.bad_vaddr(),
+        cp0.read(4, 0, 0),
+        cp0.read(10, 0, 0),
+    ]
+}
+
+// The vector of an exception at 80002000, and the registers that it leaves.
+fn entered(exc: Exc, nested: bool, in_slot: bool, bootstrap: bool) -> (u32, [u32; 6]) {
+    let mut cp0 = after_an_exception(nested, bootstrap);
+    let vector = cp0.enter(exc, 0x8000_2000, in_slot);
+    (vector, exception_registers(&cp0))
+}
+
+// Each exception with BEV clear or set, the base of the vectors then, and Status.
+fn exceptions_enter(rt: &impl Abort, bootstrap: bool, base: u32, status: u32) {
     for (exc, code, coprocessor, offset, bad, by_tlb) in EXCEPTIONS {
-        for (nested, in_slot, bootstrap) in [
-            (false, false, false),
-            (false, true, false),
-            (true, false, false),
-            (true, true, false),
-            (false, false, true),
-            (false, true, true),
-            (true, false, true),
-            (true, true, true),
+        let bad = bad.unwrap_or(0);
+        let (context, entry_hi) = if by_tlb {
+            (0xab80_2010, 0x0040_20ff)
+        } else {
+            (0xab80_0000, 0xffff_e0ff)
+        };
+        for (nested, in_slot, offset, epc, delay) in [
+            (false, false, offset, 0x8000_2000, 0),
+            (false, true, offset, 0x8000_1ffc, 0x8000_0000),
+            (true, false, 0x180, 0x8000_0ffc, 0x8000_0000),
+            (true, true, 0x180, 0x8000_0ffc, 0x8000_0000),
         ] {
-            let mut cp0 = after_an_exception(nested, bootstrap);
-            let vector = cp0.enter(exc, 0x8000_2000, in_slot);
-            let base = if bootstrap { 0xbfc0_0200 } else { 0x8000_0000 };
-            let epc = match (nested, in_slot) {
-                (true, _) => 0x8000_0ffc,
-                (false, true) => 0x8000_1ffc,
-                (false, false) => 0x8000_2000,
-            };
-            let delay = if nested || in_slot { 0x8000_0000 } else { 0 };
-            assert_eq!(rt;
-                vector,
-                base | if nested { 0x180 } else { offset },
-                "vector of {code}"
+            let vector = base | offset;
+            let cause = delay | coprocessor << 28 | code << 2;
+            expect(
+                rt,
+                (exc, nested, in_slot, bootstrap),
+                entered(exc, nested, in_slot, bootstrap),
+                (vector, [epc, cause, status, bad, context, entry_hi]),
             );
-            assert_eq!(rt; cp0.epc(), epc, "EPC of {code}");
-            assert_eq!(rt;
-                cp0.cause(),
-                delay | coprocessor << 28 | code << 2,
-                "Cause of {code}"
-            );
-            assert_eq!(rt;
-                cp0.status(),
-                if bootstrap { 0x0040_0002 } else { 2 },
-                "Status of {code}"
-            );
-            assert_eq!(rt; cp0.bad_vaddr(), bad.unwrap_or(0), "BadVAddr of {code}");
-            let (context, entry_hi) = if by_tlb {
-                (0xab80_2010, 0x0040_20ff)
-            } else {
-                (0xab80_0000, 0xffff_e0ff)
-            };
-            assert_eq!(rt; cp0.read(4, 0, 0), context, "Context of {code}");
-            assert_eq!(rt; cp0.read(10, 0, 0), entry_hi, "EntryHi of {code}");
         }
     }
+}
+
+#[test]
+fn exceptions_enter_with_bev_clear(rt: HostRuntime) {
+    exceptions_enter(&rt, false, 0x8000_0000, 0x0000_0002);
+}
+
+#[test]
+fn exceptions_enter_with_bev_set(rt: HostRuntime) {
+    exceptions_enter(&rt, true, 0xbfc0_0200, 0x0040_0002);
 }
 
 #[test]
@@ -290,10 +302,11 @@ fn interrupts_have_a_vector(rt: HostRuntime) {
         let mut cp0 = Cp0::boot();
         cp0.write(12, 0, status);
         cp0.write(13, 0, cause);
-        assert_eq!(rt;
+        expect(
+            &rt,
+            (exc, "Status", status, "Cause", cause),
             cp0.enter(exc, 0x8000_0000, false),
             vector,
-            "Status {status}, Cause {cause}"
         );
     }
 }
@@ -307,19 +320,28 @@ fn refill_of_user_mode(rt: HostRuntime) {
     };
     let mut cp0 = Cp0::boot();
     cp0.write(12, 0, 0x10);
-    assert_eq!(rt; cp0.enter(exc, 0x0040_0000, false), 0x8000_0000);
-    assert_eq!(rt; (cp0.epc(), cp0.bad_vaddr()), (0x0040_0000, 0x0040_3004));
-    assert_eq!(rt;
-        (cp0.read(4, 0, 0), cp0.read(10, 0, 0)),
-        (0x0000_2010, 0x0040_2000)
+    let vector = cp0.enter(exc, 0x0040_0000, false);
+    expect(&rt, "vector", vector, 0x8000_0000);
+    expect(
+        &rt,
+        "registers",
+        exception_registers(&cp0),
+        [
+            0x0040_0000,
+            0x0000_0008,
+            0x0000_0012,
+            0x0040_3004,
+            0x0000_2010,
+            0x0040_2000,
+        ],
     );
-    assert_eq!(rt; (cp0.cause(), cp0.status()), (0x0000_0008, 0x0000_0012));
 
     let mut nested = Cp0::boot();
     nested.write(12, 0, 0x12);
     nested.write(14, 0, 0x1234_5678);
-    assert_eq!(rt; nested.enter(exc, 0x0040_0000, false), 0x8000_0180);
-    assert_eq!(rt; nested.epc(), 0x1234_5678);
+    let vector = nested.enter(exc, 0x0040_0000, false);
+    expect(&rt, "vector within a handler", vector, 0x8000_0180);
+    expect(&rt, "EPC within a handler", nested.epc(), 0x1234_5678);
 }
 
 #[test]
@@ -334,8 +356,8 @@ fn eret_returns(rt: HostRuntime) {
         cp0.write(12, 0, status);
         cp0.write(14, 0, 0x8000_1000);
         cp0.write(30, 0, 0x8000_2000);
-        assert_eq!(rt; cp0.eret(), address, "from {status}");
-        assert_eq!(rt; cp0.status(), after, "from {status}");
+        let returned = (cp0.eret(), cp0.status());
+        expect(&rt, ("from", status), returned, (address, after));
     }
 }
 
@@ -345,7 +367,7 @@ fn timer_interrupts(rt: HostRuntime) {
     let mut cp0 = Cp0::boot();
     for step in 1..6 {
         cp0.tick();
-        assert!(rt; !cp0.interrupt_due(0), "at {step}");
+        expect(&rt, ("step", step), cp0.interrupt_due(0), false);
         if step == 2 {
             cp0.write(11, 0, 6);
         }
@@ -354,29 +376,39 @@ fn timer_interrupts(rt: HostRuntime) {
         }
     }
     cp0.tick();
-    assert!(rt; cp0.interrupt_due(0));
-    assert_eq!(rt; cp0.enter(Exc::Interrupt, 0x8000_0014, false), 0x8000_0180);
-    assert_eq!(rt;
-        (cp0.epc(), cp0.cause(), cp0.status()),
-        (0x8000_0014, 0x0000_8000, 0x0000_8003)
+    expect(&rt, "Count is Compare", cp0.interrupt_due(0), true);
+    let vector = cp0.enter(Exc::Interrupt, 0x8000_0014, false);
+    expect(&rt, "vector", vector, 0x8000_0180);
+    expect(
+        &rt,
+        "EPC, Cause, Status, Count and Random",
+        [
+            cp0.epc(),
+            cp0.cause(),
+            cp0.status(),
+            cp0.read(9, 0, 0),
+            cp0.read(1, 0, 0),
+        ],
+        [0x8000_0014, 0x0000_8000, 0x0000_8003, 6, 9],
     );
-    assert_eq!(rt; (cp0.read(9, 0, 0), cp0.read(1, 0, 0)), (6, 9));
-    assert!(rt; !cp0.interrupt_due(0));
+    expect(&rt, "in the handler", cp0.interrupt_due(0), false);
+    timer_is_cleared(&rt, cp0);
+}
 
+// The writes of Count and of Compare behind an interrupt of the timer.
+fn timer_is_cleared(rt: &impl Abort, mut cp0: Cp0) {
     cp0.write(9, 0, 0xffff_ffff);
-    assert_eq!(rt;
+    expect(
+        rt,
+        "a write of Count leaves the timer",
         cp0.cause(),
         0x0000_8000,
-        "a write of Count leaves the timer"
     );
     cp0.write(11, 0, 0);
-    assert_eq!(rt; cp0.cause(), 0, "a write of Compare clears it");
+    expect(rt, "a write of Compare clears it", cp0.cause(), 0);
     cp0.tick();
-    assert_eq!(rt;
-        (cp0.read(9, 0, 0), cp0.cause()),
-        (0, 0x0000_8000),
-        "Count goes round"
-    );
+    expect(rt, "Count goes round", cp0.read(9, 0, 0), 0);
+    expect(rt, "the timer at Count 0", cp0.cause(), 0x0000_8000);
 }
 
 #[test]
@@ -392,40 +424,53 @@ fn interrupts_are_enabled(rt: HostRuntime) {
         cp0.write(13, 0, source);
         for level in 0..8 {
             cp0.write(12, 0, mask | level);
-            assert_eq!(rt;
-                cp0.interrupt_due(lines),
-                level == 1,
-                "level {level} of {mask}"
-            );
+            let due = cp0.interrupt_due(lines);
+            expect(&rt, ("of", mask, level), due, level == 1);
             cp0.write(12, 0, (0x0000_ff00 ^ mask) | level);
-            assert!(rt; !cp0.interrupt_due(lines), "level {level} without {mask}");
+            let due = cp0.interrupt_due(lines);
+            expect(&rt, ("without", mask, level), due, false);
         }
         cp0.write(12, 0, 0x0000_ff01);
-        assert_eq!(rt;
-            cp0.interrupt_due(0xf3),
-            source != 0,
-            "lines that are not there"
-        );
+        let due = cp0.interrupt_due(0xf3);
+        expect(&rt, ("lines that are not there", source), due, source != 0);
     }
+}
+
+// One round of Random, from 15 down to Wired and back to 15.
+fn goes_round(rt: &impl Abort, cp0: &mut Cp0, wired: u32) {
+    for random in (wired..15).rev() {
+        cp0.tick();
+        expect(rt, ("Wired", wired), cp0.random(), random);
+    }
+    cp0.tick();
+    expect(rt, ("round of Wired", wired), cp0.random(), 15);
 }
 
 #[test]
 fn random_goes_round(rt: HostRuntime) {
     let mut cp0 = Cp0::boot();
     cp0.tick();
-    assert_eq!(rt; cp0.read(1, 0, 0), 14, "one instruction after boot");
+    expect(&rt, "one instruction after boot", cp0.read(1, 0, 0), 14);
     for wired in [0, 5, 15] {
         cp0.write(6, 0, wired);
-        assert_eq!(rt; cp0.random(), 15, "a write of Wired {wired}");
-        for round in 0..2 {
-            for down in 1..16 - wired {
-                cp0.tick();
-                assert_eq!(rt; cp0.random(), 15 - down, "round {round} with Wired {wired}");
-            }
-            cp0.tick();
-            assert_eq!(rt; cp0.random(), 15, "after Wired {wired}");
-        }
+        expect(&rt, ("a write of Wired", wired), cp0.random(), 15);
+        goes_round(&rt, &mut cp0, wired);
+        goes_round(&rt, &mut cp0, wired);
     }
+}
+
+// Whether a Status is of user mode, and which of the three coprocessors it makes usable.
+fn mode_of(status: u32) -> (bool, [bool; 3]) {
+    let mut cp0 = Cp0::boot();
+    cp0.write(12, 0, status);
+    (
+        cp0.is_user_mode(),
+        [
+            cp0.is_usable(Coprocessor::Zero),
+            cp0.is_usable(Coprocessor::One),
+            cp0.is_usable(Coprocessor::Two),
+        ],
+    )
 }
 
 #[test]
@@ -438,20 +483,15 @@ fn modes_and_coprocessors(rt: HostRuntime) {
         (0x16, false),
         (0x06, false),
     ] {
-        let mut cp0 = Cp0::boot();
-        cp0.write(12, 0, status);
-        assert_eq!(rt; cp0.is_user_mode(), is_user, "Status {status}");
-        assert_eq!(rt;
-            cp0.is_usable(Coprocessor::Zero),
-            !is_user,
-            "Status {status}"
+        let mode = (is_user, [!is_user, false, false]);
+        expect(&rt, status, mode_of(status), mode);
+        let mode = (is_user, [true, false, false]);
+        expect(
+            &rt,
+            ("with CU0", status),
+            mode_of(status | 0x1000_0000),
+            mode,
         );
-        cp0.write(12, 0, status | 0x1000_0000);
-        assert!(rt;
-            cp0.is_usable(Coprocessor::Zero),
-            "Status {status} with CU0"
-        );
-        assert!(rt; !cp0.is_usable(Coprocessor::One) && !cp0.is_usable(Coprocessor::Two));
     }
 }
 
@@ -466,10 +506,16 @@ fn registers_of_the_tlb(rt: HostRuntime) {
         (16, 0),
     ] {
         cp0.set_index(index);
-        assert_eq!(rt; (cp0.read(0, 0, 0), cp0.indexed()), (index, entry));
+        expect(&rt, "Index", cp0.read(0, 0, 0), index);
+        expect(&rt, ("entry of Index", index), cp0.indexed(), entry);
     }
     cp0.set_entry(0x0040_2005, 0x83, 0x01);
-    assert_eq!(rt; (cp0.entry_hi(), cp0.asid()), (0x0040_2005, 5));
-    assert_eq!(rt; (cp0.entry_lo0(), cp0.entry_lo1()), (0x83, 0x01));
-    assert!(rt; !cp0.is_error_level());
+    expect(
+        &rt,
+        "EntryHi, EntryLo0 and EntryLo1",
+        [cp0.entry_hi(), cp0.entry_lo0(), cp0.entry_lo1()],
+        [0x0040_2005, 0x83, 0x01],
+    );
+    expect(&rt, "ASID", cp0.asid(), 5);
+    expect(&rt, "error level", cp0.is_error_level(), false);
 }

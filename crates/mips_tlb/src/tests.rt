@@ -1,6 +1,18 @@
 //! Tables of translation, probe and the TLB instructions.
 use crate::{Entry, Kind, PageHalf, Tlb};
 use mips_cp0::{Cp0, Exc};
+use std::fmt::Debug;
+use std::process::Abort;
+
+// Asserts one case. The tests share it, since each assertion in a function's own body makes its proof much longer.
+fn expect<C: Debug + Drop, T: PartialEq + Debug + Drop>(
+    rt: &impl Abort,
+    case: C,
+    got: T,
+    wanted: T,
+) {
+    assert!(rt; got == wanted, "{case:?}: {got:?}, not {wanted:?}");
+}
 
 // Kernel mode, user mode, the error level with user mode's bit, and a handler with it.
 const KERNEL: u32 = 0x00;
@@ -29,10 +41,20 @@ fn with_entry(tlb: &mut Tlb, index: u32, entry_hi: u32, entry_lo0: u32, entry_lo
     tlb.write_indexed(&cp0);
 }
 
+// What a load, a fetch and a probe of an address give in address space 1, by the entries at boot.
+fn at_boot(status: u32, address: u32) -> (Result<u32, Exc>, Result<u32, Exc>, Option<u32>) {
+    let tlb = Tlb::boot();
+    let cp0 = registers(status, 1);
+    (
+        tlb.translate(&cp0, address, Kind::Load),
+        tlb.translate(&cp0, address, Kind::Fetch),
+        tlb.probe(&cp0, address),
+    )
+}
+
 // The entries at boot are of address space 0, so in space 1 none matches.
 #[test]
 fn segments(rt: HostRuntime) {
-    let tlb = Tlb::boot();
     for (address, unmapped, user_may) in [
         (0x0000_0000, None, true),
         (0x7fff_ffff, None, true),
@@ -60,33 +82,14 @@ fn segments(rt: HostRuntime) {
         } else {
             kernel
         };
-        for (status, answer) in [
-            (KERNEL, kernel),
-            (USER, user),
-            (HANDLER, kernel),
-            (ERROR, error),
+        for (status, answer, probed) in [
+            (KERNEL, kernel, unmapped),
+            (USER, user, unmapped),
+            (HANDLER, kernel, unmapped),
+            (ERROR, error, error.ok()),
         ] {
-            let cp0 = registers(status, 1);
-            assert_eq!(rt;
-                tlb.translate(&cp0, address, Kind::Load),
-                answer,
-                "{address} in {status}"
-            );
-            assert_eq!(rt;
-                tlb.translate(&cp0, address, Kind::Fetch),
-                answer,
-                "{address} in {status}"
-            );
-            let probed = if status == ERROR {
-                error.ok()
-            } else {
-                unmapped
-            };
-            assert_eq!(rt;
-                tlb.probe(&cp0, address),
-                probed,
-                "probe of {address} in {status}"
-            );
+            let answers = (answer, answer, probed);
+            expect(&rt, (address, status), at_boot(status, address), answers);
         }
     }
 }
@@ -96,16 +99,15 @@ fn segments(rt: HostRuntime) {
 fn boot_entries_are_not_valid(rt: HostRuntime) {
     let tlb = Tlb::boot();
     let cp0 = registers(KERNEL, 0);
-    assert_eq!(rt;
-        tlb.translate(&cp0, 0, Kind::Load),
-        Err(Exc::TlbLoad {
-            address: 0,
-            refill: false
-        })
-    );
-    assert_eq!(rt; tlb.find(0x1fff, 0), Some(0));
-    assert_eq!(rt; tlb.find(0x2000, 0), None);
-    assert_eq!(rt; tlb.find(0, 1), None);
+    let loaded = tlb.translate(&cp0, 0, Kind::Load);
+    let exc = Exc::TlbLoad {
+        address: 0,
+        refill: false,
+    };
+    expect(&rt, "load from 0", loaded, Err(exc));
+    for (address, asid, index) in [(0x1fff, 0, Some(0)), (0x2000, 0, None), (0, 1, None)] {
+        expect(&rt, (address, asid), tlb.find(address, asid), index);
+    }
 }
 
 #[test]
@@ -194,11 +196,8 @@ fn kinds_raise_their_exceptions(rt: HostRuntime) {
             }),
         ),
     ] {
-        assert_eq!(rt;
-            tlb.translate(&cp0, address, kind),
-            answer,
-            "{address}, {kind:?}"
-        );
+        let translated = tlb.translate(&cp0, address, kind);
+        expect(&rt, (address, kind), translated, answer);
     }
 }
 
@@ -214,7 +213,7 @@ fn probe_is_a_kernel_load(rt: HostRuntime) {
             (0xc040_2004, None),
             (0x8000_7000, Some(0x0000_7000)),
         ] {
-            assert_eq!(rt; tlb.probe(&cp0, address), answer, "{address} in {status}");
+            expect(&rt, (address, status), tlb.probe(&cp0, address), answer);
         }
     }
 }
@@ -225,26 +224,42 @@ fn probe_is_a_kernel_load(rt: HostRuntime) {
 fn refill_enters(rt: HostRuntime) {
     let mut tlb = Tlb::boot();
     with_entry(&mut tlb, 0, 0x0040_0000, 0x0000_0083, 0x0000_0001);
+    let exc = Exc::TlbLoad {
+        address: 0x0040_3004,
+        refill: true,
+    };
     for (status, epc_before, vector, epc) in [
         (0x10, 0, 0x8000_0000, 0x0040_0000),
         (0x12, 0x1234_5678, 0x8000_0180, 0x1234_5678),
     ] {
         let mut cp0 = registers(status, 0);
         cp0.write(14, 0, epc_before);
-        assert_eq!(rt;
-            tlb.translate(&cp0, 0x0040_0000, Kind::Fetch),
-            Ok(0x0000_2000)
+        let fetched = tlb.translate(&cp0, 0x0040_0000, Kind::Fetch);
+        expect(&rt, ("fetch", status), fetched, Ok(0x0000_2000));
+        let loaded = tlb.translate(&cp0, 0x0040_3004, Kind::Load);
+        expect(&rt, ("load", status), loaded, Err(exc));
+        let entered = cp0.enter(exc, 0x0040_0000, false);
+        expect(&rt, ("vector", status), entered, vector);
+        expect(
+            &rt,
+            ("EPC, BadVAddr, Context, EntryHi, Cause and Status", status),
+            [
+                cp0.epc(),
+                cp0.bad_vaddr(),
+                cp0.read(4, 0, 0),
+                cp0.entry_hi(),
+                cp0.cause(),
+                cp0.status(),
+            ],
+            [
+                epc,
+                0x0040_3004,
+                0x0000_2010,
+                0x0040_2000,
+                0x0000_0008,
+                0x0000_0012,
+            ],
         );
-        match tlb.translate(&cp0, 0x0040_3004, Kind::Load) {
-            Ok(_) => assert!(rt; false, "a translation with no entry"),
-            Err(exc) => assert_eq!(rt; cp0.enter(exc, 0x0040_0000, false), vector),
-        }
-        assert_eq!(rt; (cp0.epc(), cp0.bad_vaddr()), (epc, 0x0040_3004));
-        assert_eq!(rt;
-            (cp0.read(4, 0, 0), cp0.entry_hi()),
-            (0x0000_2010, 0x0040_2000)
-        );
-        assert_eq!(rt; (cp0.cause(), cp0.status()), (0x0000_0008, 0x0000_0012));
     }
 }
 
@@ -253,11 +268,14 @@ fn store_to_a_page_not_dirty_enters(rt: HostRuntime) {
     let mut tlb = Tlb::boot();
     with_entry(&mut tlb, 3, 0x0000_2000, 0x0000_0102, 0x0000_0102);
     let mut cp0 = registers(KERNEL, 0);
-    match tlb.translate(&cp0, 0x0000_2000, Kind::Store) {
-        Ok(_) => assert!(rt; false, "a store to a page that is not dirty"),
-        Err(exc) => assert_eq!(rt; cp0.enter(exc, 0x8000_0000, false), 0x8000_0180),
-    }
-    assert_eq!(rt; cp0.cause(), 0x0000_0004);
+    let exc = Exc::Modified {
+        address: 0x0000_2000,
+    };
+    let stored = tlb.translate(&cp0, 0x0000_2000, Kind::Store);
+    expect(&rt, "store", stored, Err(exc));
+    let vector = cp0.enter(exc, 0x8000_0000, false);
+    expect(&rt, "vector", vector, 0x8000_0180);
+    expect(&rt, "Cause", cp0.cause(), 0x0000_0004);
 }
 
 #[test]
@@ -266,18 +284,36 @@ fn least_index_decides(rt: HostRuntime) {
     with_entry(&mut tlb, 9, 0x0000_2000, 0x0000_0142, 0x0000_0142);
     with_entry(&mut tlb, 3, 0x0000_2000, 0x0000_0102, 0x0000_0102);
     let mut cp0 = registers(KERNEL, 0);
-    assert_eq!(rt;
-        tlb.translate(&cp0, 0x0000_2000, Kind::Load),
-        Ok(0x0000_4000)
-    );
-    assert_eq!(rt; tlb.find(0x0000_2000, 0), Some(3));
+    let loaded = tlb.translate(&cp0, 0x0000_2000, Kind::Load);
+    expect(&rt, "load", loaded, Ok(0x0000_4000));
+    expect(&rt, "entry", tlb.find(0x0000_2000, 0), Some(3));
     cp0.write(10, 0, 0x0000_2000);
     tlb.probe_index(&mut cp0);
-    assert_eq!(rt; cp0.read(0, 0, 0), 3);
+    expect(&rt, "Index", cp0.read(0, 0, 0), 3);
+}
+
+// Loads from the even and from the odd page of the pair at 2000 in an address space.
+fn loads(tlb: &Tlb, asid: u32) -> [Result<u32, Exc>; 2] {
+    let cp0 = registers(KERNEL, asid);
+    [
+        tlb.translate(&cp0, 0x0000_2abc, Kind::Load),
+        tlb.translate(&cp0, 0x0000_3abc, Kind::Load),
+    ]
 }
 
 #[test]
 fn address_spaces(rt: HostRuntime) {
+    let found = [Ok(0x0000_4abc), Ok(0x0000_5abc)];
+    let missed = [
+        Err(Exc::TlbLoad {
+            address: 0x0000_2abc,
+            refill: true,
+        }),
+        Err(Exc::TlbLoad {
+            address: 0x0000_3abc,
+            refill: true,
+        }),
+    ];
     for (lo0, lo1, is_global) in [
         (0x103, 0x143, true),
         (0x102, 0x143, false),
@@ -287,22 +323,8 @@ fn address_spaces(rt: HostRuntime) {
         let mut tlb = Tlb::boot();
         with_entry(&mut tlb, 15, 0x0000_2007, lo0, lo1);
         for (asid, matches) in [(7, true), (6, is_global), (0, is_global), (0xff, is_global)] {
-            let cp0 = registers(KERNEL, asid);
-            for (address, physical) in [(0x0000_2abc, 0x0000_4abc), (0x0000_3abc, 0x0000_5abc)] {
-                let answer = if matches {
-                    Ok(physical)
-                } else {
-                    Err(Exc::TlbLoad {
-                        address,
-                        refill: true,
-                    })
-                };
-                assert_eq!(rt;
-                    tlb.translate(&cp0, address, Kind::Load),
-                    answer,
-                    "{address} in space {asid}"
-                );
-            }
+            let wanted = if matches { found } else { missed };
+            expect(&rt, (lo0, lo1, asid), loads(&tlb, asid), wanted);
         }
     }
 }
@@ -325,12 +347,30 @@ fn halves_and_ends_of_a_pair(rt: HostRuntime) {
         (0xffff_f000, Ok(0x0000_0000)),
         (0xffff_ffff, Ok(0x0000_0fff)),
     ] {
-        assert_eq!(rt;
-            tlb.translate(&cp0, address, Kind::Load),
-            answer,
-            "{address}"
-        );
+        let loaded = tlb.translate(&cp0, address, Kind::Load);
+        expect(&rt, address, loaded, answer);
     }
+}
+
+// The TLB with an entry of EntryHi, EntryLo0 and EntryLo1 at index 7 and at Random, 15.
+fn written(hi: u32, lo0: u32, lo1: u32) -> Tlb {
+    let mut tlb = Tlb::boot();
+    let mut cp0 = Cp0::boot();
+    cp0.write(10, 0, hi);
+    cp0.write(2, 0, lo0);
+    cp0.write(3, 0, lo1);
+    cp0.set_index(0x8000_0007);
+    tlb.write_indexed(&cp0);
+    tlb.write_random(&cp0);
+    tlb
+}
+
+// EntryHi, EntryLo0 and EntryLo1 once the entry at an index is read into them.
+fn read(tlb: &Tlb, index: u32) -> (u32, u32, u32) {
+    let mut cp0 = registers(KERNEL, 1);
+    cp0.set_index(index);
+    tlb.read_indexed(&mut cp0);
+    (cp0.entry_hi(), cp0.entry_lo0(), cp0.entry_lo1())
 }
 
 // What is written from the registers and read back: C and PFN stay, G is that of both.
@@ -366,33 +406,11 @@ fn entries_are_written_and_read(rt: HostRuntime) {
             0x0000_0000,
         ),
     ] {
-        let mut tlb = Tlb::boot();
-        let mut cp0 = Cp0::boot();
-        cp0.write(10, 0, hi);
-        cp0.write(2, 0, lo0);
-        cp0.write(3, 0, lo1);
-        cp0.set_index(0x8000_0007);
-        tlb.write_indexed(&cp0);
-        tlb.write_random(&cp0);
-        for index in [7, 15] {
-            let mut reader = Cp0::boot();
-            reader.set_index(index);
-            tlb.read_indexed(&mut reader);
-            assert_eq!(rt; reader.entry_hi(), hi, "entry {index}");
-            assert_eq!(rt;
-                (reader.entry_lo0(), reader.entry_lo1()),
-                (read_lo0, read_lo1),
-                "entry {index}"
-            );
-        }
-        let mut reader = registers(KERNEL, 1);
-        reader.set_index(6);
-        tlb.read_indexed(&mut reader);
-        assert_eq!(rt;
-            (reader.entry_hi(), reader.entry_lo0(), reader.entry_lo1()),
-            (0, 0, 0),
-            "entry 6"
-        );
+        let tlb = written(hi, lo0, lo1);
+        let entry = (hi, read_lo0, read_lo1);
+        expect(&rt, ("entry 7", lo0, lo1), read(&tlb, 7), entry);
+        expect(&rt, ("entry 15", lo0, lo1), read(&tlb, 15), entry);
+        expect(&rt, ("entry 6", lo0, lo1), read(&tlb, 6), (0, 0, 0));
     }
 }
 
@@ -406,7 +424,7 @@ fn probe_fails_where_none_matches(rt: HostRuntime) {
     ] {
         let mut cp0 = registers(KERNEL, hi);
         tlb.probe_index(&mut cp0);
-        assert_eq!(rt; cp0.read(0, 0, 0), index, "EntryHi {hi}");
+        expect(&rt, ("EntryHi", hi), cp0.read(0, 0, 0), index);
     }
 }
 
@@ -420,14 +438,16 @@ fn entries_by_index(rt: HostRuntime) {
         ..tlb.read(0)
     };
     tlb.write(15, entry);
-    assert_eq!(rt; tlb.read(15), entry);
-    assert_eq!(rt; tlb.read(14), tlb.read(0));
-    assert_eq!(rt;
+    expect(&rt, "entry 15", tlb.read(15), entry);
+    expect(&rt, "entry 14", tlb.read(14), tlb.read(0));
+    expect(
+        &rt,
+        "EntryHi, EntryLo0 and EntryLo1",
         (
             entry.entry_hi(),
             entry.even.entry_lo(true),
-            entry.odd.entry_lo(true)
+            entry.odd.entry_lo(true),
         ),
-        (0, 0x9f, 1)
+        (0, 0x9f, 1),
     );
 }

@@ -4,7 +4,7 @@ use super::code::{ENTRY_HI, ENTRY_LO0, ENTRY_LO1, EPC, INDEX, STATUS};
 use super::run::{Run, check_run};
 use std::test::Fail;
 
-const RUNS: [Run<'static>; 26] = [
+static RUNS: [Run<'static>; 26] = [
     Run {
         name: "a likely branch in the slot of a likely branch that is not taken",
         code: &[

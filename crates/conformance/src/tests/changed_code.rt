@@ -4,7 +4,7 @@ use super::code::{ENTRY_HI, ENTRY_LO0, ENTRY_LO1};
 use super::run::{Run, check_run};
 use std::test::Fail;
 
-const RUNS: [Run<'static>; 8] = [
+static RUNS: [Run<'static>; 8] = [
     Run {
         name: "a store to the next instruction",
         code: &[

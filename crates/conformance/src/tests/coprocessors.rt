@@ -38,7 +38,7 @@ struct Row {
     outcomes: [Outcome; 3],
 }
 
-const ROWS: [Row; 8] = [
+static ROWS: [Row; 8] = [
     Row {
         name: "mfc0 of Config",
         instructions: &[Mfc0(2, CONFIG)],
@@ -132,7 +132,7 @@ const ROWS: [Row; 8] = [
 ];
 
 /// What stands in the slot of a branch: first it must be usable, and then it is reserved there.
-const IN_SLOT: [Row; 4] = [
+static IN_SLOT: [Row; 4] = [
     Row {
         name: "eret or wait",
         instructions: &[Eret, Wait],
@@ -174,7 +174,7 @@ struct Place {
 }
 
 /// A place for each mode, in the order of a row's outcomes.
-const PLACES: [Place; 3] = [
+static PLACES: [Place; 3] = [
     Place {
         mode: Mode::Kernel,
         pc: 0x8000_0300,

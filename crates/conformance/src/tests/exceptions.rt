@@ -25,7 +25,7 @@ struct Fault {
 /// EntryHi where no exception has written it: the ASID.
 const ASID: u32 = 0x5a;
 
-const FAULTS: [Fault; 17] = [
+static FAULTS: [Fault; 17] = [
     Fault {
         name: "AdEL of a load",
         setup: &[],
@@ -216,7 +216,7 @@ const FAULTS: [Fault; 17] = [
 ];
 
 /// What is none in kernel mode.
-const USER_FAULTS: [Fault; 4] = [
+static USER_FAULTS: [Fault; 4] = [
     Fault {
         name: "AdEL of a load from kseg0",
         setup: &[Lui(1, 0x8000)],
@@ -281,7 +281,7 @@ struct Place {
 
 const BD: u32 = 0x8000_0000;
 
-const PLACES: [Place; 6] = [
+static PLACES: [Place; 6] = [
     Place {
         name: "outside a slot",
         mode: Mode::Kernel,
@@ -344,7 +344,7 @@ const PLACES: [Place; 6] = [
     },
 ];
 
-const USER_PLACES: [Place; 2] = [
+static USER_PLACES: [Place; 2] = [
     Place {
         name: "in user mode",
         mode: Mode::User,

@@ -24,7 +24,7 @@ struct Fault {
 /// EntryHi where no exception has written it: the ASID.
 const ASID: u32 = 0x5a;
 
-const FAULTS: [Fault; 4] = [
+static FAULTS: [Fault; 4] = [
     Fault {
         name: "AdEL at an odd place",
         setup: &[Lui(1, 0x0040), Ori(1, 1, 0x0302)],
@@ -115,7 +115,7 @@ struct Path {
 
 const BD: u32 = 0x8000_0000;
 
-const PATHS: [Path; 4] = [
+static PATHS: [Path; 4] = [
     Path {
         name: "outside a slot",
         mode: Mode::Kernel,
@@ -162,7 +162,7 @@ const PATHS: [Path; 4] = [
     },
 ];
 
-const USER_PATHS: [Path; 2] = [
+static USER_PATHS: [Path; 2] = [
     Path {
         name: "in user mode",
         mode: Mode::User,

@@ -4,7 +4,7 @@ use super::code::{CAUSE, COMPARE, COUNT, ENTRY_HI, ENTRY_LO0, ENTRY_LO1, EPC, ST
 use super::run::{Run, check_run};
 use std::test::Fail;
 
-const RUNS: [Run<'static>; 25] = [
+static RUNS: [Run<'static>; 25] = [
     Run {
         name: "the timer, between two instructions",
         code: &[

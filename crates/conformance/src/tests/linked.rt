@@ -24,7 +24,7 @@ const START: [Code; 12] = [
 ];
 
 /// What stands from 208 on.
-const BETWEEN: [Run<'static>; 8] = [
+static BETWEEN: [Run<'static>; 8] = [
     Run {
         name: "nothing between",
         code: &[Ll(1, 0x0100, 5), Sc(2, 0x0100, 5), Lw(3, 0x0100, 5)],
@@ -153,7 +153,7 @@ const BETWEEN: [Run<'static>; 8] = [
 ];
 
 /// Whole images.
-const RUNS: [Run<'static>; 10] = [
+static RUNS: [Run<'static>; 10] = [
     Run {
         name: "a return from an interrupt between",
         code: &[

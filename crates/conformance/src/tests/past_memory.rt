@@ -23,7 +23,7 @@ const UNCHANGED: u32 = 0x8483_8281;
 
 const REGISTER: u32 = 0xaabb_ccdd;
 
-const ACCESSES: [Access; 16] = [
+static ACCESSES: [Access; 16] = [
     Access {
         name: "lb",
         past: Lb(2, 0, 1),
@@ -197,7 +197,7 @@ fn accesses_at_the_end_of_memory_succeed(rt: HostRuntime) -> Result<(), Fail> {
 }
 
 /// What else is special at the end of memory.
-const RUNS: [Run<'static>; 14] = [
+static RUNS: [Run<'static>; 14] = [
     Run {
         name: "sc with LLbit 0 past memory, which reaches no memory",
         code: &[

@@ -34,7 +34,7 @@ const HANDLER: [Code; 22] = [
 ];
 
 /// What stands from 20c on. Seven steps are made before it, and ten in the handler.
-const RUNS: [Run<'static>; 9] = [
+static RUNS: [Run<'static>; 9] = [
     Run {
         name: "a load",
         code: &[

@@ -4,7 +4,7 @@ use super::code::{ENTRY_HI, ENTRY_LO0, ENTRY_LO1, EPC, INDEX, RANDOM, STATUS, WI
 use super::run::{Run, check_run};
 use std::test::Fail;
 
-const RUNS: [Run<'static>; 20] = [
+static RUNS: [Run<'static>; 20] = [
     Run {
         name: "a load through an entry that is not valid",
         code: &[Addiu(1, 0, 7), Lw(1, 0, 0)],

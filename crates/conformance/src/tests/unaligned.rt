@@ -29,7 +29,7 @@ const ONE_WORD: [Code; 1] = [Word(0x4433_2211)];
 /// The bytes 11 22 33 44 55 66 77 88.
 const TWO_WORDS: [Code; 2] = [Word(0x4433_2211), Word(0x8877_6655)];
 
-const PARTS: [Parts; 6] = [
+static PARTS: [Parts; 6] = [
     Parts {
         name: "lwl",
         words: &ONE_WORD,

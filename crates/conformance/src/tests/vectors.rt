@@ -4,7 +4,7 @@ use super::code::{CAUSE, COMPARE, STATUS};
 use super::run::{Run, check_run};
 use std::test::Fail;
 
-const RUNS: [Run<'static>; 10] = [
+static RUNS: [Run<'static>; 10] = [
     Run {
         name: "an interrupt with IV",
         code: &[
