@@ -18,6 +18,3 @@ pub use fault::{ElfError, Fault};
 pub use image::{Image, SEGMENT_BASE, Segment};
 pub use reader::read;
 pub use writer::write;
-
-#[cfg(test)]
-mod tests;

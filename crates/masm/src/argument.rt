@@ -11,7 +11,7 @@ use crate::written::{Value, Written, written_of};
 use mips_isa::Reg;
 
 /// Operands in their order. No statement has more than three.
-#[derive(Debug, Drop)]
+#[derive(Drop)]
 pub enum Arguments<'a> {
     None,
     One(Written<'a>),

@@ -4,7 +4,7 @@ ghost use Rattle.masm.specs.Characters.{is_blank, starts_name, continues_name};
 ghost use Rattle.masm.specs.Classes.{class_test};
 
 /// A set of characters.
-#[derive(Clone, Copy, Debug, PartialEq, Eq)]
+#[derive(Clone, Copy)]
 pub enum Class {
     /// Blank and tab.
     Blank,

@@ -90,7 +90,7 @@ impl From<AllocError> for AsmError {
 }
 
 /// Why a line isn't taken.
-#[derive(Debug, Drop)]
+#[derive(Drop)]
 pub enum LineError {
     Fault(AsmFault),
     Memory(AllocError),

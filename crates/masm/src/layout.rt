@@ -16,7 +16,7 @@ const END_ADDRESS: u64 = 0xa000_0000;
 const MAX_SEGMENTS: usize = 64;
 
 /// A segment's first address, and how many bytes it has so far.
-#[derive(Clone, Copy, Debug)]
+#[derive(Clone, Copy)]
 pub struct Span {
     pub start: u32,
     pub size: u32,

@@ -32,6 +32,3 @@ mod written;
 pub use assembly::{assemble, assemble_image};
 pub use disassembly::{disassembly_of, listing};
 pub use error::{AsmError, AsmFault};
-
-#[cfg(test)]
-mod tests;

@@ -13,7 +13,7 @@ use crate::statement::{Statement, statement_of};
 use crate::token::is_name;
 
 /// What a line says.
-#[derive(Debug, Drop)]
+#[derive(Drop)]
 pub struct Line<'a> {
     /// The name that is to stand for the line's address.
     pub label: Option<&'a [u8]>,

@@ -13,12 +13,19 @@ use mips_isa::{
 macro_rules! first_named {
     ($name:expr; $($op:expr),+) => {{
         $(
-            if $op.mnemonic().as_bytes() == $name {
+            if is_mnemonic($op.mnemonic(), $name) {
                 return Some($op);
             }
         )+
         None
     }};
+}
+
+/// Whether a mnemonic is this name.
+fn is_mnemonic(mnemonic: &str, name: &[u8]) -> bool
+    ensures { result ≡ bytes_eq mnemonic.now name.now }
+{
+    mnemonic.as_bytes() == name
 }
 
 #[tactic(auto, unfolding(crate::specs::Mnemonics::named_register))]

@@ -8,7 +8,7 @@ use crate::token::{is_directive, is_name};
 use mips_isa::Instr;
 
 /// A directive.
-#[derive(Clone, Copy, Debug, PartialEq, Eq)]
+#[derive(Clone, Copy)]
 pub enum Directive {
     /// Begins a segment at an address.
     Org,
@@ -23,7 +23,7 @@ pub enum Directive {
 }
 
 /// An instruction with all operands 0, or a directive.
-#[derive(Clone, Copy, Debug, PartialEq, Eq)]
+#[derive(Clone, Copy)]
 pub enum Operation {
     Instruction(Instr),
     Directive(Directive),

@@ -16,7 +16,7 @@ use crate::written::{Value, Written};
 use mips_isa::Instr;
 
 /// An instruction or a directive with its operands, in which names still stand for addresses.
-#[derive(Debug, Drop)]
+#[derive(Drop)]
 pub enum Statement<'a> {
     /// An instruction without a target.
     Instruction(Instr),

@@ -9,14 +9,14 @@ use crate::token::{is_name, register};
 use mips_isa::Reg;
 
 /// A number, or the name of an address.
-#[derive(Debug, Drop)]
+#[derive(Drop)]
 pub enum Value<'a> {
     Number(i64),
     Name(&'a [u8]),
 }
 
 /// An operand.
-#[derive(Debug, Drop)]
+#[derive(Drop)]
 pub enum Written<'a> {
     Register(Reg),
     Number(i64),

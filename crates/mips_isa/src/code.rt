@@ -4,7 +4,7 @@ ghost use Rattle.std.specs.Prelude.{◌≡◌, ℕ, ◌<◌, ◌^◌};
 use std::marker::Model;
 
 /// The software code of a trap on two registers, 10 bits (bits 15 to 6 of the word).
-#[derive(Clone, Copy, Debug, PartialEq, Eq)]
+#[derive(Clone, Copy, PartialEq, Eq)]
 pub struct TrapCode {
     bits: u16,
 }
@@ -38,7 +38,7 @@ impl TrapCode {
 }
 
 /// The software code of SYSCALL or BREAK, 20 bits (bits 25 to 6 of the word).
-#[derive(Clone, Copy, Debug, PartialEq, Eq)]
+#[derive(Clone, Copy, PartialEq, Eq)]
 pub struct CallCode {
     bits: u32,
 }
@@ -72,7 +72,7 @@ impl CallCode {
 }
 
 /// The implementation's code of WAIT, 19 bits (bits 24 to 6 of the word).
-#[derive(Clone, Copy, Debug, PartialEq, Eq)]
+#[derive(Clone, Copy, PartialEq, Eq)]
 pub struct WaitCode {
     bits: u32,
 }
@@ -106,7 +106,7 @@ impl WaitCode {
 }
 
 /// The stype field of SYNC, 5 bits (bits 10 to 6 of the word).
-#[derive(Clone, Copy, Debug, PartialEq, Eq)]
+#[derive(Clone, Copy, PartialEq, Eq)]
 pub struct SyncType {
     bits: u8,
 }
@@ -140,7 +140,7 @@ impl SyncType {
 }
 
 /// The hint of PREF or the operation of CACHE, 5 bits (bits 20 to 16 of the word).
-#[derive(Clone, Copy, Debug, PartialEq, Eq)]
+#[derive(Clone, Copy, PartialEq, Eq)]
 pub struct Hint {
     bits: u8,
 }
@@ -174,7 +174,7 @@ impl Hint {
 }
 
 /// The select number of a register of coprocessor 0, 3 bits (bits 2 to 0 of the word).
-#[derive(Clone, Copy, Debug, PartialEq, Eq)]
+#[derive(Clone, Copy, PartialEq, Eq)]
 pub struct Select {
     bits: u8,
 }
@@ -208,7 +208,7 @@ impl Select {
 }
 
 /// The instr_index of J or JAL, 26 bits (bits 25 to 0 of the word).
-#[derive(Clone, Copy, Debug, PartialEq, Eq)]
+#[derive(Clone, Copy, PartialEq, Eq)]
 pub struct JumpTarget {
     bits: u32,
 }
@@ -242,7 +242,7 @@ impl JumpTarget {
 }
 
 /// What an instruction of coprocessor 1 or 2 has besides its opcode, 26 bits (bits 25 to 0 of the word).
-#[derive(Clone, Copy, Debug, PartialEq, Eq)]
+#[derive(Clone, Copy, PartialEq, Eq)]
 pub struct CoprocessorCode {
     bits: u32,
 }

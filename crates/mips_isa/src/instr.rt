@@ -8,7 +8,7 @@ use crate::{
 };
 
 /// An operation on two registers, with its result in a third.
-#[derive(Clone, Copy, Debug, PartialEq, Eq)]
+#[derive(Clone, Copy, PartialEq, Eq)]
 pub enum RegisterOp {
     Add,
     Addu,
@@ -24,14 +24,14 @@ pub enum RegisterOp {
 }
 
 /// A move of rs to rd where rt is zero (MOVZ) or is not (MOVN).
-#[derive(Clone, Copy, Debug, PartialEq, Eq)]
+#[derive(Clone, Copy, PartialEq, Eq)]
 pub enum ConditionalMoveOp {
     Movz,
     Movn,
 }
 
 /// A shift by an amount that stands in the word.
-#[derive(Clone, Copy, Debug, PartialEq, Eq)]
+#[derive(Clone, Copy, PartialEq, Eq)]
 pub enum ShiftOp {
     Sll,
     Srl,
@@ -39,7 +39,7 @@ pub enum ShiftOp {
 }
 
 /// A shift by an amount in a register.
-#[derive(Clone, Copy, Debug, PartialEq, Eq)]
+#[derive(Clone, Copy, PartialEq, Eq)]
 pub enum ShiftVariableOp {
     Sllv,
     Srlv,
@@ -47,21 +47,21 @@ pub enum ShiftVariableOp {
 }
 
 /// A move from HI or LO.
-#[derive(Clone, Copy, Debug, PartialEq, Eq)]
+#[derive(Clone, Copy, PartialEq, Eq)]
 pub enum MoveFromOp {
     Mfhi,
     Mflo,
 }
 
 /// A move to HI or LO.
-#[derive(Clone, Copy, Debug, PartialEq, Eq)]
+#[derive(Clone, Copy, PartialEq, Eq)]
 pub enum MoveToOp {
     Mthi,
     Mtlo,
 }
 
 /// A product of two registers that goes to HI and LO, or is added to them or subtracted.
-#[derive(Clone, Copy, Debug, PartialEq, Eq)]
+#[derive(Clone, Copy, PartialEq, Eq)]
 pub enum MultiplyOp {
     Mult,
     Multu,
@@ -72,21 +72,21 @@ pub enum MultiplyOp {
 }
 
 /// A division, with the quotient in LO and the remainder in HI.
-#[derive(Clone, Copy, Debug, PartialEq, Eq)]
+#[derive(Clone, Copy, PartialEq, Eq)]
 pub enum DivideOp {
     Div,
     Divu,
 }
 
 /// A count of leading zeros or ones.
-#[derive(Clone, Copy, Debug, PartialEq, Eq)]
+#[derive(Clone, Copy, PartialEq, Eq)]
 pub enum CountOp {
     Clz,
     Clo,
 }
 
 /// A trap on a comparison of two registers.
-#[derive(Clone, Copy, Debug, PartialEq, Eq)]
+#[derive(Clone, Copy, PartialEq, Eq)]
 pub enum TrapOp {
     Tge,
     Tgeu,
@@ -97,7 +97,7 @@ pub enum TrapOp {
 }
 
 /// A trap on a comparison of a register with the 16 bits of the word.
-#[derive(Clone, Copy, Debug, PartialEq, Eq)]
+#[derive(Clone, Copy, PartialEq, Eq)]
 pub enum TrapImmediateOp {
     Tgei,
     Tgeiu,
@@ -108,7 +108,7 @@ pub enum TrapImmediateOp {
 }
 
 /// A branch on a comparison of two registers.
-#[derive(Clone, Copy, Debug, PartialEq, Eq)]
+#[derive(Clone, Copy, PartialEq, Eq)]
 pub enum BranchOp {
     Beq,
     Bne,
@@ -117,7 +117,7 @@ pub enum BranchOp {
 }
 
 /// A branch on a comparison of a register with zero.
-#[derive(Clone, Copy, Debug, PartialEq, Eq)]
+#[derive(Clone, Copy, PartialEq, Eq)]
 pub enum BranchZeroOp {
     Bltz,
     Bgez,
@@ -134,14 +134,14 @@ pub enum BranchZeroOp {
 }
 
 /// A jump within the region of its delay slot.
-#[derive(Clone, Copy, Debug, PartialEq, Eq)]
+#[derive(Clone, Copy, PartialEq, Eq)]
 pub enum JumpOp {
     J,
     Jal,
 }
 
 /// An operation on a register and the 16 bits of the word.
-#[derive(Clone, Copy, Debug, PartialEq, Eq)]
+#[derive(Clone, Copy, PartialEq, Eq)]
 pub enum ImmediateOp {
     Addi,
     Addiu,
@@ -153,7 +153,7 @@ pub enum ImmediateOp {
 }
 
 /// A load from memory.
-#[derive(Clone, Copy, Debug, PartialEq, Eq)]
+#[derive(Clone, Copy, PartialEq, Eq)]
 pub enum LoadOp {
     Lb,
     Lh,
@@ -166,7 +166,7 @@ pub enum LoadOp {
 }
 
 /// A store to memory.
-#[derive(Clone, Copy, Debug, PartialEq, Eq)]
+#[derive(Clone, Copy, PartialEq, Eq)]
 pub enum StoreOp {
     Sb,
     Sh,
@@ -177,21 +177,21 @@ pub enum StoreOp {
 }
 
 /// An operation on the caches.
-#[derive(Clone, Copy, Debug, PartialEq, Eq)]
+#[derive(Clone, Copy, PartialEq, Eq)]
 pub enum CacheOp {
     Cache,
     Pref,
 }
 
 /// A move from a register of coprocessor 0, or to one.
-#[derive(Clone, Copy, Debug, PartialEq, Eq)]
+#[derive(Clone, Copy, PartialEq, Eq)]
 pub enum Cp0MoveOp {
     Mfc0,
     Mtc0,
 }
 
 /// An operation on the TLB.
-#[derive(Clone, Copy, Debug, PartialEq, Eq)]
+#[derive(Clone, Copy, PartialEq, Eq)]
 pub enum TlbOp {
     Tlbr,
     Tlbwi,
@@ -200,7 +200,7 @@ pub enum TlbOp {
 }
 
 /// An instruction of coprocessor 1 or 2. The processor has neither.
-#[derive(Clone, Copy, Debug, PartialEq, Eq)]
+#[derive(Clone, Copy, PartialEq, Eq)]
 pub enum CoprocessorOp {
     Cop1,
     Cop2,
@@ -236,7 +236,7 @@ impl CoprocessorOp {
 
 /// An instruction with its operands. The fields are named as in the standard's formats; `imm` and `offset` are the
 /// 16 bits of the word, and the instruction says whether their sign is extended.
-#[derive(Clone, Copy, Debug, PartialEq, Eq)]
+#[derive(Clone, Copy, PartialEq, Eq)]
 pub enum Instr {
     /// rd = rs `op` rt.
     Register {

@@ -37,6 +37,3 @@ pub use mnemonic::mnemonic_of;
 pub use operand::{Operand, Operands, operands_of};
 pub use reg::{Reg, ShiftAmount};
 pub use target::{branch_target_of, jump_target_of};
-
-#[cfg(test)]
-mod tests;

@@ -304,7 +304,7 @@ impl TlbOp {
 pub fn mnemonic_of(instr: &Instr) -> &'static str
     ensures { result.now ≡ mnemonic instr.now }
 {
-    match instr {
+    match *instr {
         Instr::Register { op, .. } => op.mnemonic(),
         Instr::ConditionalMove { op, .. } => op.mnemonic(),
         Instr::Shift { op, .. } => op.mnemonic(),

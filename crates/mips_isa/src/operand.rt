@@ -9,7 +9,7 @@ use crate::{ImmediateOp, Instr, Reg};
 use std::fmt;
 
 /// An operand as it is written.
-#[derive(Clone, Copy, Debug, PartialEq, Eq)]
+#[derive(Clone, Copy, PartialEq, Eq)]
 pub enum Operand {
     /// `$` and the number of a register.
     Register(Reg),
@@ -24,7 +24,7 @@ pub enum Operand {
 }
 
 /// The operands of an instruction, in the order in which they are written.
-#[derive(Clone, Copy, Debug, PartialEq, Eq)]
+#[derive(Clone, Copy, PartialEq, Eq)]
 pub enum Operands {
     None,
     One(Operand),

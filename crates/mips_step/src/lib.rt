@@ -21,6 +21,3 @@ pub use bus::PhysBus;
 pub use cpu::Cpu;
 pub use mips_tlb::Kind;
 pub use word32::Ppn;
-
-#[cfg(test)]
-mod tests;

@@ -1,5 +1,5 @@
 //! Every beginning of a good source has the verdict that the rules give it.
-use crate::{AsmError, assemble_image};
+use masm::{AsmError, assemble_image};
 use std::process::Abort;
 use std::test::Fail;
 
@@ -8,7 +8,7 @@ type Run = (usize, u32, u64);
 
 const SHORT: &str = "x: addi $1,$0,-5\n.entry x\nj x #e\n";
 
-const SHORT_RUNS: [Run; 13] = [
+static SHORT_RUNS: [Run; 13] = [
     // Nothing, then `x`, then a label with nothing behind it.
     (0, 8, 0),
     (1, 2, 1),
@@ -31,7 +31,7 @@ const SHORT_RUNS: [Run; 13] = [
 
 const LONG: &str = "a: .byte 9\n.space 3\nc: beq $0,$0,ab\nab: .org 0x80000010\n.word ac\nac:\n";
 
-const LONG_RUNS: [Run; 38] = [
+static LONG_RUNS: [Run; 38] = [
     (0, 8, 0),
     (1, 2, 1),
     (2, 8, 0),

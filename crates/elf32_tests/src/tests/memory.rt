@@ -1,5 +1,6 @@
 //! Calls that take memory: the answer is the right one, or says that memory was wanted, and is no other.
-use crate::{ElfError, Image, Segment, read, write};
+use super::is_segment;
+use elf32::{ElfError, Image, Segment, read, write};
 use std::alloc::{AllocError, Global};
 
 /// The bytes 33 33 33 at 80000100, in 4 bytes of memory, and behind them 55 55 55 55 55 at 80000000, in 32 bytes. It is
@@ -15,11 +16,6 @@ const FILE: [u8; 124] = [
     0x00, 0x00, 0x00, 0x00, 0x33, 0x33, 0x33, 0x55, 0x55, 0x55, 0x55, 0x55,
 ];
 
-/// Whether a segment has this address, these bytes and this size.
-fn is_segment(segment: &Segment, address: u32, bytes: &[u8], size: u32) -> bool {
-    segment.address == address && segment.bytes.as_slice() == bytes && segment.size == size
-}
-
 /// Whether an image is that of the file.
 fn is_image(image: &Image) -> bool {
     image.entry == 0x8000_001c
@@ -33,7 +29,7 @@ fn is_image(image: &Image) -> bool {
 }
 
 /// The image of the file.
-fn image(alloc: Global) -> Result<Image, AllocError> {
+pub fn image(alloc: Global) -> Result<Image, AllocError> {
     let mut segments = Vec::new(alloc);
     segments.push(Segment {
         address: 0x8000_0100,

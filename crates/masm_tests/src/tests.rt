@@ -8,7 +8,7 @@ mod instructions;
 mod memory;
 mod rows;
 
-use crate::{AsmError, assemble_image, listing};
+use masm::{AsmError, assemble_image, listing};
 use std::process::Abort;
 use std::test::Fail;
 

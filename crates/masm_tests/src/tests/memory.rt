@@ -1,6 +1,6 @@
 //! Calls that take memory: the answer is the right one, or says that memory was wanted, and is no other.
-use crate::{AsmError, assemble, assemble_image, disassembly_of, listing};
 use elf32::{Image, Segment};
+use masm::{AsmError, assemble, assemble_image, disassembly_of, listing};
 use std::alloc::{AllocError, Global};
 
 /// Two segments, with two names, each used before its line.

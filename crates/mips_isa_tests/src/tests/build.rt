@@ -1,5 +1,5 @@
 //! Instructions by short calls.
-use crate::*;
+use mips_isa::*;
 
 pub fn r(number: u32) -> Reg {
     Reg::new(number % 32)

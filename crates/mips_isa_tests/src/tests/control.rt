@@ -1,6 +1,6 @@
 //! Words, the instructions that they encode, and their text at the address 80001000: branches, jumps and immediates.
 use super::build::*;
-use crate::*;
+use mips_isa::*;
 
 pub fn branch_rows() -> [(u32, Instr, &'static str); 23] {
     [

@@ -2,7 +2,7 @@
 use super::word_and_line;
 use std::test::Fail;
 
-const REGISTERS: [(u32, &'static str); 36] = [
+static REGISTERS: [(u32, &'static str); 36] = [
     (0x00430820, "add $1,$2,$3"),
     (0x00430821, "addu $1,$2,$3"),
     (0x00430822, "sub $1,$2,$3"),
@@ -41,7 +41,7 @@ const REGISTERS: [(u32, &'static str); 36] = [
     (0x70850005, "msubu $4,$5"),
 ];
 
-const TRAPS: [(u32, &'static str); 29] = [
+static TRAPS: [(u32, &'static str); 29] = [
     (0x0022fff0, "tge $1,$2,1023"),
     (0x03e00030, "tge $31,$0,0"),
     (0x0022fff1, "tgeu $1,$2,1023"),
@@ -73,7 +73,7 @@ const TRAPS: [(u32, &'static str); 29] = [
     (0x0000000c, "syscall 0"),
 ];
 
-const TRANSFERS: [(u32, &'static str); 26] = [
+static TRANSFERS: [(u32, &'static str); 26] = [
     (0x10220003, "beq $1,$2,0x80000010"),
     (0x10227fff, "beq $1,$2,0x80020000"),
     (0x14220003, "bne $1,$2,0x80000010"),
@@ -102,7 +102,7 @@ const TRANSFERS: [(u32, &'static str); 26] = [
     (0x0040f809, "jalr $31,$2"),
 ];
 
-const IMMEDIATES: [(u32, &'static str); 31] = [
+static IMMEDIATES: [(u32, &'static str); 31] = [
     (0x20418000, "addi $1,$2,-32768"),
     (0x20417fff, "addi $1,$2,32767"),
     (0x24418000, "addiu $1,$2,-32768"),
@@ -136,7 +136,7 @@ const IMMEDIATES: [(u32, &'static str); 31] = [
     (0xac018000, "sw $1,-32768($0)"),
 ];
 
-const SYSTEM: [(u32, &'static str); 13] = [
+static SYSTEM: [(u32, &'static str); 13] = [
     (0xbd1f0010, "cache 31,16($8)"),
     (0xcd1f0010, "pref 31,16($8)"),
     (0x40028001, "mfc0 $2,$16,1"),

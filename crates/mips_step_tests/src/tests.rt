@@ -3,10 +3,10 @@ ghost use Rattle.std.specs.Prelude.{◌≡◌, ◌==◌, if◌then◌else◌, So
 ghost use Rattle.mips_step.specs.World.{with_memory};
 ghost use Rattle.mips_step.specs.declared.access.Why.TheVariants.{First};
 
-use crate::{Cpu, Kind, PhysBus, Ppn, Refusal, Size, StepOut, Why};
 use mips_alu::{store_left, store_right};
 use mips_cp0::Register;
 use mips_isa::Reg;
+use mips_step::{Cpu, Kind, PhysBus, Ppn, Refusal, Size, StepOut, Why};
 use std::test::Fail;
 use word32::{half_at, page_of, put_half, put_word, word_at};
 

@@ -292,7 +292,7 @@ fn overlaps_and_counts(rt: HostRuntime) -> Result<(), Fail> {
 
 /// Sixty-four segments with content are taken, with empty ones among them; the first content of another one is not.
 fn many_segments(rt: &(impl std::process::Abort + AllocGlobal)) -> Result<(), Fail> {
-    use crate::{AsmError, assemble_image};
+    use masm::{AsmError, assemble_image};
     let mut source = String::new(rt.alloc());
     for i in 0u32..64 {
         let address = 0x8000_0000 + i * 16;

@@ -1,6 +1,6 @@
 //! Words, the instructions that they encode, and their text at the address 80001000: instructions that compute from registers, and traps.
 use super::build::*;
-use crate::*;
+use mips_isa::*;
 
 pub fn register_rows() -> [(u32, Instr, &'static str); 18] {
     [

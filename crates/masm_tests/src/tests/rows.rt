@@ -1,6 +1,6 @@
 //! A whole loop, and a fault of each pass.
 use super::{listings, verdicts};
-use crate::assemble_image;
+use masm::assemble_image;
 use std::test::Fail;
 
 const LOOP: &str = "addiu $1,$0,5\nloop: addu $2,$2,$1\nbne $1,$0,loop\naddiu $1,$1,-1\n";

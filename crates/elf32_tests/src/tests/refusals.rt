@@ -1,8 +1,11 @@
 //! Files with faults.
 use super::single::SINGLE;
-use super::{ADDRESS, FILE_SIZE, MEMORY_SIZE, OFFSET, TABLE, refusal, with_words};
-use crate::{ElfError, Fault};
+use super::{
+    ADDRESS, FILE_SIZE, MEMORY_SIZE, OFFSET, TABLE, check_beginnings, check_changed, with_words,
+};
+use elf32::{ElfError, Fault};
 use std::alloc::{AllocError, Global};
+use std::process::Abort;
 use std::test::Fail;
 
 /// The file of three segments: 16 bytes at 80000000, 4 bytes at 80001000, and a page at 80002000 with none in the file.
@@ -33,7 +36,7 @@ fn three(alloc: Global) -> Result<Vec<u8>, AllocError> {
 
 /// What to write into that file for each fault but the first, in the order in which faults are looked for. No two of them
 /// stand in one another's way where the later is written first.
-const FAULTS: [(u32, &[(usize, u32)]); 8] = [
+static FAULTS: [(u32, &[(usize, u32)]); 8] = [
     (2, &[(4, 0x0001_0102)]),
     (3, &[(16, 0x0009_0002)]),
     (4, &[(40, 0x0021_0034)]),
@@ -53,86 +56,84 @@ const FAULTS: [(u32, &[(usize, u32)]); 8] = [
     (9, &[(24, 0x8000_0002)]),
 ];
 
+/// The case is the place of the later fault.
 #[test]
 fn the_first_of_two_faults_answers(rt: HostRuntime) -> Result<(), Fail> {
-    let alloc = rt.alloc();
-    let file = three(alloc)?;
-    assert_eq!(rt; file.len(), 168);
-    assert_eq!(rt; refusal(alloc, &file, 3), 0);
-    for (later, (number, words)) in FAULTS.iter().enumerate() {
-        let wrong = with_words(alloc, &file, *words)?;
-        assert_eq!(rt; refusal(alloc, &wrong, 3), *number, "fault {number} alone");
-        assert_eq!(rt;
-            refusal(alloc, &wrong[..51.min(wrong.len())], 3),
-            1,
-            "51 bytes with fault {number}"
-        );
-        for (earlier, (first, more)) in FAULTS.iter().enumerate() {
-            if earlier < later {
-                let both = with_words(alloc, &wrong, *more)?;
-                assert_eq!(rt;
-                    refusal(alloc, &both, 3),
-                    *first,
-                    "fault {first} with {number}"
-                );
-            }
+    let file = three(rt.alloc())?;
+    for (later, (_, words)) in FAULTS.iter().enumerate() {
+        let wrong = with_words(rt.alloc(), &file, *words)?;
+        for (first, more) in FAULTS.iter().take(later) {
+            check_changed(&rt, &wrong, *more, 3, *first, later)?;
         }
     }
     Ok(())
 }
 
 #[test]
-fn each_beginning(rt: HostRuntime) -> Result<(), Fail> {
-    let alloc = rt.alloc();
-    let file = three(alloc)?;
-    assert_eq!(rt; file.len(), 168);
-    for length in 0..file.len() + 1 {
-        let want = match length {
-            0..=51 => 1,
-            52..=147 => 4,
-            148..=167 => 6,
-            _ => 0,
-        };
-        assert_eq!(rt;
-            refusal(alloc, &file[..length], 3),
-            want,
-            "the first {length} bytes"
-        );
+fn each_fault_in_three_segments(rt: HostRuntime) -> Result<(), Fail> {
+    let file = three(rt.alloc())?;
+    check_changed(&rt, &file, &[], 3, 0, 0)?;
+    for (case, (number, words)) in FAULTS.iter().enumerate() {
+        check_changed(&rt, &file, *words, 3, *number, case)?;
+    }
+    Ok(())
+}
+
+/// 51 bytes are too few for a header, whichever fault is in them.
+#[test]
+fn each_fault_in_51_bytes(rt: HostRuntime) -> Result<(), Fail> {
+    let file = three(rt.alloc())?;
+    let beginning = &file[..51.min(file.len())];
+    for (case, (_, words)) in FAULTS.iter().enumerate() {
+        check_changed(&rt, beginning, *words, 3, 1, case)?;
     }
     Ok(())
 }
 
 #[test]
+fn each_beginning(rt: HostRuntime) -> Result<(), Fail> {
+    let file = three(rt.alloc())?;
+    assert_eq!(rt; file.len(), 168);
+    check_beginnings(
+        &rt,
+        &file,
+        3,
+        &[(0, 51, 1), (52, 147, 4), (148, 167, 6), (168, 168, 0)],
+    );
+    Ok(())
+}
+
+/// What to write into the file of three segments, and the fault.
+static ORDERED: [(&[(usize, u32)], u32); 5] = [
+    // the first segment is outside, the last has more bytes in the file than in memory
+    (&[(ADDRESS, 0x7fff_0000), (FILE_SIZE + 64, 4097)], 6),
+    // the first two overlap, the last is outside
+    (
+        &[(ADDRESS + 32, 0x8000_0000), (ADDRESS + 64, 0x9000_0000)],
+        7,
+    ),
+    // the last two overlap, and the entry is in none
+    (&[(ADDRESS + 64, 0x8000_0ffd), (24, 0x8000_4000)], 8),
+    // the first and the last
+    (&[(ADDRESS + 64, 0x8000_0000)], 8),
+    // a header of no loaded segment comes first
+    (
+        &[(TABLE, 4), (24, 0x8000_1000), (ADDRESS + 32, 0x8000_0ffe)],
+        0,
+    ),
+];
+
+#[test]
 fn each_test_covers_all_headers_before_the_next(rt: HostRuntime) -> Result<(), Fail> {
-    let alloc = rt.alloc();
-    let file = three(alloc)?;
-    let cases: [(&[(usize, u32)], u32); 5] = [
-        // the first segment is outside, the last has more bytes in the file than in memory
-        (&[(ADDRESS, 0x7fff_0000), (FILE_SIZE + 64, 4097)], 6),
-        // the first two overlap, the last is outside
-        (
-            &[(ADDRESS + 32, 0x8000_0000), (ADDRESS + 64, 0x9000_0000)],
-            7,
-        ),
-        // the last two overlap, and the entry is in none
-        (&[(ADDRESS + 64, 0x8000_0ffd), (24, 0x8000_4000)], 8),
-        // the first and the last
-        (&[(ADDRESS + 64, 0x8000_0000)], 8),
-        // a header of no loaded segment comes first
-        (
-            &[(TABLE, 4), (24, 0x8000_1000), (ADDRESS + 32, 0x8000_0ffe)],
-            0,
-        ),
-    ];
-    for (i, (words, want)) in cases.iter().enumerate() {
-        let wrong = with_words(alloc, &file, *words)?;
-        assert_eq!(rt; refusal(alloc, &wrong, 3), *want, "case {i}");
+    let file = three(rt.alloc())?;
+    for (case, (words, want)) in ORDERED.iter().enumerate() {
+        check_changed(&rt, &file, *words, 3, *want, case)?;
     }
     Ok(())
 }
 
 /// What stands in the file of one segment, the pages and the fault.
-const CASES: [(&[(usize, u32)], u32, u32); 44] = [
+static CASES: [(&[(usize, u32)], u32, u32); 44] = [
     // the identification
     (&[(0, 0x464c_457e)], 1, 2),
     (&[(0, 0x474c_457f)], 1, 2),
@@ -222,47 +223,52 @@ const CASES: [(&[(usize, u32)], u32, u32); 44] = [
 
 #[test]
 fn each_fault_alone(rt: HostRuntime) -> Result<(), Fail> {
-    for (i, (words, pages, want)) in CASES.iter().enumerate() {
-        let file = with_words(rt.alloc(), &SINGLE, *words)?;
-        assert_eq!(rt; refusal(rt.alloc(), &file, *pages), *want, "case {i}");
+    for (case, (words, pages, want)) in CASES.iter().enumerate() {
+        check_changed(&rt, &SINGLE, *words, *pages, *want, case)?;
     }
+    Ok(())
+}
+
+/// The faults, each with its number and its text.
+const TEXTS: [(Fault, u32, &str); 9] = [
+    (Fault::Short, 1, "the file is shorter than an ELF header"),
+    (
+        Fault::Identification,
+        2,
+        "the file is no little-endian ELF32 file",
+    ),
+    (Fault::Header, 3, "the file is no executable for MIPS"),
+    (
+        Fault::Table,
+        4,
+        "the program header table is wrong or passes the end of the file",
+    ),
+    (Fault::Empty, 5, "no segment is loaded"),
+    (
+        Fault::Contents,
+        6,
+        "a segment has more bytes than memory, or bytes past the end of the file",
+    ),
+    (Fault::Place, 7, "a segment lies outside the memory"),
+    (Fault::Overlap, 8, "two segments overlap"),
+    (
+        Fault::Entry,
+        9,
+        "the entry is no multiple of 4 in a segment",
+    ),
+];
+
+fn check_text<R: AllocGlobal + Abort>(rt: &R, error: ElfError, text: &str) -> Result<(), Fail> {
+    let said = format!(in rt.alloc(); "{error}")?;
+    assert_eq!(rt; said.as_str(), text);
     Ok(())
 }
 
 #[test]
 fn faults_have_a_number_and_a_text(rt: HostRuntime) -> Result<(), Fail> {
-    for (fault, number, text) in [
-        (Fault::Short, 1, "the file is shorter than an ELF header"),
-        (
-            Fault::Identification,
-            2,
-            "the file is no little-endian ELF32 file",
-        ),
-        (Fault::Header, 3, "the file is no executable for MIPS"),
-        (
-            Fault::Table,
-            4,
-            "the program header table is wrong or passes the end of the file",
-        ),
-        (Fault::Empty, 5, "no segment is loaded"),
-        (
-            Fault::Contents,
-            6,
-            "a segment has more bytes than memory, or bytes past the end of the file",
-        ),
-        (Fault::Place, 7, "a segment lies outside the memory"),
-        (Fault::Overlap, 8, "two segments overlap"),
-        (
-            Fault::Entry,
-            9,
-            "the entry is no multiple of 4 in a segment",
-        ),
-    ] {
+    for (fault, number, text) in TEXTS {
         assert_eq!(rt; fault.number(), number);
-        let said = format!(in rt.alloc(); "{}", ElfError::Fault(fault))?;
-        assert_eq!(rt; said.as_str(), text);
+        check_text(&rt, ElfError::Fault(fault), text)?;
     }
-    let memory = format!(in rt.alloc(); "{}", ElfError::Memory)?;
-    assert_eq!(rt; memory.as_str(), "out of memory");
-    Ok(())
+    check_text(&rt, ElfError::Memory, "out of memory")
 }

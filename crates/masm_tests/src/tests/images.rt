@@ -1,6 +1,6 @@
 //! Images: segments, their order, and the entry.
 use super::listings;
-use crate::assemble_image;
+use masm::assemble_image;
 use std::process::Abort;
 use std::test::Fail;
 

@@ -1,6 +1,6 @@
 //! Executables: the file of a text, which is read back.
-use crate::{AsmError, assemble};
 use elf32::{Image, read};
+use masm::{AsmError, assemble};
 use std::process::Abort;
 use std::test::Fail;
 

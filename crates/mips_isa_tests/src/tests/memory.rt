@@ -1,6 +1,6 @@
 //! Words, the instructions that they encode, and their text at the address 80001000: loads, stores and system instructions.
 use super::build::*;
-use crate::*;
+use mips_isa::*;
 
 pub fn load_rows() -> [(u32, Instr, &'static str); 13] {
     [
