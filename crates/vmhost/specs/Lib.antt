@@ -1,6 +1,1 @@
-pub mod Disassembled
 pub mod Exit
-pub mod Faults
-pub mod Raw
-pub mod Runs
-pub mod Sources

@@ -1,18 +1,10 @@
 //! The program `vmhost`: it assembles, disassembles and runs MIPS32 machine code in a virtual machine.
 //!
-//! `program` does all of the work, over any files, reader and writers. `run` makes the steps of a machine: its contract
-//! says which state the machine is in afterwards, how many steps were made and why it ended before the last.
-//! `executable_of` is the executable that a source means, `disassembly` the lines of the image that a file stands for.
+//! `program` reads the command line, has the command carried out and says how it went, over any files, reader and writers.
+//! The commands themselves are those of the library `commands`.
 #![tactic(auto)]
 
-mod asm;
 mod command_line;
-mod dis;
-mod dump;
-mod exec;
-mod fault;
-mod image_file;
-mod machine;
 mod program;
 
 use crate::program::{program, unreadable, words};

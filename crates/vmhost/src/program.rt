@@ -3,12 +3,9 @@ ghost use Rattle.std.specs.Prelude.{◌≡◌, ◌<◌, ◌⊎◌, IfOk};
 ghost use Rattle.std.specs.IoError.{error_kind};
 ghost use Rattle.vmhost.specs.Exit.{code_of};
 
-use crate::asm::assemble_file;
 use crate::command_line::{Order, parse};
-use crate::dis::disassemble_file;
-use crate::exec::{Report, run_image};
-use crate::fault::Fault;
 use clap::Error;
+use commands::{Fault, Report, assemble_file, disassemble_file, run_image};
 use std::io::{BufRead, ErrorKind, Write};
 use std::rt::{Env, Files};
 use std::{env, io};

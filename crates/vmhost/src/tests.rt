@@ -3,39 +3,157 @@ mod elf_files;
 mod examples;
 mod failures;
 mod refusals;
-mod run;
 mod runs;
 mod sources;
 
 use crate::program::program;
 use std::alloc::{AllocError, Global};
+use std::process::Abort;
 use std::rt::Files;
-use std::{env, io, process};
+use std::test::Fail;
+use std::{env, fs, io, process};
 
 /// What the program wrote, and the status that it gave.
 #[derive(Drop)]
 struct Said {
-    out: Vec<u8>,
-    err: Vec<u8>,
     status: u8,
+    out: String,
+    err: String,
 }
 
-/// Runs the program on the words.
-fn say<R: Files + AllocGlobal>(rt: &R, words: &[String]) -> Said {
+/// The lines of a dump behind the first four registers, where all that they show is 0.
+const ZEROS: &str = "\
+r04 00000000 00000000 00000000 00000000
+r08 00000000 00000000 00000000 00000000
+r12 00000000 00000000 00000000 00000000
+r16 00000000 00000000 00000000 00000000
+r20 00000000 00000000 00000000 00000000
+r24 00000000 00000000 00000000 00000000
+r28 00000000 00000000 00000000 00000000
+sr 00000000 cause 00000000 epc 00000000 badva 00000000
+out -
+";
+
+/// A step of a test on a file. In command lines and in what is written to `err`, `FILE` stands for its name; `FILE.s` is a
+/// second file, for a source.
+#[derive(Clone, Copy)]
+enum Step {
+    /// The source gets these bytes.
+    Source(&'static [u8]),
+    /// The file gets these bytes.
+    File(&'static [u8]),
+    /// The file gets so many zeros.
+    Zeros(usize),
+    /// The file is removed.
+    Remove,
+    /// The command line is answered by this alone, with status 0.
+    Prints(&'static str, &'static str),
+    /// The command line is answered by this alone, on `err`, with status 1.
+    Refuses(&'static str, &'static str),
+    /// The file holds these bytes.
+    Holds(&'static [u8]),
+}
+
+/// Makes the steps of a test on the file of this name, and removes its files.
+fn play<R: Files + AllocGlobal + Abort>(rt: &R, file: &str, steps: &[Step]) -> Result<(), Fail> {
+    for step in steps {
+        make(rt, file, *step)?;
+    }
+    clear(rt, file)
+}
+
+fn make<R: Files + AllocGlobal + Abort>(rt: &R, file: &str, step: Step) -> Result<(), Fail> {
+    match step {
+        Step::Source(bytes) => write_source(rt, file, bytes),
+        Step::File(bytes) => write(rt, file, bytes),
+        Step::Zeros(length) => write(rt, file, vec![in rt.alloc(); 0u8; length]?.as_slice()),
+        Step::Remove => remove(rt, file),
+        Step::Prints(line, out) => prints(rt, file, line, out),
+        Step::Refuses(line, err) => refuses(rt, file, line, err),
+        Step::Holds(bytes) => holds(rt, file, bytes),
+    }
+}
+
+fn source_of(alloc: Global, file: &str) -> Result<String, AllocError> {
+    format!(in alloc; "{file}.s")
+}
+
+fn write<R: Files + AllocGlobal>(rt: &R, file: &str, bytes: &[u8]) -> Result<(), Fail> {
+    fs::write(rt, file, bytes)?;
+    Ok(())
+}
+
+/// Removes a file if it is there.
+fn remove<R: Files + AllocGlobal>(rt: &R, file: &str) -> Result<(), Fail> {
+    if fs::exists(rt, file)? {
+        fs::remove_file(rt, file)?;
+    }
+    Ok(())
+}
+
+/// Removes both files.
+fn clear<R: Files + AllocGlobal>(rt: &R, file: &str) -> Result<(), Fail> {
+    remove(rt, source_of(rt.alloc(), file)?.as_str())?;
+    remove(rt, file)
+}
+
+fn write_source<R: Files + AllocGlobal>(rt: &R, file: &str, bytes: &[u8]) -> Result<(), Fail> {
+    write(rt, source_of(rt.alloc(), file)?.as_str(), bytes)
+}
+
+fn holds<R: Files + AllocGlobal + Abort>(rt: &R, file: &str, bytes: &[u8]) -> Result<(), Fail> {
+    let found = fs::read(rt, file)?;
+    assert_eq!(rt; found.as_slice(), bytes);
+    Ok(())
+}
+
+fn prints<R: Files + AllocGlobal + Abort>(
+    rt: &R,
+    file: &str,
+    line: &str,
+    out: &str,
+) -> Result<(), Fail> {
+    let said = say(rt, line, file)?;
+    let found = (said.status, said.out.as_str(), said.err.as_str());
+    assert_eq!(rt; found, (0, out, ""), "{line}");
+    Ok(())
+}
+
+fn refuses<R: Files + AllocGlobal + Abort>(
+    rt: &R,
+    file: &str,
+    line: &str,
+    err: &str,
+) -> Result<(), Fail> {
+    let said = say(rt, line, file)?;
+    let err = err.replace(rt.alloc(), "FILE", file)?;
+    let found = (said.status, said.out.as_str(), said.err.as_str());
+    assert_eq!(rt; found, (1, "", err.as_str()), "{line}");
+    Ok(())
+}
+
+/// Runs the program on a command line, in which `FILE` stands for the name of a file.
+fn say<R: Files + AllocGlobal>(rt: &R, line: &str, file: &str) -> Result<Said, Fail> {
+    let words = words_of(rt.alloc(), line, file)?;
     let mut out = Vec::new(rt.alloc());
     let mut err = Vec::new(rt.alloc());
-    let status = program(rt, words, &mut io::empty(), &mut out, &mut err);
-    Said { out, err, status }
+    let status = program(rt, words.as_slice(), &mut io::empty(), &mut out, &mut err);
+    Ok(Said {
+        status,
+        out: String::from_utf8(out)?,
+        err: String::from_utf8(err)?,
+    })
 }
 
-/// The words, in which `FILE` stands for the name of a file.
-fn words_of(alloc: Global, words: &[&str], file: &str) -> Result<Vec<String>, AllocError> {
-    let mut all = Vec::new(alloc);
-    for word in words {
-        let word = if *word == "FILE" { file } else { *word };
-        all.push(String::from_str(alloc, word)?)?;
+/// The words of a command line, which one blank parts from each other.
+fn words_of(alloc: Global, line: &str, file: &str) -> Result<Vec<String>, AllocError> {
+    let mut words = Vec::new(alloc);
+    if !line.is_empty() {
+        for word in line.split(' ') {
+            words.push(word.replace(alloc, "FILE", file)?)?;
+        }
     }
-    Ok(all)
+    Ok(words)
 }
 
 /// The name of a file of this process's own, for a test of this name.

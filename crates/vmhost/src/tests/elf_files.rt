@@ -1,6 +1,5 @@
 //! ELF files: their runs, and what is said of a file that is refused.
-use super::{file_of, say, words_of};
-use std::fs;
+use super::{ZEROS, clear, file_of, prints, refuses, write};
 use std::process::Abort;
 use std::rt::Files;
 use std::test::Fail;
@@ -29,52 +28,44 @@ const TWO: [u8; 128] = [
     0x00, 0x00, 0x00, 0x00, 0x04, 0x00, 0x02, 0x3c, 0x11, 0x11, 0x11, 0x11, 0x22, 0x22, 0x22, 0x22,
 ];
 
-/// A run of a file, and how its dump begins: `steps`, `pc` and the first row of registers.
+/// A run of a file, and how its dump begins: `steps`, `pc` and the first row of registers. All else is 0.
 struct Run {
     file: &'static [u8],
-    words: &'static [&'static str],
+    command: &'static str,
     text: &'static str,
 }
 
-const RUNS: [Run; 4] = [
+static RUNS: [Run; 4] = [
     Run {
         file: &LOOP,
-        words: &["exec", "--steps", "19", "FILE"],
+        command: "exec --steps 19",
         text: "steps 19\npc 80000010 hi 00000000 lo 00000000\nr00 00000000 ffffffff 0000000f 00000000\n",
     },
     Run {
         file: &LOOP,
-        words: &["exec", "--pages", "2", "--steps", "1", "FILE"],
+        command: "exec --pages 2 --steps 1",
         text: "steps 1\npc 80000004 hi 00000000 lo 00000000\nr00 00000000 00000005 00000000 00000000\n",
     },
     Run {
         file: &TWO,
-        words: &["exec", "--pages", "3", "--steps", "1", "FILE"],
+        command: "exec --pages 3 --steps 1",
         text: "steps 1\npc 80002000 hi 00000000 lo 00000000\nr00 00000000 00000000 00040000 00000000\n",
     },
     // zeros follow the word that is entered, also where the file has other bytes after it
     Run {
         file: &TWO,
-        words: &["exec", "--pages", "3", "--steps", "3", "FILE"],
+        command: "exec --pages 3 --steps 3",
         text: "steps 3\npc 80002008 hi 00000000 lo 00000000\nr00 00000000 00000000 00040000 00000000\n",
     },
 ];
 
-fn check_run<R: Files + AllocGlobal + Abort>(
-    rt: &R,
-    run: &Run,
-    file: &str,
-    flat: bool,
-) -> Result<(), Fail> {
-    let mut words = words_of(rt.alloc(), run.words, file)?;
-    if flat {
-        words.push(String::from_str(rt.alloc(), "--flat")?)?;
+fn check_run<R: Files + AllocGlobal + Abort>(rt: &R, file: &str, run: &Run) -> Result<(), Fail> {
+    let dump = format!(in rt.alloc(); "{}{ZEROS}", run.text)?;
+    write(rt, file, run.file)?;
+    for end in ["FILE", "--flat FILE"] {
+        let line = format!(in rt.alloc(); "{} {end}", run.command)?;
+        prints(rt, file, &line, &dump)?;
     }
-    let said = say(rt, words.as_slice());
-    let out = str::from_utf8(said.out.as_slice())?;
-    assert!(rt; out.starts_with(run.text), "{words:?}: {out}");
-    assert!(rt; said.err.is_empty(), "{words:?}");
-    assert_eq!(rt; said.status, 0, "{words:?}");
     Ok(())
 }
 
@@ -82,13 +73,9 @@ fn check_run<R: Files + AllocGlobal + Abort>(
 fn executables_run(rt: HostRuntime) -> Result<(), Fail> {
     let file = file_of(&rt, "executables")?;
     for run in &RUNS {
-        fs::write(&rt, file.as_str(), run.file)?;
-        for flat in [false, true] {
-            check_run(&rt, run, file.as_str(), flat)?;
-        }
+        check_run(&rt, file.as_str(), run)?;
     }
-    fs::remove_file(&rt, file.as_str())?;
-    Ok(())
+    clear(&rt, file.as_str())
 }
 
 /// A file that is refused: `TWO` with bytes changed, or its beginning.
@@ -96,115 +83,115 @@ struct Refusal {
     /// Places and their new bytes.
     changes: &'static [(usize, u8)],
     length: usize,
-    words: &'static [&'static str],
+    line: &'static str,
     text: &'static str,
 }
 
-const REFUSALS: [Refusal; 15] = [
+static REFUSALS: [Refusal; 15] = [
     Refusal {
         changes: &[],
         length: 51,
-        words: &["exec", "FILE"],
+        line: "exec FILE",
         text: "vmhost: elf 1\n",
     },
     // big-endian
     Refusal {
         changes: &[(5, 2)],
         length: 128,
-        words: &["exec", "FILE"],
+        line: "exec FILE",
         text: "vmhost: elf 2\n",
     },
     // for another machine
     Refusal {
         changes: &[(18, 0x28)],
         length: 128,
-        words: &["exec", "FILE"],
+        line: "exec FILE",
         text: "vmhost: elf 3\n",
     },
     // 65 program headers
     Refusal {
         changes: &[(44, 65)],
         length: 128,
-        words: &["exec", "FILE"],
+        line: "exec FILE",
         text: "vmhost: elf 4\n",
     },
     Refusal {
         changes: &[],
         length: 115,
-        words: &["exec", "FILE"],
+        line: "exec FILE",
         text: "vmhost: elf 4\n",
     },
     Refusal {
         changes: &[(44, 0)],
         length: 128,
-        words: &["exec", "FILE"],
+        line: "exec FILE",
         text: "vmhost: elf 5\n",
     },
     Refusal {
         changes: &[],
         length: 127,
-        words: &["exec", "FILE"],
+        line: "exec FILE",
         text: "vmhost: elf 6\n",
     },
     // the pages end within the zeros of the first segment
     Refusal {
         changes: &[],
         length: 128,
-        words: &["exec", "--pages", "2", "FILE"],
+        line: "exec --pages 2 FILE",
         text: "vmhost: elf 7\n",
     },
     Refusal {
         changes: &[],
         length: 128,
-        words: &["exec", "--flat", "--pages", "2", "FILE"],
+        line: "exec --flat --pages 2 FILE",
         text: "vmhost: elf 7\n",
     },
     Refusal {
         changes: &[],
         length: 128,
-        words: &["exec", "--pages", "0", "FILE"],
+        line: "exec --pages 0 FILE",
         text: "vmhost: elf 7\n",
     },
     // the segment at 80000000 is as long as 80001ffd bytes
     Refusal {
         changes: &[(105, 0x1f), (104, 0xfd)],
         length: 128,
-        words: &["exec", "FILE"],
+        line: "exec FILE",
         text: "vmhost: elf 8\n",
     },
     // entered at 80001ffe
     Refusal {
         changes: &[(24, 0xfe)],
         length: 128,
-        words: &["exec", "FILE"],
+        line: "exec FILE",
         text: "vmhost: elf 9\n",
     },
     // entered at 80002ffc
     Refusal {
         changes: &[(25, 0x2f)],
         length: 128,
-        words: &["exec", "FILE"],
+        line: "exec FILE",
         text: "vmhost: elf 9\n",
     },
     Refusal {
         changes: &[],
         length: 128,
-        words: &["exec", "--pages", "16385", "FILE"],
+        line: "exec --pages 16385 FILE",
         text: "vmhost: boot 1\n",
     },
     // a segment of no bytes at 80001ffc leaves the one at 80000000, which one page holds
     Refusal {
         changes: &[(68, 0), (72, 0), (25, 0), (24, 0)],
         length: 128,
-        words: &["exec", "--pages", "1", "FILE"],
+        line: "exec --pages 1 FILE",
         text: "vmhost: boot 1\n",
     },
 ];
 
 fn check_refusal<R: Files + AllocGlobal + Abort>(
     rt: &R,
-    refusal: &Refusal,
     file: &str,
+    refusal: &Refusal,
 ) -> Result<(), Fail> {
     let mut bytes = TWO;
     for (place, byte) in refusal.changes {
@@ -212,27 +199,15 @@ fn check_refusal<R: Files + AllocGlobal + Abort>(
             bytes[*place] = *byte;
         }
     }
-    fs::write(rt, file, &bytes[..refusal.length.min(bytes.len())])?;
-    let words = words_of(rt.alloc(), refusal.words, file)?;
-    let said = say(rt, words.as_slice());
-    let err = str::from_utf8(said.err.as_slice())?;
-    assert_eq!(rt;
-        err,
-        refusal.text,
-        "{:?}, {:?}",
-        refusal.changes, refusal.words
-    );
-    assert!(rt; said.out.is_empty(), "{:?}", refusal.words);
-    assert_eq!(rt; said.status, 1, "{:?}", refusal.words);
-    Ok(())
+    write(rt, file, &bytes[..refusal.length.min(bytes.len())])?;
+    refuses(rt, file, refusal.line, refusal.text)
 }
 
 #[test]
 fn refused_executables(rt: HostRuntime) -> Result<(), Fail> {
     let file = file_of(&rt, "refused-executables")?;
     for refusal in &REFUSALS {
-        check_refusal(&rt, refusal, file.as_str())?;
+        check_refusal(&rt, file.as_str(), refusal)?;
     }
-    fs::remove_file(&rt, file.as_str())?;
-    Ok(())
+    clear(&rt, file.as_str())
 }

@@ -3,7 +3,7 @@ use super::file_of;
 use super::sources::{Program, check_program};
 use std::test::Fail;
 
-const PROGRAMS: [Program; 5] = [
+static PROGRAMS: [Program; 5] = [
     // a loop
     Program {
         source: &[
@@ -194,7 +194,7 @@ const PROGRAMS: [Program; 5] = [
 fn examples_end_as_they_say(rt: HostRuntime) -> Result<(), Fail> {
     let file = file_of(&rt, "examples")?;
     for program in &PROGRAMS {
-        check_program(&rt, program, file.as_str())?;
+        check_program(&rt, file.as_str(), program)?;
     }
     Ok(())
 }

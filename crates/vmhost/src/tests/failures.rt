@@ -1,18 +1,17 @@
 //! Files that fail in mid-stream, and streams that can't be written.
-use super::{file_of, say, words_of};
-use crate::asm::{executable_of, write_file};
-use crate::command_line::{Exec, Format, MachineKind};
-use crate::dis::disassembly;
-use crate::fault::Fault;
-use crate::image_file::{elf_image, raw_image};
+use super::{clear, file_of, say, words_of, write};
 use crate::program::{program, unreadable};
+use commands::asm::{executable_of, write_file};
+use commands::dis::disassembly;
+use commands::image_file::{elf_image, raw_image};
+use commands::{Exec, Fault, Format, MachineKind};
 use guest::Stop;
 use std::alloc::Global;
+use std::io;
 use std::io::{Read, Write};
 use std::process::Abort;
 use std::rt::Files;
 use std::test::Fail;
-use std::{fs, io};
 
 /// Gives zeros, one at a time, and fails after so many of them.
 #[derive(Drop)]
@@ -37,26 +36,37 @@ impl Read for Failing {
     }
 }
 
+/// The kinds of error that a read fails with, and what is said of the file `x` then.
+static KINDS: [(io::ErrorKind, &str); 2] = [
+    (io::ErrorKind::BrokenPipe, "file x"),
+    (io::ErrorKind::OutOfMemory, "memory"),
+];
+
+/// Sees that there is a fault, and its text.
+fn check_fault<R: AllocGlobal + Abort>(
+    rt: &R,
+    fault: Option<Fault>,
+    want: &str,
+) -> Result<(), Fail> {
+    let text = format!(in rt.alloc(); "{}", fault.ok_or("no fault")?)?;
+    assert_eq!(rt; text.as_str(), want);
+    Ok(())
+}
+
 #[test]
 fn a_read_that_fails_is_no_shorter_file(rt: HostRuntime) -> Result<(), Fail> {
     for pages in [1, 2, 16_384, 16_385] {
+        let order = Exec {
+            image: "x",
+            format: Format::Raw,
+            kind: MachineKind::Guest,
+            pages,
+            steps: 1,
+        };
         for left in [0, 1, 4, 4096] {
-            for (kind, want) in [
-                (io::ErrorKind::BrokenPipe, "file x"),
-                (io::ErrorKind::OutOfMemory, "memory"),
-            ] {
-                let order = Exec {
-                    image: "x",
-                    format: Format::Raw,
-                    kind: MachineKind::Guest,
-                    pages,
-                    steps: 1,
-                };
-                let fault = raw_image(rt.alloc(), Failing { left, kind }, order)
-                    .err()
-                    .ok_or("an image")?;
-                let text = format!(in rt.alloc(); "{fault}")?;
-                assert_eq!(rt; text.as_str(), want, "{pages} pages, after {left} bytes");
+            for (kind, want) in &KINDS {
+                let image = raw_image(rt.alloc(), Failing { left, kind: *kind }, order);
+                check_fault(&rt, image.err(), want)?;
             }
         }
     }
@@ -65,40 +75,33 @@ fn a_read_that_fails_is_no_shorter_file(rt: HostRuntime) -> Result<(), Fail> {
 
 #[test]
 fn an_executable_or_a_source_that_cannot_be_read(rt: HostRuntime) -> Result<(), Fail> {
+    let alloc = rt.alloc();
     for left in [0, 1, 52, 4096] {
-        for (kind, want) in [
-            (io::ErrorKind::BrokenPipe, "file x"),
-            (io::ErrorKind::OutOfMemory, "memory"),
-        ] {
-            let faults = [
-                elf_image(rt.alloc(), Failing { left, kind }, "x", 16).err(),
-                disassembly(rt.alloc(), Failing { left, kind }, "x").err(),
-                executable_of(rt.alloc(), Failing { left, kind }, "x").err(),
-            ];
-            for fault in faults {
-                let fault = fault.ok_or("an answer")?;
-                let text = format!(in rt.alloc(); "{fault}")?;
-                assert_eq!(rt; text.as_str(), want, "after {left} bytes");
-            }
+        for (kind, want) in &KINDS {
+            let fault = elf_image(alloc, Failing { left, kind: *kind }, "x", 16).err();
+            check_fault(&rt, fault, want)?;
+            let fault = disassembly(alloc, Failing { left, kind: *kind }, "x").err();
+            check_fault(&rt, fault, want)?;
+            let fault = executable_of(alloc, Failing { left, kind: *kind }, "x").err();
+            check_fault(&rt, fault, want)?;
         }
     }
     Ok(())
 }
 
+const CONTENT: &[u8] = b"executable";
+
 #[test]
 fn an_executable_that_cannot_be_written(rt: HostRuntime) -> Result<(), Fail> {
-    for room in 0..12 {
+    for room in 0..10 {
         let mut file = Narrow::new(rt.alloc(), room);
-        let fault = write_file(&mut file, "x", b"executable").err();
-        if room < 10 {
-            let text = format!(in rt.alloc(); "{}", fault.ok_or("written")?)?;
-            assert_eq!(rt; text.as_str(), "file x", "room {room}");
-            assert_eq!(rt; file.got.as_slice(), &b"executable"[..room]);
-        } else {
-            assert!(rt; fault.is_none(), "room {room}");
-            assert_eq!(rt; file.got.as_slice(), b"executable".as_slice());
-        }
+        let fault = write_file(&mut file, "x", CONTENT).err();
+        check_fault(&rt, fault, "file x")?;
+        assert_eq!(rt; file.got.as_slice(), &CONTENT[..room]);
     }
+    let mut file = Narrow::new(rt.alloc(), 10);
+    assert!(rt; write_file(&mut file, "x", CONTENT).is_ok());
+    assert_eq!(rt; file.got.as_slice(), CONTENT);
     Ok(())
 }
 
@@ -138,38 +141,34 @@ impl Write for Narrow {
     }
 }
 
-/// Words, and the status that they have where all can be written; `FILE` is a raw image.
-const ANSWERS: [(&[&str], u8); 6] = [
-    (&["--help"], 0),
-    (&["exec", "--raw", "FILE"], 0),
-    (&["exec", "FILE"], 1),
-    (&["dis", "FILE"], 1),
-    (&["asm", "FILE", "FILE"], 1),
-    (&["exec"], 2),
+/// Command lines, and the status that they have where all can be written; `FILE` is a raw image.
+static ANSWERS: [(&str, u8); 6] = [
+    ("--help", 0),
+    ("exec --raw FILE", 0),
+    ("exec FILE", 1),
+    ("dis FILE", 1),
+    ("asm FILE FILE", 1),
+    ("exec", 2),
 ];
 
 fn check_streams<R: Files + AllocGlobal + Abort>(
     rt: &R,
-    words: &[String],
+    file: &str,
+    line: &str,
     status: u8,
 ) -> Result<(), Fail> {
-    let ample = say(rt, words);
-    assert_eq!(rt; ample.status, status, "{words:?}");
+    let ample = say(rt, line, file)?;
+    assert_eq!(rt; ample.status, status, "{line}");
+    let words = words_of(rt.alloc(), line, file)?;
     let whole = ample.out.len().max(ample.err.len());
     for room in 0..whole.saturating_add(2) {
         let mut out = Narrow::new(rt.alloc(), room);
         let mut err = Narrow::new(rt.alloc(), room);
-        let got = program(rt, words, &mut io::empty(), &mut out, &mut err);
+        let got = program(rt, words.as_slice(), &mut io::empty(), &mut out, &mut err);
         let want = if room > whole { status } else { 1 };
-        assert_eq!(rt; got, want, "{words:?}, room {room}");
-        assert!(rt;
-            ample.out.starts_with(out.got.as_slice()),
-            "{words:?}, room {room}"
-        );
-        assert!(rt;
-            ample.err.starts_with(err.got.as_slice()),
-            "{words:?}, room {room}"
-        );
+        let begins = ample.out.as_bytes().starts_with(out.got.as_slice())
+            && ample.err.as_bytes().starts_with(err.got.as_slice());
+        assert_eq!(rt; (got, begins), (want, true), "{line}, room {room}");
     }
     Ok(())
 }
@@ -177,13 +176,11 @@ fn check_streams<R: Files + AllocGlobal + Abort>(
 #[test]
 fn streams_that_fail(rt: HostRuntime) -> Result<(), Fail> {
     let file = file_of(&rt, "streams")?;
-    fs::write(&rt, file.as_str(), b"\x02\x00\x01\x8c")?;
-    for (words, status) in &ANSWERS {
-        let words = words_of(rt.alloc(), words, file.as_str())?;
-        check_streams(&rt, words.as_slice(), *status)?;
+    write(&rt, file.as_str(), b"\x02\x00\x01\x8c")?;
+    for (line, status) in &ANSWERS {
+        check_streams(&rt, file.as_str(), line, *status)?;
     }
-    fs::remove_file(&rt, file.as_str())?;
-    Ok(())
+    clear(&rt, file.as_str())
 }
 
 #[test]

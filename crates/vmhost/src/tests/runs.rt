@@ -1,10 +1,32 @@
-//! Runs and their dumps, on the table machine and on a guest.
-use super::file_of;
-use super::run::{Run, check_run};
+//! Runs of sources, and the dumps that they have to end with, on the table machine and on a guest.
+use super::{clear, file_of, prints, write, write_source};
+use std::alloc::{AllocError, Global};
 use std::fs;
+use std::process::Abort;
+use std::rt::Files;
 use std::test::Fail;
 
-const RUNS: [Run<'static>; 29] = [
+/// A run of a source of one segment, and what its dump has.
+struct Run {
+    name: &'static str,
+    /// The source, whose first byte stands and is entered at 80000000.
+    source: &'static str,
+    /// The command and its options but the format, the machine and the steps.
+    command: &'static str,
+    steps: &'static str,
+    pc: u32,
+    /// HI and LO.
+    hi_lo: [u32; 2],
+    /// General registers; those that have no entry here are 0.
+    regs: &'static [(usize, u32)],
+    /// Status, Cause, EPC and BadVAddr.
+    system: [u32; 4],
+}
+
+/// Where the bytes of an executable's only segment begin.
+const FIRST_BYTE: usize = 84;
+
+static RUNS: [Run; 29] = [
     Run {
         name: "a store and a load of it",
         source: "
@@ -13,8 +35,8 @@ const RUNS: [Run<'static>; 29] = [
             sw $2,0x100($1)
             lw $3,0x100($1)
         ",
-        options: &[],
-        steps: 4,
+        command: "exec",
+        steps: "4",
         pc: 0x8000_0010,
         hi_lo: [0, 0],
         regs: &[(1, 0x8000_0000), (2, 5), (3, 5)],
@@ -31,8 +53,8 @@ const RUNS: [Run<'static>; 29] = [
             sra $6,$2,1
             srl $7,$2,28
         ",
-        options: &[],
-        steps: 7,
+        command: "exec",
+        steps: "7",
         pc: 0x8000_001c,
         hi_lo: [0, 0],
         regs: &[
@@ -50,8 +72,8 @@ const RUNS: [Run<'static>; 29] = [
         source: "
             addiu $1,$0,7
         ",
-        options: &[],
-        steps: 0,
+        command: "exec",
+        steps: "0",
         pc: 0x8000_0000,
         hi_lo: [0, 0],
         regs: &[],
@@ -62,8 +84,8 @@ const RUNS: [Run<'static>; 29] = [
         source: "
             addiu $0,$0,5
         ",
-        options: &[],
-        steps: 1,
+        command: "exec",
+        steps: "1",
         pc: 0x8000_0004,
         hi_lo: [0, 0],
         regs: &[],
@@ -75,8 +97,8 @@ const RUNS: [Run<'static>; 29] = [
             lui $1,0xa000
             lw $2,0($1)
         ",
-        options: &[],
-        steps: 2,
+        command: "exec",
+        steps: "2",
         pc: 0x8000_0008,
         hi_lo: [0, 0],
         regs: &[(1, 0xa000_0000), (2, 0x3c01_a000)],
@@ -87,8 +109,8 @@ const RUNS: [Run<'static>; 29] = [
         source: "
             lw $1,2($0)
         ",
-        options: &[],
-        steps: 1,
+        command: "exec",
+        steps: "1",
         pc: 0x8000_0180,
         hi_lo: [0, 0],
         regs: &[],
@@ -100,8 +122,8 @@ const RUNS: [Run<'static>; 29] = [
             addiu $1,$0,7
             sw $1,2($0)
         ",
-        options: &[],
-        steps: 2,
+        command: "exec",
+        steps: "2",
         pc: 0x8000_0180,
         hi_lo: [0, 0],
         regs: &[(1, 7)],
@@ -113,8 +135,8 @@ const RUNS: [Run<'static>; 29] = [
             addiu $1,$0,7
             .word 0x200000
         ",
-        options: &[],
-        steps: 2,
+        command: "exec",
+        steps: "2",
         pc: 0x8000_0180,
         hi_lo: [0, 0],
         regs: &[(1, 7)],
@@ -126,8 +148,8 @@ const RUNS: [Run<'static>; 29] = [
             lui $1,0xbf00
             sw $2,0($1)
         ",
-        options: &[],
-        steps: 2,
+        command: "exec",
+        steps: "2",
         pc: 0x8000_0180,
         hi_lo: [0, 0],
         regs: &[(1, 0xbf00_0000)],
@@ -139,8 +161,8 @@ const RUNS: [Run<'static>; 29] = [
             lui $1,0xbf00
             lw $2,0($1)
         ",
-        options: &[],
-        steps: 2,
+        command: "exec",
+        steps: "2",
         pc: 0x8000_0180,
         hi_lo: [0, 0],
         regs: &[(1, 0xbf00_0000)],
@@ -152,8 +174,8 @@ const RUNS: [Run<'static>; 29] = [
             lui $1,0x8000
             lw $2,0x2000($1)
         ",
-        options: &["--pages", "2"],
-        steps: 2,
+        command: "exec --pages 2",
+        steps: "2",
         pc: 0x8000_0180,
         hi_lo: [0, 0],
         regs: &[(1, 0x8000_0000)],
@@ -164,8 +186,8 @@ const RUNS: [Run<'static>; 29] = [
         source: "
             addiu $1,$0,7
         ",
-        options: &["--pages", "2"],
-        steps: 2049,
+        command: "exec --pages 2",
+        steps: "2049",
         pc: 0x8000_0180,
         hi_lo: [0, 0],
         regs: &[(1, 7)],
@@ -178,8 +200,8 @@ const RUNS: [Run<'static>; 29] = [
             lw $2,-4($1)
             lw $2,0($1)
         ",
-        options: &["--pages", "16384"],
-        steps: 3,
+        command: "exec --pages 16384",
+        steps: "3",
         pc: 0x8000_0180,
         hi_lo: [0, 0],
         regs: &[(1, 0x8400_0000)],
@@ -191,8 +213,8 @@ const RUNS: [Run<'static>; 29] = [
             addiu $1,$0,7
             .byte 0x21
         ",
-        options: &[],
-        steps: 2,
+        command: "exec",
+        steps: "2",
         pc: 0x8000_0008,
         hi_lo: [0, 0],
         regs: &[(1, 7)],
@@ -206,8 +228,8 @@ const RUNS: [Run<'static>; 29] = [
             .byte 0x21
             .byte 0x10
         ",
-        options: &[],
-        steps: 3,
+        command: "exec",
+        steps: "3",
         pc: 0x8000_000c,
         hi_lo: [0, 0],
         regs: &[(1, 7)],
@@ -221,8 +243,8 @@ const RUNS: [Run<'static>; 29] = [
             .byte 0x10
             .byte 0x1
         ",
-        options: &[],
-        steps: 2,
+        command: "exec",
+        steps: "2",
         pc: 0x8000_0008,
         hi_lo: [0, 0],
         regs: &[(1, 7), (2, 0x0000_001c)],
@@ -236,8 +258,8 @@ const RUNS: [Run<'static>; 29] = [
             addiu $2,$0,1
             add $3,$1,$2
         ",
-        options: &[],
-        steps: 4,
+        command: "exec",
+        steps: "4",
         pc: 0x8000_0180,
         hi_lo: [0, 0],
         regs: &[(1, 0x7fff_ffff), (2, 1)],
@@ -256,8 +278,8 @@ const RUNS: [Run<'static>; 29] = [
             lwr $4,0x101($5)
             lwl $4,0x104($5)
         ",
-        options: &[],
-        steps: 9,
+        command: "exec",
+        steps: "9",
         pc: 0x8000_0024,
         hi_lo: [0, 0],
         regs: &[(1, 0x8877_6655), (4, 0x5544_3322), (5, 0x8000_0000)],
@@ -271,8 +293,8 @@ const RUNS: [Run<'static>; 29] = [
             beq $0,$0,0x80000020
             addi $3,$1,1
         ",
-        options: &[],
-        steps: 4,
+        command: "exec",
+        steps: "4",
         pc: 0x8000_0180,
         hi_lo: [0, 0],
         regs: &[(1, 0x7fff_ffff)],
@@ -286,8 +308,8 @@ const RUNS: [Run<'static>; 29] = [
             addiu $2,$0,5
             addiu $4,$0,7
         ",
-        options: &[],
-        steps: 3,
+        command: "exec",
+        steps: "3",
         pc: 0x8000_0010,
         hi_lo: [0, 0],
         regs: &[(1, 0xffff_ffff), (4, 7)],
@@ -299,8 +321,8 @@ const RUNS: [Run<'static>; 29] = [
             addiu $1,$0,7
             divu $1,$0
         ",
-        options: &[],
-        steps: 2,
+        command: "exec",
+        steps: "2",
         pc: 0x8000_0008,
         hi_lo: [7, 0xffff_ffff],
         regs: &[(1, 7)],
@@ -313,8 +335,8 @@ const RUNS: [Run<'static>; 29] = [
             addiu $2,$0,-1
             div $1,$2
         ",
-        options: &[],
-        steps: 3,
+        command: "exec",
+        steps: "3",
         pc: 0x8000_000c,
         hi_lo: [0, 0x8000_0000],
         regs: &[(1, 0x8000_0000), (2, 0xffff_ffff)],
@@ -326,8 +348,8 @@ const RUNS: [Run<'static>; 29] = [
             beq $0,$0,0x80000010
             jr $31
         ",
-        options: &[],
-        steps: 2,
+        command: "exec",
+        steps: "2",
         pc: 0x8000_0180,
         hi_lo: [0, 0],
         regs: &[],
@@ -341,8 +363,8 @@ const RUNS: [Run<'static>; 29] = [
             bne $1,$0,0x80000004
             addiu $1,$1,-1
         ",
-        options: &[],
-        steps: 19,
+        command: "exec",
+        steps: "19",
         pc: 0x8000_0010,
         hi_lo: [0, 0],
         regs: &[(1, 0xffff_ffff), (2, 0x0000_000f)],
@@ -358,8 +380,8 @@ const RUNS: [Run<'static>; 29] = [
             sc $3,0x100($5)
             lw $4,0x100($5)
         ",
-        options: &[],
-        steps: 6,
+        command: "exec",
+        steps: "6",
         pc: 0x8000_0018,
         hi_lo: [0, 0],
         regs: &[(2, 1), (4, 9), (5, 0x8000_0000)],
@@ -371,8 +393,8 @@ const RUNS: [Run<'static>; 29] = [
             lui $1,0x1
             clz $2,$1
         ",
-        options: &[],
-        steps: 2,
+        command: "exec",
+        steps: "2",
         pc: 0x8000_0008,
         hi_lo: [0, 0],
         regs: &[(1, 0x0001_0000), (2, 0x0000_000f)],
@@ -383,8 +405,8 @@ const RUNS: [Run<'static>; 29] = [
         source: "
             .word 0x70211020
         ",
-        options: &[],
-        steps: 1,
+        command: "exec",
+        steps: "1",
         pc: 0x8000_0180,
         hi_lo: [0, 0],
         regs: &[],
@@ -400,8 +422,8 @@ const RUNS: [Run<'static>; 29] = [
             sll $0,$0,0
             sll $0,$0,0
         ",
-        options: &[],
-        steps: 6,
+        command: "exec",
+        steps: "6",
         pc: 0x8000_0180,
         hi_lo: [0, 0],
         regs: &[(1, 6), (2, 0x0000_8001)],
@@ -419,8 +441,8 @@ const RUNS: [Run<'static>; 29] = [
             .word 0x1234
             .word 0x5678
         ",
-        options: &[],
-        steps: 4,
+        command: "exec",
+        steps: "4",
         pc: 0x8000_0188,
         hi_lo: [0, 0],
         regs: &[(1, 0x8000_0000), (2, 0x1234), (3, 0x5678)],
@@ -428,12 +450,84 @@ const RUNS: [Run<'static>; 29] = [
     },
 ];
 
+/// Assembles the source and runs the executable, and then its segment as a raw image, on a guest and on the table machine.
+fn check_run<R: Files + AllocGlobal + Abort>(rt: &R, file: &str, run: &Run) -> Result<(), Fail> {
+    write_source(rt, file, run.source.as_bytes())?;
+    prints(rt, file, "asm FILE.s FILE", "")?;
+    check_dumps(rt, file, run, ["FILE", "--flat FILE"])?;
+    let executable = fs::read(rt, file)?;
+    assert!(rt; FIRST_BYTE < executable.len(), "{}", run.name);
+    write(rt, file, &executable[FIRST_BYTE..])?;
+    check_dumps(rt, file, run, ["--raw FILE", "--raw --flat FILE"])
+}
+
+/// Runs the image of this file by two command lines that end so.
+fn check_dumps<R: Files + AllocGlobal + Abort>(
+    rt: &R,
+    file: &str,
+    run: &Run,
+    ends: [&str; 2],
+) -> Result<(), Fail> {
+    let dump = dump_of(rt.alloc(), run)?;
+    for end in ends {
+        let line = format!(in rt.alloc(); "{} --steps {} {end}", run.command, run.steps)?;
+        prints(rt, file, &line, &dump)?;
+    }
+    Ok(())
+}
+
+fn dump_of(alloc: Global, run: &Run) -> Result<String, AllocError> {
+    let mut text = format!(in alloc; "steps {}", run.steps)?;
+    let [hi, lo] = run.hi_lo;
+    push_words(
+        alloc,
+        &mut text,
+        &[("\npc ", run.pc), (" hi ", hi), (" lo ", lo)],
+    )?;
+    for number in 0..32 {
+        if number % 4 == 0 {
+            text.push_str(format!(in alloc; "\nr{number:02}")?.as_str())?;
+        }
+        push_words(alloc, &mut text, &[(" ", value_of(run.regs, number))])?;
+    }
+    let [sr, cause, epc, badva] = run.system;
+    push_words(
+        alloc,
+        &mut text,
+        &[
+            ("\nsr ", sr),
+            (" cause ", cause),
+            (" epc ", epc),
+            (" badva ", badva),
+        ],
+    )?;
+    text.push_str("\nout -\n")?;
+    Ok(text)
+}
+
+/// Each word as eight hexadecimal digits, after its label.
+fn push_words(alloc: Global, text: &mut String, words: &[(&str, u32)]) -> Result<(), AllocError> {
+    for (label, word) in words {
+        text.push_str(format!(in alloc; "{label}{word:08x}")?.as_str())?;
+    }
+    Ok(())
+}
+
+/// The value of a register: 0 where it has no entry.
+fn value_of(regs: &[(usize, u32)], wanted: usize) -> u32 {
+    for (number, value) in regs {
+        if *number == wanted {
+            return *value;
+        }
+    }
+    0
+}
+
 #[test]
 fn runs_print_their_dumps(rt: HostRuntime) -> Result<(), Fail> {
     let file = file_of(&rt, "runs")?;
     for run in &RUNS {
-        check_run(&rt, file.as_str(), *run)?;
+        check_run(&rt, file.as_str(), run)?;
     }
-    fs::remove_file(&rt, file.as_str())?;
-    Ok(())
+    clear(&rt, file.as_str())
 }

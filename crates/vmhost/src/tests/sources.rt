@@ -1,5 +1,5 @@
 //! Sources: what they are assembled to, what is printed of that, how it runs, and what is said of a source that is refused.
-use super::{Said, file_of, say};
+use super::{Step, clear, file_of, holds, play, prints, refuses, write, write_source};
 use std::alloc::{AllocError, Global};
 use std::fs;
 use std::process::Abort;
@@ -23,70 +23,28 @@ fn text_of(alloc: Global, lines: &[&str]) -> Result<String, AllocError> {
     Ok(text)
 }
 
-/// Runs the program on words, in which `SRC` and `OUT` stand for the names of two files.
-fn say_of<R: Files + AllocGlobal>(
-    rt: &R,
-    words: &[&str],
-    source: &str,
-    output: &str,
-) -> Result<Said, AllocError> {
-    let mut all = Vec::new(rt.alloc());
-    for word in words {
-        let word = match *word {
-            "SRC" => source,
-            "OUT" => output,
-            other => other,
-        };
-        all.push(String::from_str(rt.alloc(), word)?)?;
-    }
-    Ok(say(rt, all.as_slice()))
-}
+/// What assembles a source.
+const ASM: &str = "asm FILE.s FILE";
 
-/// Sees that the words are answered by this text alone, with status 0.
-fn check_answer<R: Files + AllocGlobal + Abort>(
-    rt: &R,
-    words: &[&str],
-    source: &str,
-    output: &str,
-    want: &str,
-) -> Result<(), Fail> {
-    let said = say_of(rt, words, source, output)?;
-    let err = str::from_utf8(said.err.as_slice())?;
-    assert_eq!(rt; err, "", "{words:?}");
-    let out = str::from_utf8(said.out.as_slice())?;
-    assert_eq!(rt; out, want, "{words:?}");
-    assert_eq!(rt; said.status, 0, "{words:?}");
-    Ok(())
-}
-
-/// Assembles a program and runs it on a guest and on the table machine, by way of two files beside this one.
+/// Assembles a program and runs it on a guest and on the table machine.
 pub fn check_program<R: Files + AllocGlobal + Abort>(
     rt: &R,
-    program: &Program,
     file: &str,
+    program: &Program,
 ) -> Result<(), Fail> {
-    let source = format!(in rt.alloc(); "{file}.s")?;
-    let output = format!(in rt.alloc(); "{file}.elf")?;
     let text = text_of(rt.alloc(), program.source)?;
     let dump = text_of(rt.alloc(), program.dump)?;
-    fs::write(rt, source.as_str(), text.as_bytes())?;
-    for (words, want) in [
-        (&["asm", "SRC", "OUT"] as &[&str], ""),
-        (&["exec", "--steps", program.steps, "OUT"], dump.as_str()),
-        (
-            &["exec", "--flat", "--steps", program.steps, "OUT"],
-            dump.as_str(),
-        ),
-    ] {
-        check_answer(rt, words, source.as_str(), output.as_str(), want)?;
+    write_source(rt, file, text.as_bytes())?;
+    prints(rt, file, ASM, "")?;
+    for end in ["FILE", "--flat FILE"] {
+        let line = format!(in rt.alloc(); "exec --steps {} {end}", program.steps)?;
+        prints(rt, file, &line, &dump)?;
     }
-    fs::remove_file(rt, source.as_str())?;
-    fs::remove_file(rt, output.as_str())?;
-    Ok(())
+    clear(rt, file)
 }
 
 /// Sources and the disassembly of what they are assembled to.
-const LISTINGS: [(&str, &str); 6] = [
+static LISTINGS: [(&str, &str); 6] = [
     (
         "addiu $1,$0,5\nloop: addu $2,$2,$1\nbne $1,$0,loop\naddiu $1,$1,-1\n",
         "80000000 24010005 addiu $1,$0,5\n80000004 00411021 addu $2,$2,$1\n80000008 1420fffe bne $1,$0,0x80000004\n8000000c 2421ffff addiu $1,$1,-1\n",
@@ -115,20 +73,13 @@ const LISTINGS: [(&str, &str); 6] = [
 
 #[test]
 fn what_is_assembled_is_printed(rt: HostRuntime) -> Result<(), Fail> {
-    let source = file_of(&rt, "listed.s")?;
-    let output = file_of(&rt, "listed.elf")?;
-    for (text, lines) in &LISTINGS {
-        fs::write(&rt, source.as_str(), text.as_bytes())?;
-        for (words, want) in [
-            (&["asm", "SRC", "OUT"] as &[&str], ""),
-            (&["dis", "OUT"], *lines),
-        ] {
-            check_answer(&rt, words, source.as_str(), output.as_str(), want)?;
-        }
+    let file = file_of(&rt, "listed")?;
+    for (source, lines) in &LISTINGS {
+        write_source(&rt, file.as_str(), source.as_bytes())?;
+        prints(&rt, file.as_str(), ASM, "")?;
+        prints(&rt, file.as_str(), "dis FILE", lines)?;
     }
-    fs::remove_file(&rt, source.as_str())?;
-    fs::remove_file(&rt, output.as_str())?;
-    Ok(())
+    clear(&rt, file.as_str())
 }
 
 /// The file of one instruction: an ELF header, a program header and the word 42000018 (`eret`) at 80000000.
@@ -141,27 +92,20 @@ const ERET: [u8; 88] = [
     0x00, 0x00, 0x00, 0x00, 0x18, 0x00, 0x00, 0x42,
 ];
 
+static OVERWRITTEN: [Step; 4] = [
+    Step::Source(b"eret"),
+    Step::File(&[0xff; 200]),
+    Step::Prints(ASM, ""),
+    Step::Holds(&ERET),
+];
+
 #[test]
 fn an_executable_is_written_over_what_was_there(rt: HostRuntime) -> Result<(), Fail> {
-    let source = file_of(&rt, "written.s")?;
-    let output = file_of(&rt, "written.elf")?;
-    fs::write(&rt, source.as_str(), b"eret")?;
-    fs::write(&rt, output.as_str(), [0xffu8; 200].as_slice())?;
-    check_answer(
-        &rt,
-        &["asm", "SRC", "OUT"],
-        source.as_str(),
-        output.as_str(),
-        "",
-    )?;
-    assert_eq!(rt; fs::read(&rt, output.as_str())?.as_slice(), ERET.as_slice());
-    fs::remove_file(&rt, source.as_str())?;
-    fs::remove_file(&rt, output.as_str())?;
-    Ok(())
+    play(&rt, file_of(&rt, "written")?.as_str(), &OVERWRITTEN)
 }
 
 /// Sources that are refused, as bytes, and what is said of them.
-const REFUSALS: [(&[u8], &str); 20] = [
+static REFUSALS: [(&[u8], &str); 20] = [
     (b"a: a: eret", "vmhost: asm 1 line 1\n"),
     (b"eret\n?\n", "vmhost: asm 1 line 2\n"),
     (b"eret\nmove $1,$2", "vmhost: asm 2 line 2\n"),
@@ -189,113 +133,63 @@ const REFUSALS: [(&[u8], &str); 20] = [
 
 fn check_refusal<R: Files + AllocGlobal + Abort>(
     rt: &R,
-    words: &[&str],
-    source: &str,
-    output: &str,
+    file: &str,
+    source: &[u8],
     want: &str,
 ) -> Result<(), Fail> {
-    let said = say_of(rt, words, source, output)?;
-    let err = str::from_utf8(said.err.as_slice())?;
-    assert_eq!(rt; err, want, "{words:?}");
-    assert!(rt; said.out.is_empty(), "{words:?}");
-    assert_eq!(rt; said.status, 1, "{words:?}");
-    Ok(())
+    write_source(rt, file, source)?;
+    refuses(rt, file, ASM, want)?;
+    assert!(rt; !fs::exists(rt, file)?, "{want}");
+    write(rt, file, b"before")?;
+    refuses(rt, file, ASM, want)?;
+    holds(rt, file, b"before")?;
+    clear(rt, file)
 }
 
 #[test]
 fn a_refused_source_leaves_the_file(rt: HostRuntime) -> Result<(), Fail> {
-    let source = file_of(&rt, "refused.s")?;
-    let output = file_of(&rt, "refused.elf")?;
-    for (text, want) in &REFUSALS {
-        fs::write(&rt, source.as_str(), *text)?;
-        for before in [None, Some(b"before".as_slice())] {
-            if let Some(before) = before {
-                fs::write(&rt, output.as_str(), before)?;
-            }
-            check_refusal(
-                &rt,
-                &["asm", "SRC", "OUT"],
-                source.as_str(),
-                output.as_str(),
-                want,
-            )?;
-            match before {
-                Some(before) => {
-                    assert_eq!(rt; fs::read(&rt, output.as_str())?.as_slice(), before);
-                    fs::remove_file(&rt, output.as_str())?;
-                }
-                None => assert!(rt; !fs::exists(&rt, output.as_str())?),
-            }
-        }
+    let file = file_of(&rt, "refused")?;
+    for (source, want) in &REFUSALS {
+        check_refusal(&rt, file.as_str(), source, want)?;
     }
-    fs::remove_file(&rt, source.as_str())?;
     Ok(())
 }
+
+/// What can't be read or written, and that a source's fault comes before that of the file that is written.
+static NOT_THERE: [Step; 8] = [
+    Step::Refuses(ASM, "vmhost: file FILE.s\n"),
+    Step::Refuses("dis FILE", "vmhost: file FILE\n"),
+    Step::Refuses("asm / FILE", "vmhost: file /\n"),
+    Step::Refuses("dis /", "vmhost: file /\n"),
+    Step::Source(b"eret"),
+    Step::Refuses("asm FILE.s FILE/out", "vmhost: file FILE/out\n"),
+    Step::Source(b"eret eret"),
+    Step::Refuses("asm FILE.s FILE/out", "vmhost: asm 3 line 1\n"),
+];
 
 #[test]
 fn files_that_are_not_there(rt: HostRuntime) -> Result<(), Fail> {
-    let source = file_of(&rt, "missing.s")?;
-    let output = file_of(&rt, "missing/out.elf")?;
-    let no_source = format!(in rt.alloc(); "vmhost: file {}\n", source.as_str())?;
-    let no_output = format!(in rt.alloc(); "vmhost: file {}\n", output.as_str())?;
-    for words in [&["asm", "SRC", "OUT"] as &[&str], &["dis", "SRC"]] {
-        check_refusal(
-            &rt,
-            words,
-            source.as_str(),
-            output.as_str(),
-            no_source.as_str(),
-        )?;
-    }
-    // the source's fault comes before that of the file that is written
-    for (text, want) in [
-        (b"eret".as_slice(), no_output.as_str()),
-        (b"eret eret".as_slice(), "vmhost: asm 3 line 1\n"),
-    ] {
-        fs::write(&rt, source.as_str(), text)?;
-        check_refusal(
-            &rt,
-            &["asm", "SRC", "OUT"],
-            source.as_str(),
-            output.as_str(),
-            want,
-        )?;
-    }
-    fs::remove_file(&rt, source.as_str())?;
-    for words in [&["asm", "/", "OUT"] as &[&str], &["dis", "/"]] {
-        check_refusal(
-            &rt,
-            words,
-            source.as_str(),
-            output.as_str(),
-            "vmhost: file /\n",
-        )?;
-    }
-    Ok(())
+    play(&rt, file_of(&rt, "missing")?.as_str(), &NOT_THERE)
 }
 
-/// Files that are no executables, or none that fits 131,072 pages, and what is said of them.
-const NO_EXECUTABLES: [(&[u8], &str); 3] = [
-    (b"", "vmhost: elf 1\n"),
-    (
-        b"addiu $1,$0,5\nloop: addu $2,$2,$1\nbne $1,$0,loop\n",
-        "vmhost: elf 1\n",
-    ),
-    (&[0x55; 52], "vmhost: elf 2\n"),
+/// Files that are no executables, or none that fits 131,072 pages.
+static NO_EXECUTABLES: [Step; 6] = [
+    Step::File(b""),
+    Step::Refuses("dis FILE", "vmhost: elf 1\n"),
+    Step::File(b"addiu $1,$0,5\nloop: addu $2,$2,$1\nbne $1,$0,loop\n"),
+    Step::Refuses("dis FILE", "vmhost: elf 1\n"),
+    Step::File(&[0x55; 52]),
+    Step::Refuses("dis FILE", "vmhost: elf 2\n"),
 ];
 
 #[test]
 fn what_is_no_executable_is_not_printed(rt: HostRuntime) -> Result<(), Fail> {
-    let file = file_of(&rt, "printed.elf")?;
-    for (bytes, want) in &NO_EXECUTABLES {
-        fs::write(&rt, file.as_str(), *bytes)?;
-        check_refusal(&rt, &["dis", "SRC"], file.as_str(), "", want)?;
-    }
+    let file = file_of(&rt, "printed")?;
+    play(&rt, file.as_str(), &NO_EXECUTABLES)?;
     let mut past = ERET;
     // four bytes from 9ffffffd on
     past[60..64].copy_from_slice(&0x9fff_fffdu32.to_le_bytes());
-    fs::write(&rt, file.as_str(), past.as_slice())?;
-    check_refusal(&rt, &["dis", "SRC"], file.as_str(), "", "vmhost: elf 7\n")?;
-    fs::remove_file(&rt, file.as_str())?;
-    Ok(())
+    write(&rt, file.as_str(), &past)?;
+    refuses(&rt, file.as_str(), "dis FILE", "vmhost: elf 7\n")?;
+    clear(&rt, file.as_str())
 }

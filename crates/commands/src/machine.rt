@@ -4,7 +4,7 @@ ghost use Rattle.elf32.specs.Images.{FitsPages};
 ghost use Rattle.mips_step.specs.Step.{Machine as State, step};
 ghost use Rattle.flatvm.specs.Boot.{boot_machine};
 ghost use Rattle.guest.specs.Logs.{IsFull};
-ghost use Rattle.vmhost.specs.Runs.{after_steps, IsCount};
+ghost use Rattle.commands.specs.Runs.{after_steps, IsCount};
 
 use elf32::Image;
 use flatvm::{Flat, SeatNo, View};

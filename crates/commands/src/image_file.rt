@@ -2,11 +2,11 @@
 ghost use Rattle.std.specs.Prelude.{◌≡◌, ◌<◌, ◌*◌, ◌^◌, ◌↔◌, IfErr, IfOk, IfSome, IsErrOf, IsTrue, MatchOption, Some, [], ◌∷◌, length, map};
 ghost use Rattle.elf32.specs.Images.{FitsPages};
 ghost use Rattle.elf32.specs.Files.{StandsFor};
-ghost use Rattle.vmhost.specs.Faults.{IsElfFault, IsElfRefusal, IsRawFault};
-ghost use Rattle.vmhost.specs.Raw.{IsPageCount, IsRaw};
+ghost use Rattle.commands.specs.Faults.{IsElfFault, IsElfRefusal, IsRawFault};
+ghost use Rattle.commands.specs.Raw.{IsPageCount, IsRaw};
 
-use crate::command_line::Exec;
 use crate::fault::{Fault, file_fault};
+use crate::order::Exec;
 use elf32::{ElfError, Image};
 use std::alloc::Global;
 use std::io;

@@ -1,11 +1,11 @@
 //! The command `dis`.
 ghost use Rattle.std.specs.Prelude.{◌≡◌, IfErr, IfOk, IfSome, string_bytes};
-ghost use Rattle.vmhost.specs.Disassembled.{IsDisassemblyOf};
-ghost use Rattle.vmhost.specs.Faults.{IsDisFault, IsElfFault, IsElfRefusal};
+ghost use Rattle.commands.specs.Disassembled.{IsDisassemblyOf};
+ghost use Rattle.commands.specs.Faults.{IsDisFault, IsElfFault, IsElfRefusal};
 
-use crate::command_line::Dis;
 use crate::fault::{Fault, file_fault};
 use crate::image_file::{image_in, whole_file};
+use crate::order::Dis;
 use masm::disassembly_of;
 use std::alloc::Global;
 use std::fs::File;

@@ -4,15 +4,15 @@ use Rattle.elf32.specs.Faults.{first_fault}
 use Rattle.masm.specs.Assembly as assembly
 use Rattle.masm.specs.declared.error.AsmError.{AsmError}
 use Rattle.masm.specs.declared.error.AsmError.TheVariants as asm_error
-use Rattle.vmhost.specs.Sources.{source_text}
-use Rattle.vmhost.specs.declared.command_line.Asm.{Asm as AsmOrder}
-use Rattle.vmhost.specs.declared.command_line.Dis.{Dis}
-use Rattle.vmhost.specs.declared.command_line.Exec.{Exec}
-use Rattle.vmhost.specs.declared.command_line.Format.{Format}
-use Rattle.vmhost.specs.declared.command_line.Format.TheVariants as format
-use Rattle.vmhost.specs.declared.fault.Fault.{Fault}
-use Rattle.vmhost.specs.declared.fault.Fault.TheVariants.{File, Asm, Elf, Raw, Limits, Memory}
-use Rattle.vmhost.specs.Raw.{IsPageCount}
+use Rattle.commands.specs.Sources.{source_text}
+use Rattle.commands.specs.declared.order.Asm.{Asm as AsmOrder}
+use Rattle.commands.specs.declared.order.Dis.{Dis}
+use Rattle.commands.specs.declared.order.Exec.{Exec}
+use Rattle.commands.specs.declared.order.Format.{Format}
+use Rattle.commands.specs.declared.order.Format.TheVariants as format
+use Rattle.commands.specs.declared.fault.Fault.{Fault}
+use Rattle.commands.specs.declared.fault.Fault.TheVariants.{File, Asm, Elf, Raw, Limits, Memory}
+use Rattle.commands.specs.Raw.{IsPageCount}
 
 -- of a raw image: its file can't be read, the file is empty or too long, the number of pages is outside its limits, or
 -- memory was wanted

@@ -2,12 +2,12 @@
 ghost use Rattle.std.specs.Prelude.{◌≡◌, IfErr, IfOk, IfSome, OnOk};
 ghost use Rattle.std.specs.Io.KnownBytes.{Appends};
 ghost use Rattle.masm.specs.Executables.{IsExecutableOf};
-ghost use Rattle.vmhost.specs.Faults.{IsAsmFault, IsAsmRefusal, IsAsmRunFault};
-ghost use Rattle.vmhost.specs.Sources.{source_text};
+ghost use Rattle.commands.specs.Faults.{IsAsmFault, IsAsmRefusal, IsAsmRunFault};
+ghost use Rattle.commands.specs.Sources.{source_text};
 
-use crate::command_line::Asm;
 use crate::fault::{Fault, file_fault};
 use crate::image_file::whole_file;
+use crate::order::Asm;
 use masm::assemble;
 use std::alloc::Global;
 use std::fs::File;

@@ -1,6 +1,6 @@
 use Rattle.std.proofs.Common.{ap, rules, arith}
-use Rattle.vmhost.proofs.Reading.{whole_file}
-use Rattle.vmhost.proofs.image_file.raw_bytes.Goals as goal
+use Rattle.commands.proofs.Reading.{whole_file}
+use Rattle.commands.proofs.image_file.raw_bytes.Goals as goal
 
 pub returns-then-is_raw-clause-bytes : goal.returns-then-is_raw-clause-bytes
 returns-then-is_raw-clause-bytes g c =

@@ -1,8 +1,8 @@
 //! Why a command is refused.
 ghost use Rattle.std.specs.Prelude.{◌≡◌, ◌≢◌};
 ghost use Rattle.std.specs.IoError.{error_kind};
-ghost use Rattle.vmhost.specs.Faults.{fault_of};
-ghost use Rattle.vmhost.specs.declared.fault.Fault.TheVariants.{Memory};
+ghost use Rattle.commands.specs.Faults.{fault_of};
+ghost use Rattle.commands.specs.declared.fault.Fault.TheVariants.{Memory};
 
 use masm::{AsmError, AsmFault};
 use std::alloc::AllocError;

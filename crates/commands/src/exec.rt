@@ -1,15 +1,15 @@
 //! The command `exec`.
 ghost use Rattle.std.specs.Prelude.{◌≡◌, IfErr, IfOk};
 ghost use Rattle.elf32.specs.Images.{FitsPages};
-ghost use Rattle.vmhost.specs.Faults.{IsFaultOf};
-ghost use Rattle.vmhost.specs.Raw.{IsPageCount};
-ghost use Rattle.vmhost.specs.Runs.{IsCount};
+ghost use Rattle.commands.specs.Faults.{IsFaultOf};
+ghost use Rattle.commands.specs.Raw.{IsPageCount};
+ghost use Rattle.commands.specs.Runs.{IsCount};
 
-use crate::command_line::{Exec, Format, MachineKind};
 use crate::dump::Dump;
 use crate::fault::{Fault, file_fault};
 use crate::image_file::{elf_image, is_page_count, raw_image};
 use crate::machine::{Machine, Ran, Runner, run};
+use crate::order::{Exec, Format, MachineKind};
 use elf32::Image;
 use flatvm::Flat;
 use std::alloc::{AllocError, Global};

@@ -1,7 +1,7 @@
 -- What a run of a machine does.
 use Rattle.std.specs.Prelude.{◌≡◌, ◌<◌, ℕ, zero, suc, MatchOption}
 use Rattle.mips_step.specs.Step.{Machine, step}
-use Rattle.vmhost.specs.declared.machine.Ran.{Ran}
+use Rattle.commands.specs.declared.machine.Ran.{Ran}
 
 -- the machine after some steps
 abbrev pub after_steps : ℕ → Machine → Machine

@@ -1,0 +1,5 @@
+pub mod Disassembled
+pub mod Faults
+pub mod Raw
+pub mod Runs
+pub mod Sources
