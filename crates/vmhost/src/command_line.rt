@@ -45,15 +45,23 @@ const DIS: &str = "dis";
 const EXEC: &str = "exec";
 
 fn whole_command<'a>(alloc: Global) -> Result<Command<'a>, AllocError> {
-    Command::new(alloc, NAME)
+    let command = Command::new(alloc, NAME)
         .bin_name(NAME)?
         .about("Assembles, disassembles and runs MIPS32 machine code in a virtual machine")
         .no_binary_name(true)
         .subcommand_required(true)
-        .disable_help_subcommand(true)
-        .subcommand(asm_command(alloc)?)?
-        .subcommand(dis_command(alloc)?)?
-        .subcommand(exec_command(alloc)?)
+        .disable_help_subcommand(true);
+    let command = with_subcommand(command, asm_command(alloc))?;
+    let command = with_subcommand(command, dis_command(alloc))?;
+    with_subcommand(command, exec_command(alloc))
+}
+
+/// The command with one more subcommand, where there was memory for that.
+fn with_subcommand<'a>(
+    command: Command<'a>,
+    subcommand: Result<Command<'a>, AllocError>,
+) -> Result<Command<'a>, AllocError> {
+    command.subcommand(subcommand?)
 }
 
 fn asm_command<'a>(alloc: Global) -> Result<Command<'a>, AllocError> {

@@ -1,5 +1,5 @@
 //! The program, over any files, reader and writers.
-ghost use Rattle.std.specs.Prelude.{◌≡◌, ◌<◌, ◌⊎◌, IfOk};
+ghost use Rattle.std.specs.Prelude.{◌≡◌, ◌≢◌, ◌<◌, ◌⊎◌, IfOk};
 ghost use Rattle.std.specs.IoError.{error_kind};
 ghost use Rattle.vmhost.specs.Exit.{code_of};
 
@@ -37,18 +37,15 @@ impl Status {
     }
 }
 
-/// What the program has to say.
-enum Answer<'a> {
-    /// Nothing: what was asked for is done.
+/// What a command prints.
+#[derive(Drop)]
+enum Answer {
+    /// Nothing.
     Nothing,
-    /// What a command prints.
+    /// A text.
     Text(String),
     /// What a run prints, and how it went.
     Report(Report),
-    /// Help, or what is wrong with the command line.
-    CommandLine(Error),
-    /// Why the command is refused.
-    Fault(Fault<'a>),
 }
 
 /// Does what the words of the command line ask for, and gives the status to exit with. The name of the program is not
@@ -70,31 +67,21 @@ where
     ensures stopped { result ≡ 3 → err.new ≡ err.old }
 {
     let _ = input;
-    let status = match write_answer(respond(rt, words), out, err) {
+    let written = match parse(rt.alloc(), words) {
+        Ok(order) => match carry_out(rt, order) {
+            Ok(answer) => write_answer(&answer, out),
+            Err(fault) => write_fault(&fault, err),
+        },
+        Err(error) => write_error(&error, out, err),
+    };
+    let status = match written {
         Ok(status) => status,
         Err(_) => Status::Refused,
     };
     status.code()
 }
 
-fn respond<'a, R: Files + AllocGlobal>(rt: &R, words: &'a [String]) -> Answer<'a> {
-    let order = match parse(rt.alloc(), words) {
-        Ok(order) => order,
-        Err(error) if error.kind() == clap::error::ErrorKind::OutOfMemory => return Answer::Fault(
-            Fault::Memory,
-        ),
-        Err(error) => return Answer::CommandLine(error),
-    };
-    match carry_out(rt, order) {
-        Ok(answer) => answer,
-        Err(fault) => Answer::Fault(fault),
-    }
-}
-
-fn carry_out<'a, R: Files + AllocGlobal>(
-    rt: &R,
-    order: Order<'a>,
-) -> Result<Answer<'a>, Fault<'a>> {
+fn carry_out<'a, R: Files + AllocGlobal>(rt: &R, order: Order<'a>) -> Result<Answer, Fault<'a>> {
     match order {
         Order::Asm(order) => {
             assemble_file(rt, order)?;
@@ -105,46 +92,56 @@ fn carry_out<'a, R: Files + AllocGlobal>(
     }
 }
 
-fn write_answer<O: Write, E: Write>(
-    answer: Answer<'_>,
-    out: &mut O,
-    err: &mut E,
-) -> io::Result<Status>
-    ensures usage { IfOk result (λ s. code_of s ≡ 2 → out.new ≡ out.old) }
-    ensures done { IfOk result (λ s. code_of s ≡ 0 → err.new ≡ err.old) }
-    ensures stopped { IfOk result (λ s. code_of s ≡ 3 → err.new ≡ err.old) }
+fn write_answer<O: Write>(answer: &Answer, out: &mut O) -> io::Result<Status>
+    ensures { IfOk result (λ s. code_of s ≢ 2) }
 {
     match answer {
         Answer::Nothing => Ok(Status::Done),
         Answer::Text(text) => {
-            out.write_all(text.as_bytes())?;
-            out.flush()?;
+            write_text(out, text)?;
             Ok(Status::Done)
         }
         Answer::Report(report) => {
-            out.write_all(report.text.as_bytes())?;
-            out.flush()?;
+            write_text(out, &report.text)?;
             Ok(if report.ran.stop.is_none() {
                 Status::Done
             } else {
                 Status::Stopped
             })
         }
-        Answer::CommandLine(error) if error.use_stderr() => {
-            write!(err, "{error}")?;
-            err.flush()?;
-            Ok(Status::Usage)
-        }
-        Answer::CommandLine(help) => {
-            write!(out, "{help}")?;
-            out.flush()?;
-            Ok(Status::Done)
-        }
-        Answer::Fault(fault) => {
-            writeln!(err, "vmhost: {fault}")?;
-            err.flush()?;
-            Ok(Status::Refused)
-        }
+    }
+}
+
+fn write_text<O: Write>(out: &mut O, text: &str) -> io::Result<()> {
+    out.write_all(text.as_bytes())?;
+    out.flush()
+}
+
+fn write_fault<E: Write>(fault: &Fault<'_>, err: &mut E) -> io::Result<Status>
+    ensures { IfOk result (λ s. code_of s ≡ 1) }
+{
+    writeln!(err, "vmhost: {fault}")?;
+    err.flush()?;
+    Ok(Status::Refused)
+}
+
+/// Writes help, or what is wrong with the command line; want of memory is a fault like others.
+fn write_error<O: Write, E: Write>(error: &Error, out: &mut O, err: &mut E) -> io::Result<Status>
+    ensures usage { IfOk result (λ s. code_of s ≡ 2 → out.new ≡ out.old) }
+    ensures done { IfOk result (λ s. code_of s ≡ 0 → err.new ≡ err.old) }
+    ensures stopped { IfOk result (λ s. code_of s ≢ 3) }
+{
+    if error.kind() == clap::error::ErrorKind::OutOfMemory {
+        return write_fault(&Fault::Memory, err);
+    }
+    if error.use_stderr() {
+        write!(err, "{error}")?;
+        err.flush()?;
+        Ok(Status::Usage)
+    } else {
+        write!(out, "{error}")?;
+        out.flush()?;
+        Ok(Status::Done)
     }
 }
 
