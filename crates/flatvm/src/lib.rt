@@ -16,6 +16,3 @@ pub mod memory;
 pub use flat::{Flat, View};
 pub use item::{Item, SeatNo, What};
 pub use memory::Memory;
-
-#[cfg(test)]
-mod tests;

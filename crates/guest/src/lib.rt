@@ -19,6 +19,3 @@ pub use log::Log;
 pub use refused::Refused;
 pub use seat::Seat;
 pub use stop::Stop;
-
-#[cfg(test)]
-mod tests;

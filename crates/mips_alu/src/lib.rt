@@ -20,6 +20,3 @@ pub use dividing::divide;
 pub use merging::{merge_left, merge_right, store_left, store_right};
 pub use multiplying::{Accumulation, HiLo, Signedness, multiply};
 pub use shifting::{ShiftKind, shift};
-
-#[cfg(test)]
-mod tests;

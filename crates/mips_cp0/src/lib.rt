@@ -14,8 +14,6 @@ pub mod exception;
 pub mod laws;
 pub mod register;
 pub mod status;
-#[cfg(test)]
-mod tests;
 
 pub use cause::Cause;
 pub use cp0::{Cp0, TLB_ENTRIES};

@@ -10,8 +10,6 @@ pub mod fields;
 pub mod instructions;
 pub mod kind;
 pub mod laws;
-#[cfg(test)]
-mod tests;
 pub mod tlb;
 pub mod translation;
 

@@ -1,13 +1,9 @@
 //! The program `vmhost`: it assembles, disassembles and runs MIPS32 machine code in a virtual machine.
 //!
-//! `program` reads the command line, has the command carried out and says how it went, over any files, reader and writers.
-//! The commands themselves are those of the library `commands`.
+//! All that it does is `command_line::program`, over the system's files and streams.
 #![tactic(auto)]
 
-mod command_line;
-mod program;
-
-use crate::program::{program, unreadable, words};
+use command_line::program::{program, unreadable, words};
 use std::process::ExitCode;
 
 fn main(rt: HostRuntime) -> ExitCode {

@@ -6,7 +6,7 @@ mod refusals;
 mod runs;
 mod sources;
 
-use crate::program::program;
+use command_line::program::program;
 use std::alloc::{AllocError, Global};
 use std::process::Abort;
 use std::rt::Files;
@@ -107,6 +107,13 @@ fn holds<R: Files + AllocGlobal + Abort>(rt: &R, file: &str, bytes: &[u8]) -> Re
     Ok(())
 }
 
+/// Asserts the status and both outputs. The tests share it, since each assertion in a function's own body makes its proof
+/// much longer.
+fn expect(rt: &impl Abort, line: &str, said: &Said, wanted: (u8, &str, &str)) {
+    let found = (said.status, said.out.as_str(), said.err.as_str());
+    assert_eq!(rt; found, wanted, "{line}");
+}
+
 fn prints<R: Files + AllocGlobal + Abort>(
     rt: &R,
     file: &str,
@@ -114,8 +121,7 @@ fn prints<R: Files + AllocGlobal + Abort>(
     out: &str,
 ) -> Result<(), Fail> {
     let said = say(rt, line, file)?;
-    let found = (said.status, said.out.as_str(), said.err.as_str());
-    assert_eq!(rt; found, (0, out, ""), "{line}");
+    expect(rt, line, &said, (0, out, ""));
     Ok(())
 }
 
@@ -127,8 +133,7 @@ fn refuses<R: Files + AllocGlobal + Abort>(
 ) -> Result<(), Fail> {
     let said = say(rt, line, file)?;
     let err = err.replace(rt.alloc(), "FILE", file)?;
-    let found = (said.status, said.out.as_str(), said.err.as_str());
-    assert_eq!(rt; found, (1, "", err.as_str()), "{line}");
+    expect(rt, line, &said, (1, "", err.as_str()));
     Ok(())
 }
 

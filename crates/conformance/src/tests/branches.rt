@@ -1,7 +1,7 @@
 //! Branches, likely branches and jumps, beside one another and to odd places.
 use super::code::Code::*;
 use super::code::{ENTRY_HI, ENTRY_LO0, ENTRY_LO1, EPC, INDEX, STATUS};
-use super::run::{Run, check_run};
+use super::run::{Run, check_runs};
 use std::test::Fail;
 
 static RUNS: [Run<'static>; 26] = [
@@ -400,8 +400,5 @@ static RUNS: [Run<'static>; 26] = [
 
 #[test]
 fn branches_and_jumps_go_where_they_should(rt: HostRuntime) -> Result<(), Fail> {
-    for run in &RUNS {
-        check_run(&rt, *run)?;
-    }
-    Ok(())
+    check_runs(&rt, &RUNS)
 }

@@ -1,7 +1,7 @@
 //! Stores to the page that is being executed: an instruction is fetched as it is when its step comes.
 use super::code::Code::*;
 use super::code::{ENTRY_HI, ENTRY_LO0, ENTRY_LO1};
-use super::run::{Run, check_run};
+use super::run::{Run, check_runs};
 use std::test::Fail;
 
 static RUNS: [Run<'static>; 8] = [
@@ -142,8 +142,5 @@ static RUNS: [Run<'static>; 8] = [
 
 #[test]
 fn changed_instructions_are_executed_as_changed(rt: HostRuntime) -> Result<(), Fail> {
-    for run in &RUNS {
-        check_run(&rt, *run)?;
-    }
-    Ok(())
+    check_runs(&rt, &RUNS)
 }

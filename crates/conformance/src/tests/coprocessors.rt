@@ -1,8 +1,9 @@
 //! Which mode may execute what of the coprocessors.
 use super::code::Code::*;
 use super::code::{CONFIG, CONTEXT, Code};
-use super::layout::{Mode, SETUP_REGS, STEPS_TO_SETUP, TLB_SETUP, VECTORS, joined, total};
-use super::run::{Run, check_run};
+use super::layout::{
+    JoinedRun, Mode, SETUP_REGS, STEPS_TO_SETUP, TLB_SETUP, VECTORS, check_joined, total,
+};
 use std::process::Abort;
 use std::test::Fail;
 
@@ -196,7 +197,6 @@ static PLACES: [Place; 3] = [
 ];
 
 /// What stands before an instruction.
-#[derive(Clone, Copy)]
 struct Before {
     name: &'static str,
     code: &'static [Code],
@@ -206,30 +206,23 @@ struct Before {
     next: u32,
 }
 
-const NOTHING: Before = Before {
+static NOTHING: Before = Before {
     name: "outside a slot",
     code: &[],
     in_slot: 0,
     next: 4,
 };
 
-const BRANCH: Before = Before {
+static BRANCH: Before = Before {
     name: "in a slot",
     code: &[Beq(0, 0, 3)],
     in_slot: 0x8000_0000,
     next: 0x10,
 };
 
-/// One step of each instruction of the row in that place.
-fn check_row<R: AllocGlobal + Abort>(
-    rt: &R,
-    row: &Row,
-    before: Before,
-    place: &Place,
-    outcome: Outcome,
-) -> Result<(), Fail> {
-    let way = place.mode.way_there();
-    let (result, pc, system) = match outcome {
+/// What register 2, PC and the system registers have after a step of that outcome.
+fn state_after(before: &Before, place: &Place, outcome: Outcome) -> (u32, u32, [u32; 4]) {
+    match outcome {
         Outcome::Done(result) => (
             result,
             place.pc.wrapping_add(before.next),
@@ -240,40 +233,66 @@ fn check_row<R: AllocGlobal + Abort>(
             0x8000_0180,
             [place.status | 0x02, before.in_slot | cause, place.pc, 0],
         ),
+    }
+}
+
+/// One step of the instruction of this number of the row, in that place.
+fn check_instruction<R: AllocGlobal + Abort>(
+    rt: &R,
+    (name, number, instruction): (&str, usize, Code),
+    before: &Before,
+    place: &Place,
+    outcome: Outcome,
+) -> Result<(), Fail> {
+    let way = place.mode.way_there();
+    let (result, pc, system) = state_after(before, place, outcome);
+    let parts = JoinedRun {
+        code: &[
+            &VECTORS,
+            &[At(0x200)],
+            &TLB_SETUP,
+            way.code,
+            &[At(0x300)],
+            before.code,
+            &[instruction],
+        ],
+        pages: 16,
+        steps: total(&[
+            STEPS_TO_SETUP,
+            TLB_SETUP.len(),
+            way.code.len(),
+            before.code.len(),
+            1,
+        ]),
+        pc,
+        regs: &[&[(2, result)], &SETUP_REGS, way.regs],
+        system,
     };
-    let regs = joined(rt.alloc(), &[&[(2, result)], &SETUP_REGS, way.regs])?;
+    check_joined(rt, (name, before.name, number), &parts)
+}
+
+/// One step of each instruction of the row in that place.
+fn check_row<R: AllocGlobal + Abort>(
+    rt: &R,
+    row: &Row,
+    before: &Before,
+    place: &Place,
+    outcome: Outcome,
+) -> Result<(), Fail> {
     for (number, instruction) in row.instructions.iter().enumerate() {
-        let name = format!(in rt.alloc(); "{} {}, {number}", row.name, before.name)?;
-        let last = [*instruction];
-        let code = joined(
-            rt.alloc(),
-            &[
-                &VECTORS,
-                &[At(0x200)],
-                &TLB_SETUP,
-                way.code,
-                &[At(0x300)],
-                before.code,
-                &last,
-            ],
-        )?;
-        let run = Run {
-            name: name.as_str(),
-            code: code.as_slice(),
-            pages: 16,
-            steps: total(&[
-                STEPS_TO_SETUP,
-                TLB_SETUP.len(),
-                way.code.len(),
-                before.code.len(),
-                1,
-            ]),
-            pc,
-            hi_lo: [0, 0],
-            regs: regs.as_slice(),
-            system,
-        };
-        check_run(rt, run)?;
+        let case = (row.name, number, *instruction);
+        check_instruction(rt, case, before, place, outcome)?;
+    }
+    Ok(())
+}
+
+fn check_in_each_mode<R: AllocGlobal + Abort>(
+    rt: &R,
+    row: &Row,
+    before: &Before,
+) -> Result<(), Fail> {
+    for (place, outcome) in PLACES.iter().zip(row.outcomes.iter()) {
+        check_row(rt, row, before, place, *outcome)?;
     }
     Ok(())
 }
@@ -281,14 +300,10 @@ fn check_row<R: AllocGlobal + Abort>(
 #[test]
 fn coprocessors_in_each_mode(rt: HostRuntime) -> Result<(), Fail> {
     for row in &ROWS {
-        for (place, outcome) in PLACES.iter().zip(row.outcomes) {
-            check_row(&rt, row, NOTHING, place, outcome)?;
-        }
+        check_in_each_mode(&rt, row, &NOTHING)?;
     }
     for row in &IN_SLOT {
-        for (place, outcome) in PLACES.iter().zip(row.outcomes) {
-            check_row(&rt, row, BRANCH, place, outcome)?;
-        }
+        check_in_each_mode(&rt, row, &BRANCH)?;
     }
     Ok(())
 }

@@ -1,8 +1,10 @@
 //! Each exception of an instruction that was fetched, from each place where it can come.
 use super::code::Code::*;
 use super::code::{Code, STATUS};
-use super::layout::{Mode, SETUP_REGS, STEPS_TO_SETUP, TLB_SETUP, VECTORS, joined, total};
-use super::run::{Run, check_run};
+use super::layout::{
+    JoinedRun, Mode, SETUP_REGS, STEPS_TO_SETUP, TLB_SETUP, VECTORS, check_joined, handler_of,
+    total,
+};
 use std::process::Abort;
 use std::test::Fail;
 
@@ -367,53 +369,34 @@ static USER_PLACES: [Place; 2] = [
     },
 ];
 
+/// The code, or nothing.
+fn only_if(wanted: bool, code: &[Code]) -> &[Code] {
+    if wanted { code } else { &[] }
+}
+
 /// The exception of the fault in that place, and two steps of its handler.
 fn check_fault<R: AllocGlobal + Abort>(rt: &R, fault: &Fault, place: &Place) -> Result<(), Fail> {
-    let name = format!(in rt.alloc(); "{} {}", fault.name, place.name)?;
     let way = place.mode.way_there();
     let last = [fault.instruction];
-    let (handler, after_handler, after_place) = match place.handler {
-        Some(handler) => (handler, last.as_slice(), [].as_slice()),
-        None => ([].as_slice(), [].as_slice(), last.as_slice()),
-    };
-    let code = joined(
-        rt.alloc(),
-        &[
+    let first_level = place.handler.is_none();
+    let seen = [(6, fault.entry_hi), (7, fault.context)];
+    let parts = JoinedRun {
+        code: &[
             &VECTORS,
-            handler,
-            after_handler,
+            place.handler.unwrap_or(&[]),
+            only_if(!first_level, &last),
             &[At(0x200)],
             &TLB_SETUP,
             fault.setup,
             way.code,
             &[At(0x300)],
             place.code,
-            after_place,
+            only_if(first_level, &last),
         ],
-    )?;
-    let steps = total(&[
-        STEPS_TO_SETUP,
-        TLB_SETUP.len(),
-        fault.setup.len(),
-        way.code.len(),
-        place.steps,
-        2,
-    ]);
-    let seen = [(6, fault.entry_hi), (7, fault.context)];
-    let regs = joined(rt.alloc(), &[fault.regs, &SETUP_REGS, way.regs, &seen])?;
-    let first_level = place.handler.is_none();
-    let run = Run {
-        name: name.as_str(),
-        code: code.as_slice(),
         pages: 16,
-        steps,
-        pc: if fault.refill && first_level {
-            0x8000_0008
-        } else {
-            0x8000_0188
-        },
-        hi_lo: [0, 0],
-        regs: regs.as_slice(),
+        steps: steps_of(fault, place),
+        pc: handler_of(fault.refill && first_level),
+        regs: &[fault.regs, &SETUP_REGS, way.regs, &seen],
         system: [
             place.status,
             place.in_slot | fault.cause,
@@ -421,23 +404,44 @@ fn check_fault<R: AllocGlobal + Abort>(rt: &R, fault: &Fault, place: &Place) -> 
             fault.bad_address,
         ],
     };
-    check_run(rt, run)
+    check_joined(rt, (fault.name, place.name), &parts)
+}
+
+/// From the entry to two steps of the handler.
+fn steps_of(fault: &Fault, place: &Place) -> usize {
+    total(&[
+        STEPS_TO_SETUP,
+        TLB_SETUP.len(),
+        fault.setup.len(),
+        place.mode.way_there().code.len(),
+        place.steps,
+        2,
+    ])
+}
+
+fn check_faults<R: AllocGlobal + Abort>(
+    rt: &R,
+    faults: &[Fault],
+    place: &Place,
+) -> Result<(), Fail> {
+    for fault in faults {
+        check_fault(rt, fault, place)?;
+    }
+    Ok(())
+}
+
+fn check_user_faults<R: AllocGlobal + Abort>(rt: &R, place: &Place) -> Result<(), Fail> {
+    check_faults(rt, &FAULTS, place)?;
+    check_faults(rt, &USER_FAULTS, place)
 }
 
 #[test]
 fn exceptions_from_each_place(rt: HostRuntime) -> Result<(), Fail> {
-    for fault in &FAULTS {
-        for place in &PLACES {
-            check_fault(&rt, fault, place)?;
-        }
+    for place in &PLACES {
+        check_faults(&rt, &FAULTS, place)?;
     }
     for place in &USER_PLACES {
-        for fault in &FAULTS {
-            check_fault(&rt, fault, place)?;
-        }
-        for fault in &USER_FAULTS {
-            check_fault(&rt, fault, place)?;
-        }
+        check_user_faults(&rt, place)?;
     }
     Ok(())
 }

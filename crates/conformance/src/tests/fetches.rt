@@ -1,8 +1,10 @@
 //! Each exception of a fetch, from each place where it can come.
 use super::code::Code;
 use super::code::Code::*;
-use super::layout::{Mode, SETUP_REGS, STEPS_TO_SETUP, TLB_SETUP, VECTORS, joined, total};
-use super::run::{Run, check_run};
+use super::layout::{
+    JoinedRun, Mode, SETUP_REGS, STEPS_TO_SETUP, TLB_SETUP, VECTORS, check_joined, handler_of,
+    total,
+};
 use std::process::Abort;
 use std::test::Fail;
 
@@ -72,7 +74,7 @@ static FAULTS: [Fault; 4] = [
 ];
 
 /// What is none in kernel mode.
-const USER_FAULT: Fault = Fault {
+static USER_FAULT: Fault = Fault {
     name: "AdEL at the start of kseg0",
     setup: &[Lui(1, 0x8000), Addiu(2, 1, 0xfffc)],
     place: 0x8000_0000,
@@ -189,16 +191,25 @@ static USER_PATHS: [Path; 2] = [
 
 /// The exception of the fetch on that path, and two steps of its handler. Nothing where there is no such path.
 fn check_fault<R: AllocGlobal + Abort>(rt: &R, fault: &Fault, path: &Path) -> Result<(), Fail> {
-    let (branch, branch_regs) = match fault.branch {
-        Some(branch) => (branch, [(1, fault.place), (2, branch)]),
-        None if path.by_branch => return Ok(()),
-        None => (0, [(1, fault.place), (2, 0)]),
-    };
-    let name = format!(in rt.alloc(); "{} {}", fault.name, path.name)?;
+    match fault.branch {
+        Some(branch) => check_fetch(rt, fault, path, branch),
+        None if path.by_branch => Ok(()),
+        None => check_fetch(rt, fault, path, 0),
+    }
+}
+
+/// With the place of the branch, 0 where there is none, which register 2 has.
+fn check_fetch<R: AllocGlobal + Abort>(
+    rt: &R,
+    fault: &Fault,
+    path: &Path,
+    branch: u32,
+) -> Result<(), Fail> {
     let way = path.mode.way_there();
-    let code = joined(
-        rt.alloc(),
-        &[
+    let seen = [(6, fault.entry_hi), (7, fault.context)];
+    let (epc, first_level) = path.epc.of(fault, branch);
+    let parts = JoinedRun {
+        code: &[
             &VECTORS,
             path.handler,
             &[At(0x200)],
@@ -209,34 +220,15 @@ fn check_fault<R: AllocGlobal + Abort>(rt: &R, fault: &Fault, path: &Path) -> Re
             path.code,
             &[At(0x4ffc), Beq(0, 0, 1)],
         ],
-    )?;
-    let steps = total(&[
-        STEPS_TO_SETUP,
-        TLB_SETUP.len(),
-        fault.setup.len(),
-        way.code.len(),
-        path.steps,
-        2,
-    ]);
-    let seen = [(6, fault.entry_hi), (7, fault.context)];
-    let regs = joined(rt.alloc(), &[&branch_regs, &SETUP_REGS, way.regs, &seen])?;
-    let (epc, first_level) = match path.epc {
-        Return::Place => (fault.place, true),
-        Return::Branch => (branch, true),
-        Return::Kept => (0x8000_0300, false),
-    };
-    let run = Run {
-        name: name.as_str(),
-        code: code.as_slice(),
         pages: 16,
-        steps,
-        pc: if fault.refill && first_level {
-            0x8000_0008
-        } else {
-            0x8000_0188
-        },
-        hi_lo: [0, 0],
-        regs: regs.as_slice(),
+        steps: steps_of(fault, path),
+        pc: handler_of(fault.refill && first_level),
+        regs: &[
+            &[(1, fault.place), (2, branch)],
+            &SETUP_REGS,
+            way.regs,
+            &seen,
+        ],
         system: [
             path.status,
             path.in_slot | fault.cause,
@@ -244,20 +236,46 @@ fn check_fault<R: AllocGlobal + Abort>(rt: &R, fault: &Fault, path: &Path) -> Re
             fault.bad_address,
         ],
     };
-    check_run(rt, run)
+    check_joined(rt, (fault.name, path.name), &parts)
+}
+
+impl Return {
+    /// EPC, and whether the exception is one outside a handler.
+    fn of(self, fault: &Fault, branch: u32) -> (u32, bool) {
+        match self {
+            Return::Place => (fault.place, true),
+            Return::Branch => (branch, true),
+            Return::Kept => (0x8000_0300, false),
+        }
+    }
+}
+
+/// From the entry to two steps of the handler.
+fn steps_of(fault: &Fault, path: &Path) -> usize {
+    total(&[
+        STEPS_TO_SETUP,
+        TLB_SETUP.len(),
+        fault.setup.len(),
+        path.mode.way_there().code.len(),
+        path.steps,
+        2,
+    ])
+}
+
+fn check_faults<R: AllocGlobal + Abort>(rt: &R, path: &Path) -> Result<(), Fail> {
+    for fault in &FAULTS {
+        check_fault(rt, fault, path)?;
+    }
+    Ok(())
 }
 
 #[test]
 fn exceptions_of_fetches_from_each_place(rt: HostRuntime) -> Result<(), Fail> {
-    for fault in &FAULTS {
-        for path in &PATHS {
-            check_fault(&rt, fault, path)?;
-        }
+    for path in &PATHS {
+        check_faults(&rt, path)?;
     }
     for path in &USER_PATHS {
-        for fault in &FAULTS {
-            check_fault(&rt, fault, path)?;
-        }
+        check_faults(&rt, path)?;
         check_fault(&rt, &USER_FAULT, path)?;
     }
     Ok(())

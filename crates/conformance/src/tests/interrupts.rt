@@ -1,7 +1,7 @@
 //! Interrupts, of the timer and of software. A step adds 1 to Count first, so a Compare of n is met in step n.
 use super::code::Code::*;
 use super::code::{CAUSE, COMPARE, COUNT, ENTRY_HI, ENTRY_LO0, ENTRY_LO1, EPC, STATUS};
-use super::run::{Run, check_run};
+use super::run::{Run, check_runs};
 use std::test::Fail;
 
 static RUNS: [Run<'static>; 25] = [
@@ -474,8 +474,5 @@ static RUNS: [Run<'static>; 25] = [
 
 #[test]
 fn interrupts_are_taken_and_held_back(rt: HostRuntime) -> Result<(), Fail> {
-    for run in &RUNS {
-        check_run(&rt, *run)?;
-    }
-    Ok(())
+    check_runs(&rt, &RUNS)
 }

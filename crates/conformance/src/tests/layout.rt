@@ -19,7 +19,11 @@
 //! It leaves the ASID 5a, and in registers 3, 4 and 5 what `SETUP_REGS` has.
 use super::code::Code::*;
 use super::code::{CONTEXT, Code, ENTRY_HI, ENTRY_LO0, ENTRY_LO1, EPC, INDEX, STATUS};
+use super::run::{Run, check_run};
 use std::alloc::{AllocError, Global};
+use std::fmt::Debug;
+use std::process::Abort;
+use std::test::Fail;
 
 /// The entry and the two vectors. Four steps are made before 200.
 pub const VECTORS: [Code; 7] = [
@@ -139,6 +143,45 @@ impl Mode {
     }
 }
 
+/// A run of an image that is put together from parts. It leaves 0 in HI and LO.
+#[derive(Clone, Copy)]
+pub struct JoinedRun<'a> {
+    pub code: &'a [&'a [Code]],
+    pub pages: u32,
+    pub steps: usize,
+    pub pc: u32,
+    /// General registers; those that have no entry here are 0.
+    pub regs: &'a [&'a [(u32, u32)]],
+    /// Status, Cause, EPC and BadVAddr.
+    pub system: [u32; 4],
+}
+
+/// Puts the run of this name together, and makes its steps on both machines.
+pub fn check_joined<R: AllocGlobal + Abort, N: Debug + Copy>(
+    rt: &R,
+    name: N,
+    parts: &JoinedRun,
+) -> Result<(), Fail> {
+    let name = format!(in rt.alloc(); "{name:?}")?;
+    check_named(rt, name.as_str(), parts)
+}
+
+fn check_named<R: AllocGlobal + Abort>(rt: &R, name: &str, parts: &JoinedRun) -> Result<(), Fail> {
+    let code = joined(rt.alloc(), parts.code)?;
+    let regs = joined(rt.alloc(), parts.regs)?;
+    let run = Run {
+        name,
+        code: code.as_slice(),
+        pages: parts.pages,
+        steps: parts.steps,
+        pc: parts.pc,
+        hi_lo: [0, 0],
+        regs: regs.as_slice(),
+        system: parts.system,
+    };
+    check_run(rt, &run)
+}
+
 /// The parts, one after the other.
 pub fn joined<T: Copy>(alloc: Global, parts: &[&[T]]) -> Result<Vec<T>, AllocError> {
     let mut all = Vec::new(alloc);
@@ -146,6 +189,11 @@ pub fn joined<T: Copy>(alloc: Global, parts: &[&[T]]) -> Result<Vec<T>, AllocErr
         all.extend_from_slice(part)?;
     }
     Ok(all)
+}
+
+/// Where two steps of the handler lead: that of a refill, or that of the other exceptions.
+pub fn handler_of(is_refill: bool) -> u32 {
+    if is_refill { 0x8000_0008 } else { 0x8000_0188 }
 }
 
 /// The sum of numbers of steps.

@@ -2,7 +2,7 @@
 use super::code::Code::*;
 use super::code::{COMPARE, Code, ENTRY_LO0, ENTRY_LO1, EPC, ERROR_EPC, STATUS};
 use super::layout::joined;
-use super::run::{Run, check_run};
+use super::run::{Run, check_run, check_runs};
 use std::process::Abort;
 use std::test::Fail;
 
@@ -356,7 +356,7 @@ fn check_between<R: AllocGlobal + Abort>(rt: &R, run: &Run) -> Result<(), Fail> 
         code: code.as_slice(),
         ..*run
     };
-    check_run(rt, whole)
+    check_run(rt, &whole)
 }
 
 #[test]
@@ -364,8 +364,5 @@ fn a_store_conditional_is_tied_to_a_load_linked(rt: HostRuntime) -> Result<(), F
     for run in &BETWEEN {
         check_between(&rt, run)?;
     }
-    for run in &RUNS {
-        check_run(&rt, *run)?;
-    }
-    Ok(())
+    check_runs(&rt, &RUNS)
 }

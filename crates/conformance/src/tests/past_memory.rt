@@ -1,8 +1,9 @@
 //! Each kind of access at the last place of memory and at the first place past it.
 use super::code::Code;
 use super::code::Code::*;
-use super::layout::joined;
-use super::run::{Run, check_run};
+use super::layout::{JoinedRun, check_joined};
+use super::run::{Run, check_runs};
+use std::process::Abort;
 use std::test::Fail;
 
 /// A load or store, of register 2 with register 1 as its base. The base is the end of memory, register 2 has aabbccdd, and
@@ -150,48 +151,49 @@ const SETUP: [Code; 5] = [
     Ll(3, 0xfffc, 1),
 ];
 
+fn check_past<R: AllocGlobal + Abort>(rt: &R, access: &Access) -> Result<(), Fail> {
+    let regs = [(1, 0x8000_2000), (2, REGISTER), (3, UNCHANGED)];
+    let parts = JoinedRun {
+        code: &[&SETUP, &[access.past, Lw(4, 0, 1)], &LAST_WORD],
+        pages: 2,
+        steps: 6,
+        pc: 0x8000_0180,
+        regs: &[&regs],
+        system: [0x02, 0x1c, 0x8000_0014, 0],
+    };
+    check_joined(rt, access.name, &parts)
+}
+
 #[test]
 fn accesses_past_memory_are_bus_errors(rt: HostRuntime) -> Result<(), Fail> {
     for access in &ACCESSES {
-        let last = [access.past, Lw(4, 0, 1)];
-        let code = joined(rt.alloc(), &[&SETUP, &last, &LAST_WORD])?;
-        let run = Run {
-            name: access.name,
-            code: code.as_slice(),
-            pages: 2,
-            steps: 6,
-            pc: 0x8000_0180,
-            hi_lo: [0, 0],
-            regs: &[(1, 0x8000_2000), (2, REGISTER), (3, UNCHANGED)],
-            system: [0x02, 0x1c, 0x8000_0014, 0],
-        };
-        check_run(&rt, run)?;
+        check_past(&rt, access)?;
     }
     Ok(())
+}
+
+fn check_last<R: AllocGlobal + Abort>(rt: &R, access: &Access) -> Result<(), Fail> {
+    let regs = [
+        (1, 0x8000_2000),
+        (2, access.register),
+        (3, UNCHANGED),
+        (4, access.word),
+    ];
+    let parts = JoinedRun {
+        code: &[&SETUP, &[access.last, Lw(4, 0xfffc, 1)], &LAST_WORD],
+        pages: 2,
+        steps: 7,
+        pc: 0x8000_001c,
+        regs: &[&regs],
+        system: [0, 0, 0, 0],
+    };
+    check_joined(rt, access.name, &parts)
 }
 
 #[test]
 fn accesses_at_the_end_of_memory_succeed(rt: HostRuntime) -> Result<(), Fail> {
     for access in &ACCESSES {
-        let last = [access.last, Lw(4, 0xfffc, 1)];
-        let code = joined(rt.alloc(), &[&SETUP, &last, &LAST_WORD])?;
-        let regs = [
-            (1, 0x8000_2000),
-            (2, access.register),
-            (3, UNCHANGED),
-            (4, access.word),
-        ];
-        let run = Run {
-            name: access.name,
-            code: code.as_slice(),
-            pages: 2,
-            steps: 7,
-            pc: 0x8000_001c,
-            hi_lo: [0, 0],
-            regs: &regs,
-            system: [0, 0, 0, 0],
-        };
-        check_run(&rt, run)?;
+        check_last(&rt, access)?;
     }
     Ok(())
 }
@@ -418,8 +420,5 @@ static RUNS: [Run<'static>; 14] = [
 
 #[test]
 fn runs_at_the_end_of_memory(rt: HostRuntime) -> Result<(), Fail> {
-    for run in &RUNS {
-        check_run(&rt, *run)?;
-    }
-    Ok(())
+    check_runs(&rt, &RUNS)
 }

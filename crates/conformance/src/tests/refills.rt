@@ -267,7 +267,7 @@ fn check_refill<R: AllocGlobal + Abort>(rt: &R, run: &Run) -> Result<(), Fail> {
         code: code.as_slice(),
         ..*run
     };
-    check_run(rt, whole)
+    check_run(rt, &whole)
 }
 
 #[test]

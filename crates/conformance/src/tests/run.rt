@@ -1,7 +1,9 @@
 //! A run of an image on both machines, and the state that it has to end in.
+ghost use Rattle.std.specs.Prelude.{◌≡◌, [], IfOk};
 ghost use Rattle.guest.specs.Seats.{IsLegal};
 
 use super::code::{Code, image_of};
+use super::expect;
 use elf32::Image;
 use flatvm::{Flat, SeatNo};
 use guest::{Guest, Seat};
@@ -28,48 +30,115 @@ pub struct Run<'a> {
     pub system: [u32; 4],
 }
 
-/// Makes the steps on the table machine and on a guest.
-pub fn check_run<R: AllocGlobal + Abort>(rt: &R, run: Run) -> Result<(), Fail> {
-    let bytes = image_of(rt.alloc(), run.code)?;
-    assert!(rt; bytes.len() < 1 << 32, "{}", run.name);
-    let image = Image::raw(rt.alloc(), bytes)?;
-    assert!(rt; image.fits(run.pages), "{}", run.name);
-    let mut flat = Flat::boot(rt.alloc(), &image, run.pages)?;
-    for _ in 0..run.steps {
-        flat.step();
+/// Makes the steps of each run on the table machine and on a guest.
+pub fn check_runs<R: AllocGlobal + Abort>(rt: &R, runs: &[Run]) -> Result<(), Fail> {
+    for run in runs {
+        check_run(rt, run)?;
     }
-    check_cpu(rt, flat.view().cpu, &run, "table machine");
-    let mut guest = Guest::boot(rt.alloc(), image, run.pages, 2)?;
-    let mut seat = Seat::new(SeatNo::runner());
-    make_steps(rt, &mut guest, &mut seat, run.steps);
-    check_cpu(rt, guest.view().cpu, &run, "guest");
     Ok(())
 }
 
-fn make_steps(rt: &impl Abort, guest: &mut Guest, seat: &mut Seat, count: usize)
+/// Makes the steps on the table machine and on a guest.
+pub fn check_run<R: AllocGlobal + Abort>(rt: &R, run: &Run) -> Result<(), Fail> {
+    let image = raw_image(rt, run.name, run.code)?;
+    check_table_machine(rt, run, &image)?;
+    check_guest(rt, run, image)
+}
+
+fn check_table_machine<R: AllocGlobal + Abort>(
+    rt: &R,
+    run: &Run,
+    image: &Image,
+) -> Result<(), Fail> {
+    let mut flat = boot_table_machine(rt, run.name, image, run.pages)?;
+    step_table_machine(&mut flat, run.steps);
+    check_cpu(rt, flat.view().cpu, run, "table machine");
+    Ok(())
+}
+
+fn check_guest<R: AllocGlobal + Abort>(rt: &R, run: &Run, image: Image) -> Result<(), Fail> {
+    let mut guest = boot_guest(rt, run.name, image, run.pages, 2)?;
+    let mut seat = Seat::new(SeatNo::runner());
+    make_steps(rt, &mut guest, &mut seat, run.steps);
+    check_cpu(rt, guest.view().cpu, run, "guest");
+    Ok(())
+}
+
+/// The raw image of this code, of the test of this name.
+pub fn raw_image<R: AllocGlobal + Abort>(rt: &R, name: &str, code: &[Code]) -> Result<Image, Fail> {
+    let bytes = image_of(rt.alloc(), code)?;
+    assert!(rt; bytes.len() < 1 << 32, "{name}");
+    Ok(Image::raw(rt.alloc(), bytes)?)
+}
+
+/// A table machine of so many pages, which has to hold the image.
+pub fn boot_table_machine<R: AllocGlobal + Abort>(
+    rt: &R,
+    name: &str,
+    image: &Image,
+    pages: u32,
+) -> Result<Flat, Fail> {
+    assert!(rt; image.fits(pages), "{name}");
+    Ok(Flat::boot(rt.alloc(), image, pages)?)
+}
+
+/// A guest of so many pages, which has to hold the image.
+pub fn boot_guest<R: AllocGlobal + Abort>(
+    rt: &R,
+    name: &str,
+    image: Image,
+    pages: u32,
+    log_runs: u32,
+) -> Result<Guest, Fail>
+    ensures { IfOk result (λ guest. guest.log.items ≡ []) }
+{
+    assert!(rt; image.fits(pages), "{name}");
+    Ok(Guest::boot(rt.alloc(), image, pages, log_runs)?)
+}
+
+pub fn step_table_machine(flat: &mut Flat, count: usize) {
+    for _ in 0..count {
+        flat.step();
+    }
+}
+
+/// Makes so many steps, which a guest of the whole memory never has to wait for.
+pub fn make_steps(rt: &impl Abort, guest: &mut Guest, seat: &mut Seat, count: usize)
     requires { IsLegal seat.old guest.old.log.items }
     ensures { IsLegal seat.new guest.new.log.items }
 {
     for _ in 0..count {
         assert!(rt; guest.log_room().is_ok());
+        assert!(rt; guest.need().is_none());
         assert!(rt; guest.step(seat) == StepOut::Done);
     }
 }
 
+/// PC, HI and LO, and then Status, Cause, EPC and BadVAddr.
+pub fn state_of(cpu: &Cpu) -> (u32, [u32; 2], [u32; 4]) {
+    let cp0 = cpu.cp0();
+    (
+        cpu.pc(),
+        [cpu.hi(), cpu.lo()],
+        [cp0.status(), cp0.cause(), cp0.epc(), cp0.bad_vaddr()],
+    )
+}
+
 fn check_cpu(rt: &impl Abort, cpu: &Cpu, run: &Run, machine: &str) {
-    let name = run.name;
-    assert_eq!(rt; cpu.pc(), run.pc, "pc, {name}, {machine}");
-    assert_eq!(rt; [cpu.hi(), cpu.lo()], run.hi_lo, "hi lo, {name}, {machine}");
+    expect(
+        rt,
+        (run.name, machine, "pc, [hi, lo], [sr, cause, epc, badva]"),
+        state_of(cpu),
+        (run.pc, run.hi_lo, run.system),
+    );
     for number in 0..32 {
-        assert_eq!(rt;
+        expect(
+            rt,
+            (run.name, machine, number),
             cpu.reg(Reg::new(number)),
             run.reg(number),
-            "r{number}, {name}, {machine}"
         );
     }
-    let cp0 = cpu.cp0();
-    let system = [cp0.status(), cp0.cause(), cp0.epc(), cp0.bad_vaddr()];
-    assert_eq!(rt; system, run.system, "sr cause epc badva, {name}, {machine}");
 }
 
 impl Run<'_> {

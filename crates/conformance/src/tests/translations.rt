@@ -1,7 +1,7 @@
 //! Addresses by way of the TLB, and the instructions that write, read and look for its entries.
 use super::code::Code::*;
 use super::code::{ENTRY_HI, ENTRY_LO0, ENTRY_LO1, EPC, INDEX, RANDOM, STATUS, WIRED};
-use super::run::{Run, check_run};
+use super::run::{Run, check_runs};
 use std::test::Fail;
 
 static RUNS: [Run<'static>; 20] = [
@@ -429,8 +429,5 @@ static RUNS: [Run<'static>; 20] = [
 
 #[test]
 fn addresses_go_by_the_entries(rt: HostRuntime) -> Result<(), Fail> {
-    for run in &RUNS {
-        check_run(&rt, *run)?;
-    }
-    Ok(())
+    check_runs(&rt, &RUNS)
 }

@@ -2,8 +2,7 @@
 //! in the middle of memory and at its end.
 use super::code::Code;
 use super::code::Code::*;
-use super::layout::joined;
-use super::run::{Run, check_run};
+use super::layout::{JoinedRun, check_joined};
 use std::process::Abort;
 use std::test::Fail;
 
@@ -209,36 +208,33 @@ const END: u32 = 0x2000;
 
 /// The parts at this offset of memory.
 fn check_parts<R: AllocGlobal + Abort>(rt: &R, parts: &Parts, at: u32) -> Result<(), Fail> {
-    let name = format!(in rt.alloc(); "{} at {at:04x}", parts.name)?;
     let setup = [
         Lui(1, 0x8000),
         Ori(1, 1, at),
         Lui(2, 0xaabb),
         Ori(2, 2, 0xccdd),
     ];
-    let place = [At(at)];
-    let code = joined(rt.alloc(), &[&setup, parts.code, &place, parts.words])?;
-    let first = [(1, 0x8000_0000 | at), (2, 0xaabb_ccdd)];
-    let regs = joined(rt.alloc(), &[&first, parts.regs])?;
-    let run = Run {
-        name: name.as_str(),
-        code: code.as_slice(),
+    let joined = JoinedRun {
+        code: &[&setup, parts.code, &[At(at)], parts.words],
         pages: 2,
         steps: parts.steps,
         pc: parts.pc,
-        hi_lo: [0, 0],
-        regs: regs.as_slice(),
+        regs: &[&[(1, 0x8000_0000 | at), (2, 0xaabb_ccdd)], parts.regs],
         system: [0, 0, 0, 0],
     };
-    check_run(rt, run)
+    check_joined(rt, (parts.name, "at", at), &joined)
+}
+
+fn check_at_each_place<R: AllocGlobal + Abort>(rt: &R, parts: &Parts) -> Result<(), Fail> {
+    check_parts(rt, parts, 0x0400)?;
+    check_parts(rt, parts, 0x0ffc)?;
+    check_parts(rt, parts, END.wrapping_sub(parts.from_end))
 }
 
 #[test]
 fn parts_of_words_in_memory_and_at_its_end(rt: HostRuntime) -> Result<(), Fail> {
     for parts in &PARTS {
-        for at in [0x0400, 0x0ffc, END.wrapping_sub(parts.from_end)] {
-            check_parts(&rt, parts, at)?;
-        }
+        check_at_each_place(&rt, parts)?;
     }
     Ok(())
 }

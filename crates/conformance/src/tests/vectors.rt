@@ -1,7 +1,7 @@
 //! The vectors that IV, BEV and EXL choose.
 use super::code::Code::*;
 use super::code::{CAUSE, COMPARE, STATUS};
-use super::run::{Run, check_run};
+use super::run::{Run, check_runs};
 use std::test::Fail;
 
 static RUNS: [Run<'static>; 10] = [
@@ -162,8 +162,5 @@ static RUNS: [Run<'static>; 10] = [
 
 #[test]
 fn exceptions_are_entered_at_their_vectors(rt: HostRuntime) -> Result<(), Fail> {
-    for run in &RUNS {
-        check_run(&rt, *run)?;
-    }
-    Ok(())
+    check_runs(&rt, &RUNS)
 }

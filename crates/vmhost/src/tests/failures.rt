@@ -1,6 +1,6 @@
 //! Files that fail in mid-stream, and streams that can't be written.
-use super::{clear, file_of, say, words_of, write};
-use crate::program::{program, unreadable};
+use super::{Said, clear, file_of, say, words_of, write};
+use command_line::program::{program, unreadable};
 use commands::asm::{executable_of, write_file};
 use commands::dis::disassembly;
 use commands::image_file::{elf_image, raw_image};
@@ -73,17 +73,35 @@ fn a_read_that_fails_is_no_shorter_file(rt: HostRuntime) -> Result<(), Fail> {
     Ok(())
 }
 
+fn check_reads(
+    rt: &(impl Abort + AllocGlobal),
+    left: u32,
+    kind: io::ErrorKind,
+    want: &str,
+) -> Result<(), Fail> {
+    let alloc = rt.alloc();
+    check_fault(
+        rt,
+        elf_image(alloc, Failing { left, kind }, "x", 16).err(),
+        want,
+    )?;
+    check_fault(
+        rt,
+        disassembly(alloc, Failing { left, kind }, "x").err(),
+        want,
+    )?;
+    check_fault(
+        rt,
+        executable_of(alloc, Failing { left, kind }, "x").err(),
+        want,
+    )
+}
+
 #[test]
 fn an_executable_or_a_source_that_cannot_be_read(rt: HostRuntime) -> Result<(), Fail> {
-    let alloc = rt.alloc();
     for left in [0, 1, 52, 4096] {
         for (kind, want) in &KINDS {
-            let fault = elf_image(alloc, Failing { left, kind: *kind }, "x", 16).err();
-            check_fault(&rt, fault, want)?;
-            let fault = disassembly(alloc, Failing { left, kind: *kind }, "x").err();
-            check_fault(&rt, fault, want)?;
-            let fault = executable_of(alloc, Failing { left, kind: *kind }, "x").err();
-            check_fault(&rt, fault, want)?;
+            check_reads(&rt, left, *kind, want)?;
         }
     }
     Ok(())
@@ -91,17 +109,26 @@ fn an_executable_or_a_source_that_cannot_be_read(rt: HostRuntime) -> Result<(), 
 
 const CONTENT: &[u8] = b"executable";
 
+/// Writes the content where there is room for so many bytes, and sees what of it was written; gives the fault.
+fn write_narrow(
+    rt: &(impl Abort + AllocGlobal),
+    room: usize,
+    got: &[u8],
+) -> Option<Fault<'static>> {
+    let mut file = Narrow::new(rt.alloc(), room);
+    let fault = write_file(&mut file, "x", CONTENT).err();
+    assert_eq!(rt; file.got.as_slice(), got);
+    fault
+}
+
 #[test]
 fn an_executable_that_cannot_be_written(rt: HostRuntime) -> Result<(), Fail> {
     for room in 0..10 {
-        let mut file = Narrow::new(rt.alloc(), room);
-        let fault = write_file(&mut file, "x", CONTENT).err();
+        let fault = write_narrow(&rt, room, &CONTENT[..room]);
         check_fault(&rt, fault, "file x")?;
-        assert_eq!(rt; file.got.as_slice(), &CONTENT[..room]);
     }
-    let mut file = Narrow::new(rt.alloc(), 10);
-    assert!(rt; write_file(&mut file, "x", CONTENT).is_ok());
-    assert_eq!(rt; file.got.as_slice(), CONTENT);
+    let fault = write_narrow(&rt, 10, CONTENT);
+    assert!(rt; fault.is_none());
     Ok(())
 }
 
@@ -162,15 +189,28 @@ fn check_streams<R: Files + AllocGlobal + Abort>(
     let words = words_of(rt.alloc(), line, file)?;
     let whole = ample.out.len().max(ample.err.len());
     for room in 0..whole.saturating_add(2) {
-        let mut out = Narrow::new(rt.alloc(), room);
-        let mut err = Narrow::new(rt.alloc(), room);
-        let got = program(rt, words.as_slice(), &mut io::empty(), &mut out, &mut err);
+        let got = answer_in(rt, words.as_slice(), room, &ample);
         let want = if room > whole { status } else { 1 };
-        let begins = ample.out.as_bytes().starts_with(out.got.as_slice())
-            && ample.err.as_bytes().starts_with(err.got.as_slice());
-        assert_eq!(rt; (got, begins), (want, true), "{line}, room {room}");
+        assert_eq!(rt; got, (want, true), "{line}, room {room}");
     }
     Ok(())
+}
+
+/// The status where each output takes so many bytes, and whether both got a beginning of the ample answer.
+fn answer_in<R: Files + AllocGlobal>(
+    rt: &R,
+    words: &[String],
+    room: usize,
+    ample: &Said,
+) -> (u8, bool) {
+    let mut out = Narrow::new(rt.alloc(), room);
+    let mut err = Narrow::new(rt.alloc(), room);
+    let status = program(rt, words, &mut io::empty(), &mut out, &mut err);
+    (status, begins(&ample.out, &out) && begins(&ample.err, &err))
+}
+
+fn begins(whole: &String, got: &Narrow) -> bool {
+    whole.as_bytes().starts_with(got.got.as_slice())
 }
 
 #[test]
@@ -183,23 +223,33 @@ fn streams_that_fail(rt: HostRuntime) -> Result<(), Fail> {
     clear(&rt, file.as_str())
 }
 
+/// The kinds of error with which the command line can't be read, the status, and what is written then.
+static UNREADABLE: [(io::ErrorKind, u8, &str); 2] = [
+    (io::ErrorKind::OutOfMemory, 1, "vmhost: memory\n"),
+    (
+        io::ErrorKind::InvalidData,
+        2,
+        "error: the command line is no UTF-8 text\n",
+    ),
+];
+
+fn check_unreadable(rt: &(impl Abort + AllocGlobal), kind: io::ErrorKind, status: u8, text: &str) {
+    let mut err = Vec::new(rt.alloc());
+    let found = unreadable(&io::Error::from(kind), &mut err);
+    assert_eq!(rt; (found, err.as_slice()), (status, text.as_bytes()));
+}
+
+fn check_unwritten(rt: &(impl Abort + AllocGlobal), kind: io::ErrorKind) {
+    let mut narrow = Narrow::new(rt.alloc(), 4);
+    assert_eq!(rt; unreadable(&io::Error::from(kind), &mut narrow), 1);
+}
+
 #[test]
-fn a_command_line_that_cannot_be_read(rt: HostRuntime) -> Result<(), Fail> {
-    for (kind, text, status) in [
-        (io::ErrorKind::OutOfMemory, "vmhost: memory\n", 1),
-        (
-            io::ErrorKind::InvalidData,
-            "error: the command line is no UTF-8 text\n",
-            2,
-        ),
-    ] {
-        let mut err = Vec::new(rt.alloc());
-        assert_eq!(rt; unreadable(&io::Error::from(kind), &mut err), status);
-        assert_eq!(rt; err.as_slice(), text.as_bytes());
-        let mut narrow = Narrow::new(rt.alloc(), 4);
-        assert_eq!(rt; unreadable(&io::Error::from(kind), &mut narrow), 1);
+fn a_command_line_that_cannot_be_read(rt: HostRuntime) {
+    for (kind, status, text) in &UNREADABLE {
+        check_unreadable(&rt, *kind, *status, text);
+        check_unwritten(&rt, *kind);
     }
-    Ok(())
 }
 
 #[test]

@@ -33,14 +33,23 @@ pub fn check_program<R: Files + AllocGlobal + Abort>(
     program: &Program,
 ) -> Result<(), Fail> {
     let text = text_of(rt.alloc(), program.source)?;
-    let dump = text_of(rt.alloc(), program.dump)?;
     write_source(rt, file, text.as_bytes())?;
     prints(rt, file, ASM, "")?;
+    check_dumps(rt, file, program)?;
+    clear(rt, file)
+}
+
+fn check_dumps<R: Files + AllocGlobal + Abort>(
+    rt: &R,
+    file: &str,
+    program: &Program,
+) -> Result<(), Fail> {
+    let dump = text_of(rt.alloc(), program.dump)?;
     for end in ["FILE", "--flat FILE"] {
         let line = format!(in rt.alloc(); "exec --steps {} {end}", program.steps)?;
         prints(rt, file, &line, &dump)?;
     }
-    clear(rt, file)
+    Ok(())
 }
 
 /// Sources and the disassembly of what they are assembled to.

@@ -1,18 +1,18 @@
 //! The program, over any files, reader and writers.
 ghost use Rattle.std.specs.Prelude.{◌≡◌, ◌≢◌, ◌<◌, ◌⊎◌, IfOk};
 ghost use Rattle.std.specs.IoError.{error_kind};
-ghost use Rattle.vmhost.specs.Exit.{code_of};
+ghost use Rattle.command_line.specs.Exit.{code_of};
 
-use crate::command_line::{Order, parse};
+use crate::parsing::{Order, parse};
 use clap::Error;
-use commands::{Fault, Report, assemble_file, disassemble_file, run_image};
+use commands::{Asm, Dis, Exec, Fault, Report, assemble_file, disassemble_file, run_image};
 use std::io::{BufRead, ErrorKind, Write};
 use std::rt::{Env, Files};
 use std::{env, io};
 
 /// How the program ends.
-#[derive(Clone, Copy, Debug, PartialEq, Eq)]
-pub enum Status {
+#[derive(Clone, Copy)]
+enum Status {
     /// What was asked for is done.
     Done,
     /// An input was refused.
@@ -68,10 +68,7 @@ where
 {
     let _ = input;
     let written = match parse(rt.alloc(), words) {
-        Ok(order) => match carry_out(rt, order) {
-            Ok(answer) => write_answer(&answer, out),
-            Err(fault) => write_fault(&fault, err),
-        },
+        Ok(order) => answer_order(rt, order, out, err),
         Err(error) => write_error(&error, out, err),
     };
     let status = match written {
@@ -81,15 +78,39 @@ where
     status.code()
 }
 
+fn answer_order<R, O, E>(rt: &R, order: Order<'_>, out: &mut O, err: &mut E) -> io::Result<Status>
+where
+    R: Files + AllocGlobal,
+    O: Write,
+    E: Write,
+    ensures usage { IfOk result (λ s. code_of s ≢ 2) }
+    ensures refused { IfOk result (λ s. code_of s ≢ 1 → err.new ≡ err.old) }
+{
+    match carry_out(rt, order) {
+        Ok(answer) => write_answer(&answer, out),
+        Err(fault) => write_fault(&fault, err),
+    }
+}
+
 fn carry_out<'a, R: Files + AllocGlobal>(rt: &R, order: Order<'a>) -> Result<Answer, Fault<'a>> {
     match order {
-        Order::Asm(order) => {
-            assemble_file(rt, order)?;
-            Ok(Answer::Nothing)
-        }
-        Order::Dis(order) => Ok(Answer::Text(disassemble_file(rt, order)?)),
-        Order::Exec(order) => Ok(Answer::Report(run_image(rt, order)?)),
+        Order::Asm(order) => assembled(rt, order),
+        Order::Dis(order) => disassembled(rt, order),
+        Order::Exec(order) => executed(rt, order),
     }
+}
+
+fn assembled<'a, R: Files + AllocGlobal>(rt: &R, order: Asm<'a>) -> Result<Answer, Fault<'a>> {
+    assemble_file(rt, order)?;
+    Ok(Answer::Nothing)
+}
+
+fn disassembled<'a, R: Files + AllocGlobal>(rt: &R, order: Dis<'a>) -> Result<Answer, Fault<'a>> {
+    Ok(Answer::Text(disassemble_file(rt, order)?))
+}
+
+fn executed<'a, R: Files + AllocGlobal>(rt: &R, order: Exec<'a>) -> Result<Answer, Fault<'a>> {
+    Ok(Answer::Report(run_image(rt, order)?))
 }
 
 fn write_answer<O: Write>(answer: &Answer, out: &mut O) -> io::Result<Status>
@@ -135,14 +156,17 @@ fn write_error<O: Write, E: Write>(error: &Error, out: &mut O, err: &mut E) -> i
         return write_fault(&Fault::Memory, err);
     }
     if error.use_stderr() {
-        write!(err, "{error}")?;
-        err.flush()?;
+        write_message(error, err)?;
         Ok(Status::Usage)
     } else {
-        write!(out, "{error}")?;
-        out.flush()?;
+        write_message(error, out)?;
         Ok(Status::Done)
     }
+}
+
+fn write_message<W: Write>(error: &Error, to: &mut W) -> io::Result<()> {
+    write!(to, "{error}")?;
+    to.flush()
 }
 
 /// The words of the command line after the program's name. An error says that a word is no UTF-8 text, or want of memory.

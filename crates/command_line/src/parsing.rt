@@ -5,7 +5,7 @@ use commands::{Asm, Dis, Exec, Format, MachineKind};
 use std::alloc::{AllocError, Global};
 
 /// What the command line asks for.
-#[derive(Clone, Copy, Debug)]
+#[derive(Clone, Copy)]
 pub enum Order<'a> {
     /// Assemble a source into an executable.
     Asm(Asm<'a>),
@@ -20,6 +20,10 @@ pub enum Order<'a> {
 /// An error is a request for help, words that are refused, or want of memory: its kind says which.
 pub fn parse<'a>(alloc: Global, words: &'a [String]) -> Result<Order<'a>, Error> {
     let mut command = whole_command(alloc)?;
+    order_in(&mut command, words)
+}
+
+fn order_in<'a>(command: &mut Command<'a>, words: &'a [String]) -> Result<Order<'a>, Error> {
     let matches = command.try_get_matches_from_mut(words)?;
     match order_of(&matches) {
         Some(order) => Ok(order),
@@ -45,15 +49,20 @@ const DIS: &str = "dis";
 const EXEC: &str = "exec";
 
 fn whole_command<'a>(alloc: Global) -> Result<Command<'a>, AllocError> {
+    let command = with_subcommand(bare_command(alloc)?, asm_command(alloc))?;
+    let command = with_subcommand(command, dis_command(alloc))?;
+    with_subcommand(command, exec_command(alloc))
+}
+
+/// The command without its subcommands, of which it demands one.
+fn bare_command<'a>(alloc: Global) -> Result<Command<'a>, AllocError> {
     let command = Command::new(alloc, NAME)
         .bin_name(NAME)?
         .about("Assembles, disassembles and runs MIPS32 machine code in a virtual machine")
         .no_binary_name(true)
         .subcommand_required(true)
         .disable_help_subcommand(true);
-    let command = with_subcommand(command, asm_command(alloc))?;
-    let command = with_subcommand(command, dis_command(alloc))?;
-    with_subcommand(command, exec_command(alloc))
+    Ok(command)
 }
 
 /// The command with one more subcommand, where there was memory for that.
@@ -78,13 +87,24 @@ fn dis_command<'a>(alloc: Global) -> Result<Command<'a>, AllocError> {
 }
 
 fn exec_command<'a>(alloc: Global) -> Result<Command<'a>, AllocError> {
-    Command::new(alloc, EXEC)
-        .about("Runs an image and prints the state that the machine ends in")
+    let command = Command::new(alloc, EXEC).about(
+        "Runs an image and prints the state that the machine ends in",
+    );
+    let command = with_flags(alloc, command)?;
+    let command = with_numbers(alloc, command)?;
+    command.arg(file(alloc, "image", "IMAGE").help("The file of the image"))
+}
+
+fn with_flags<'a>(alloc: Global, command: Command<'a>) -> Result<Command<'a>, AllocError> {
+    command
         .arg(flag(alloc, "raw").help("Place the file's bytes at 80000000 and enter them there"))?
-        .arg(flag(alloc, "flat").help("Use the table machine, on one plain memory"))?
+        .arg(flag(alloc, "flat").help("Use the table machine, on one plain memory"))
+}
+
+fn with_numbers<'a>(alloc: Global, command: Command<'a>) -> Result<Command<'a>, AllocError> {
+    command
         .arg(number(alloc, "pages", "16").help("How many pages of memory the machine has"))?
-        .arg(number(alloc, "steps", "1000").help("How many steps are made"))?
-        .arg(file(alloc, "image", "IMAGE").help("The file of the image"))
+        .arg(number(alloc, "steps", "1000").help("How many steps are made"))
 }
 
 fn file<'a>(alloc: Global, name: &'a str, value: &'a str) -> Arg<'a> {

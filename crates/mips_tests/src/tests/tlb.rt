@@ -1,18 +1,8 @@
 //! Tables of translation, probe and the TLB instructions.
-use crate::{Entry, Kind, PageHalf, Tlb};
+use super::expect;
 use mips_cp0::{Cp0, Exc};
-use std::fmt::Debug;
+use mips_tlb::{Entry, Kind, PageHalf, Tlb};
 use std::process::Abort;
-
-// Asserts one case. The tests share it, since each assertion in a function's own body makes its proof much longer.
-fn expect<C: Debug + Drop, T: PartialEq + Debug + Drop>(
-    rt: &impl Abort,
-    case: C,
-    got: T,
-    wanted: T,
-) {
-    assert!(rt; got == wanted, "{case:?}: {got:?}, not {wanted:?}");
-}
 
 // Kernel mode, user mode, the error level with user mode's bit, and a handler with it.
 const KERNEL: u32 = 0x00;
@@ -94,110 +84,138 @@ fn segments(rt: HostRuntime) {
     }
 }
 
+static AT_BOOT: [(u32, Kind, Result<u32, Exc>); 1] = [(
+    0,
+    Kind::Load,
+    Err(Exc::TlbLoad {
+        address: 0,
+        refill: false,
+    }),
+)];
+
 // At boot each entry is that of the pair at 0 in address space 0, with no page valid.
 #[test]
 fn boot_entries_are_not_valid(rt: HostRuntime) {
     let tlb = Tlb::boot();
     let cp0 = registers(KERNEL, 0);
-    let loaded = tlb.translate(&cp0, 0, Kind::Load);
-    let exc = Exc::TlbLoad {
-        address: 0,
-        refill: false,
-    };
-    expect(&rt, "load from 0", loaded, Err(exc));
+    translations(&rt, &tlb, &cp0, &AT_BOOT);
     for (address, asid, index) in [(0x1fff, 0, Some(0)), (0x2000, 0, None), (0, 1, None)] {
         expect(&rt, (address, asid), tlb.find(address, asid), index);
     }
 }
 
+// What translations of addresses give.
+fn translations(rt: &impl Abort, tlb: &Tlb, cp0: &Cp0, rows: &[(u32, Kind, Result<u32, Exc>)]) {
+    for row in rows {
+        let (address, kind, answer) = *row;
+        let translated = tlb.translate(cp0, address, kind);
+        expect(rt, (address, kind), translated, answer);
+    }
+}
+
+// Translations by an even page that is valid and not dirty and an odd one that is dirty and not valid.
+static BY_KINDS: [(u32, Kind, Result<u32, Exc>); 12] = [
+    (0x0040_0004, Kind::Fetch, Ok(0x0000_2004)),
+    (0x0040_0004, Kind::Load, Ok(0x0000_2004)),
+    (
+        0x0040_0004,
+        Kind::Store,
+        Err(Exc::Modified {
+            address: 0x0040_0004,
+        }),
+    ),
+    (
+        0x0040_1004,
+        Kind::Fetch,
+        Err(Exc::TlbLoad {
+            address: 0x0040_1004,
+            refill: false,
+        }),
+    ),
+    (
+        0x0040_1004,
+        Kind::Load,
+        Err(Exc::TlbLoad {
+            address: 0x0040_1004,
+            refill: false,
+        }),
+    ),
+    (
+        0x0040_1004,
+        Kind::Store,
+        Err(Exc::TlbStore {
+            address: 0x0040_1004,
+            refill: false,
+        }),
+    ),
+    (
+        0x0040_2004,
+        Kind::Fetch,
+        Err(Exc::TlbLoad {
+            address: 0x0040_2004,
+            refill: true,
+        }),
+    ),
+    (
+        0x0040_2004,
+        Kind::Load,
+        Err(Exc::TlbLoad {
+            address: 0x0040_2004,
+            refill: true,
+        }),
+    ),
+    (
+        0x0040_2004,
+        Kind::Store,
+        Err(Exc::TlbStore {
+            address: 0x0040_2004,
+            refill: true,
+        }),
+    ),
+    (
+        0x8000_0000,
+        Kind::Fetch,
+        Err(Exc::AddressLoad {
+            address: 0x8000_0000,
+        }),
+    ),
+    (
+        0x8000_0000,
+        Kind::Load,
+        Err(Exc::AddressLoad {
+            address: 0x8000_0000,
+        }),
+    ),
+    (
+        0x8000_0000,
+        Kind::Store,
+        Err(Exc::AddressStore {
+            address: 0x8000_0000,
+        }),
+    ),
+];
+
 #[test]
 fn kinds_raise_their_exceptions(rt: HostRuntime) {
     let mut tlb = Tlb::boot();
-    // Even page: valid and not dirty. Odd page: dirty and not valid.
     with_entry(&mut tlb, 0, 0x0040_0000, 0x0000_0082, 0x0000_00c4);
     let cp0 = registers(USER, 0);
-    for (address, kind, answer) in [
-        (0x0040_0004, Kind::Fetch, Ok(0x0000_2004)),
-        (0x0040_0004, Kind::Load, Ok(0x0000_2004)),
-        (
-            0x0040_0004,
-            Kind::Store,
-            Err(Exc::Modified {
-                address: 0x0040_0004,
-            }),
-        ),
-        (
-            0x0040_1004,
-            Kind::Fetch,
-            Err(Exc::TlbLoad {
-                address: 0x0040_1004,
-                refill: false,
-            }),
-        ),
-        (
-            0x0040_1004,
-            Kind::Load,
-            Err(Exc::TlbLoad {
-                address: 0x0040_1004,
-                refill: false,
-            }),
-        ),
-        (
-            0x0040_1004,
-            Kind::Store,
-            Err(Exc::TlbStore {
-                address: 0x0040_1004,
-                refill: false,
-            }),
-        ),
-        (
-            0x0040_2004,
-            Kind::Fetch,
-            Err(Exc::TlbLoad {
-                address: 0x0040_2004,
-                refill: true,
-            }),
-        ),
-        (
-            0x0040_2004,
-            Kind::Load,
-            Err(Exc::TlbLoad {
-                address: 0x0040_2004,
-                refill: true,
-            }),
-        ),
-        (
-            0x0040_2004,
-            Kind::Store,
-            Err(Exc::TlbStore {
-                address: 0x0040_2004,
-                refill: true,
-            }),
-        ),
-        (
-            0x8000_0000,
-            Kind::Fetch,
-            Err(Exc::AddressLoad {
-                address: 0x8000_0000,
-            }),
-        ),
-        (
-            0x8000_0000,
-            Kind::Load,
-            Err(Exc::AddressLoad {
-                address: 0x8000_0000,
-            }),
-        ),
-        (
-            0x8000_0000,
-            Kind::Store,
-            Err(Exc::AddressStore {
-                address: 0x8000_0000,
-            }),
-        ),
-    ] {
-        let translated = tlb.translate(&cp0, address, kind);
-        expect(&rt, (address, kind), translated, answer);
+    translations(&rt, &tlb, &cp0, &BY_KINDS);
+}
+
+// Addresses and what a probe of them gives.
+static PROBES: [(u32, Option<u32>); 4] = [
+    (0xc040_0004, Some(0x0000_2004)),
+    (0xc040_1004, None),
+    (0xc040_2004, None),
+    (0x8000_7000, Some(0x0000_7000)),
+];
+
+fn probes_answer(rt: &impl Abort, tlb: &Tlb, status: u32) {
+    let cp0 = registers(status, 0);
+    for row in &PROBES {
+        let (address, answer) = *row;
+        expect(rt, (address, status), tlb.probe(&cp0, address), answer);
     }
 }
 
@@ -206,16 +224,45 @@ fn probe_is_a_kernel_load(rt: HostRuntime) {
     let mut tlb = Tlb::boot();
     with_entry(&mut tlb, 0, 0xc040_0000, 0x0000_0082, 0x0000_00c4);
     for status in [KERNEL, USER, HANDLER] {
-        let cp0 = registers(status, 0);
-        for (address, answer) in [
-            (0xc040_0004, Some(0x0000_2004)),
-            (0xc040_1004, None),
-            (0xc040_2004, None),
-            (0x8000_7000, Some(0x0000_7000)),
-        ] {
-            expect(&rt, (address, status), tlb.probe(&cp0, address), answer);
-        }
+        probes_answer(&rt, &tlb, status);
     }
+}
+
+// EPC, BadVAddr, Context, EntryHi, Cause and Status.
+fn exception_registers(cp0: &Cp0) -> [u32; 6] {
+    [
+        cp0.epc(),
+        cp0.bad_vaddr(),
+        cp0.read(4, 0, 0),
+        cp0.entry_hi(),
+        cp0.cause(),
+        cp0.status(),
+    ]
+}
+
+// A fetch, the load that has no entry, and the vector and the registers of its exception.
+fn refill_enters_by(rt: &impl Abort, tlb: &Tlb, cp0: &mut Cp0, vector: u32, epc: u32) {
+    let exc = Exc::TlbLoad {
+        address: 0x0040_3004,
+        refill: true,
+    };
+    let translated = [
+        tlb.translate(cp0, 0x0040_0000, Kind::Fetch),
+        tlb.translate(cp0, 0x0040_3004, Kind::Load),
+    ];
+    let wanted = [Ok(0x0000_2000), Err(exc)];
+    expect(rt, ("translations", vector), translated, wanted);
+    let entered = cp0.enter(exc, 0x0040_0000, false);
+    let after = (entered, exception_registers(cp0));
+    let registers = [
+        epc,
+        0x0040_3004,
+        0x0000_2010,
+        0x0040_2000,
+        0x0000_0008,
+        0x0000_0012,
+    ];
+    expect(rt, ("vector", vector), after, (vector, registers));
 }
 
 // A refill of a load from user mode: EntryHi is the pair of the address, and the handler is that of a refill, or the
@@ -224,42 +271,13 @@ fn probe_is_a_kernel_load(rt: HostRuntime) {
 fn refill_enters(rt: HostRuntime) {
     let mut tlb = Tlb::boot();
     with_entry(&mut tlb, 0, 0x0040_0000, 0x0000_0083, 0x0000_0001);
-    let exc = Exc::TlbLoad {
-        address: 0x0040_3004,
-        refill: true,
-    };
     for (status, epc_before, vector, epc) in [
         (0x10, 0, 0x8000_0000, 0x0040_0000),
         (0x12, 0x1234_5678, 0x8000_0180, 0x1234_5678),
     ] {
         let mut cp0 = registers(status, 0);
         cp0.write(14, 0, epc_before);
-        let fetched = tlb.translate(&cp0, 0x0040_0000, Kind::Fetch);
-        expect(&rt, ("fetch", status), fetched, Ok(0x0000_2000));
-        let loaded = tlb.translate(&cp0, 0x0040_3004, Kind::Load);
-        expect(&rt, ("load", status), loaded, Err(exc));
-        let entered = cp0.enter(exc, 0x0040_0000, false);
-        expect(&rt, ("vector", status), entered, vector);
-        expect(
-            &rt,
-            ("EPC, BadVAddr, Context, EntryHi, Cause and Status", status),
-            [
-                cp0.epc(),
-                cp0.bad_vaddr(),
-                cp0.read(4, 0, 0),
-                cp0.entry_hi(),
-                cp0.cause(),
-                cp0.status(),
-            ],
-            [
-                epc,
-                0x0040_3004,
-                0x0000_2010,
-                0x0040_2000,
-                0x0000_0008,
-                0x0000_0012,
-            ],
-        );
+        refill_enters_by(&rt, &tlb, &mut cp0, vector, epc);
     }
 }
 
@@ -285,8 +303,8 @@ fn least_index_decides(rt: HostRuntime) {
     with_entry(&mut tlb, 3, 0x0000_2000, 0x0000_0102, 0x0000_0102);
     let mut cp0 = registers(KERNEL, 0);
     let loaded = tlb.translate(&cp0, 0x0000_2000, Kind::Load);
-    expect(&rt, "load", loaded, Ok(0x0000_4000));
-    expect(&rt, "entry", tlb.find(0x0000_2000, 0), Some(3));
+    let found = (loaded, tlb.find(0x0000_2000, 0));
+    expect(&rt, "load and entry", found, (Ok(0x0000_4000), Some(3)));
     cp0.write(10, 0, 0x0000_2000);
     tlb.probe_index(&mut cp0);
     expect(&rt, "Index", cp0.read(0, 0, 0), 3);
@@ -301,30 +319,46 @@ fn loads(tlb: &Tlb, asid: u32) -> [Result<u32, Exc>; 2] {
     ]
 }
 
+// The loads where the entry matches, and where none does.
+const FOUND: [Result<u32, Exc>; 2] = [Ok(0x0000_4abc), Ok(0x0000_5abc)];
+
+const MISSED: [Result<u32, Exc>; 2] = [
+    Err(Exc::TlbLoad {
+        address: 0x0000_2abc,
+        refill: true,
+    }),
+    Err(Exc::TlbLoad {
+        address: 0x0000_3abc,
+        refill: true,
+    }),
+];
+
+// EntryLo0 and EntryLo1, and whether an entry of these is global.
+static GLOBALS: [(u32, u32, bool); 4] = [
+    (0x103, 0x143, true),
+    (0x102, 0x143, false),
+    (0x103, 0x142, false),
+    (0x102, 0x142, false),
+];
+
+// The loads in an address space by an entry of address space 7 of a row.
+fn space_loads(rt: &impl Abort, row: &(u32, u32, bool), asid: u32) {
+    let (lo0, lo1, is_global) = *row;
+    let mut tlb = Tlb::boot();
+    with_entry(&mut tlb, 15, 0x0000_2007, lo0, lo1);
+    let wanted = if is_global || asid == 7 {
+        FOUND
+    } else {
+        MISSED
+    };
+    expect(rt, (lo0, lo1, asid), loads(&tlb, asid), wanted);
+}
+
 #[test]
 fn address_spaces(rt: HostRuntime) {
-    let found = [Ok(0x0000_4abc), Ok(0x0000_5abc)];
-    let missed = [
-        Err(Exc::TlbLoad {
-            address: 0x0000_2abc,
-            refill: true,
-        }),
-        Err(Exc::TlbLoad {
-            address: 0x0000_3abc,
-            refill: true,
-        }),
-    ];
-    for (lo0, lo1, is_global) in [
-        (0x103, 0x143, true),
-        (0x102, 0x143, false),
-        (0x103, 0x142, false),
-        (0x102, 0x142, false),
-    ] {
-        let mut tlb = Tlb::boot();
-        with_entry(&mut tlb, 15, 0x0000_2007, lo0, lo1);
-        for (asid, matches) in [(7, true), (6, is_global), (0, is_global), (0xff, is_global)] {
-            let wanted = if matches { found } else { missed };
-            expect(&rt, (lo0, lo1, asid), loads(&tlb, asid), wanted);
+    for row in &GLOBALS {
+        for asid in [7, 6, 0, 0xff] {
+            space_loads(&rt, row, asid);
         }
     }
 }
@@ -374,43 +408,46 @@ fn read(tlb: &Tlb, index: u32) -> (u32, u32, u32) {
 }
 
 // What is written from the registers and read back: C and PFN stay, G is that of both.
+static WRITTEN: [(u32, u32, u32, u32, u32); 4] = [
+    (
+        0xffff_e0ff,
+        0x03ff_ffff,
+        0x03ff_ffff,
+        0x03ff_ffff,
+        0x03ff_ffff,
+    ),
+    (
+        0x0040_2005,
+        0x0000_0087,
+        0x0000_00de,
+        0x0000_0086,
+        0x0000_00de,
+    ),
+    (
+        0x0040_2005,
+        0x0000_0086,
+        0x0000_00df,
+        0x0000_0086,
+        0x0000_00de,
+    ),
+    (
+        0x0000_0000,
+        0x0000_0000,
+        0x0000_0000,
+        0x0000_0000,
+        0x0000_0000,
+    ),
+];
+
 #[test]
 fn entries_are_written_and_read(rt: HostRuntime) {
-    for (hi, lo0, lo1, read_lo0, read_lo1) in [
-        (
-            0xffff_e0ff,
-            0x03ff_ffff,
-            0x03ff_ffff,
-            0x03ff_ffff,
-            0x03ff_ffff,
-        ),
-        (
-            0x0040_2005,
-            0x0000_0087,
-            0x0000_00de,
-            0x0000_0086,
-            0x0000_00de,
-        ),
-        (
-            0x0040_2005,
-            0x0000_0086,
-            0x0000_00df,
-            0x0000_0086,
-            0x0000_00de,
-        ),
-        (
-            0x0000_0000,
-            0x0000_0000,
-            0x0000_0000,
-            0x0000_0000,
-            0x0000_0000,
-        ),
-    ] {
+    for row in &WRITTEN {
+        let (hi, lo0, lo1, read_lo0, read_lo1) = *row;
         let tlb = written(hi, lo0, lo1);
         let entry = (hi, read_lo0, read_lo1);
-        expect(&rt, ("entry 7", lo0, lo1), read(&tlb, 7), entry);
-        expect(&rt, ("entry 15", lo0, lo1), read(&tlb, 15), entry);
-        expect(&rt, ("entry 6", lo0, lo1), read(&tlb, 6), (0, 0, 0));
+        let got = [read(&tlb, 7), read(&tlb, 15), read(&tlb, 6)];
+        let wanted = [entry, entry, (0, 0, 0)];
+        expect(&rt, ("entries 7, 15 and 6", lo0, lo1), got, wanted);
     }
 }
 
@@ -428,26 +465,28 @@ fn probe_fails_where_none_matches(rt: HostRuntime) {
     }
 }
 
+// EntryHi, EntryLo0 and EntryLo1 of an entry.
+fn words_of(entry: &Entry) -> (u32, u32, u32) {
+    (
+        entry.entry_hi(),
+        entry.even.entry_lo(true),
+        entry.odd.entry_lo(true),
+    )
+}
+
 #[test]
 fn entries_by_index(rt: HostRuntime) {
     let mut tlb = Tlb::boot();
     let even = PageHalf::in_entry_lo(0x0000_009e);
+    let first = tlb.read(0);
     let entry = Entry {
         global: true,
         even,
-        ..tlb.read(0)
+        ..first
     };
     tlb.write(15, entry);
-    expect(&rt, "entry 15", tlb.read(15), entry);
-    expect(&rt, "entry 14", tlb.read(14), tlb.read(0));
-    expect(
-        &rt,
-        "EntryHi, EntryLo0 and EntryLo1",
-        (
-            entry.entry_hi(),
-            entry.even.entry_lo(true),
-            entry.odd.entry_lo(true),
-        ),
-        (0, 0x9f, 1),
-    );
+    let read = [tlb.read(15), tlb.read(14)];
+    expect(&rt, "entries 15 and 14", read, [entry, tlb.read(0)]);
+    let words = words_of(&entry);
+    expect(&rt, "the words of entry 15", words, (0, 0x9f, 1));
 }

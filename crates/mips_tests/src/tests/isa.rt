@@ -1,41 +1,55 @@
-//! Words and their instructions, from the encodings of the standard (volume II, the instructions' formats and the tables
-//! of instruction bit encodings).
+//! Words and their instructions, from the encodings of the standard (volume II, the instructions' formats and the
+//! tables of instruction bit encodings).
 mod build;
 mod computing;
 mod control;
+mod fields;
 mod memory;
 
+use super::expect;
 use computing::*;
 use control::*;
+use fields::Fields;
 use memory::*;
 use mips_isa::*;
 use std::process::Abort;
 use std::test::Fail;
 
-/// Each word decodes to its instruction, which encodes to it and has this text at 80001000.
-fn agree(rt: &(impl Abort + AllocGlobal), rows: &[(u32, Instr, &'static str)]) -> Result<(), Fail> {
-    for (word, instr, line) in rows {
-        assert!(rt; decode(*word) == Some(*instr), "{word:08x}");
-        assert_eq!(rt; encode(*instr), *word, "{line}");
-        let written = text(rt.alloc(), *instr, 0x8000_1000)?;
-        assert_eq!(rt; written.as_str(), *line);
+/// Whether a word decodes to the instruction of these fields, and the word of that instruction.
+fn coded(word: u32, fields: Fields) -> (bool, u32) {
+    (decode(word) == Some(fields.instr()), encode(fields.instr()))
+}
+
+/// The word decodes to the instruction, which encodes to it and has this text at 80001000.
+fn agrees(
+    rt: &(impl Abort + AllocGlobal),
+    word: u32,
+    fields: Fields,
+    line: &'static str,
+) -> Result<(), Fail> {
+    expect(rt, line, coded(word, fields), (true, word));
+    let written = text(rt.alloc(), fields.instr(), 0x8000_1000)?;
+    expect(rt, word, written.as_str(), line);
+    Ok(())
+}
+
+/// Each of the rows agrees.
+fn agree(
+    rt: &(impl Abort + AllocGlobal),
+    rows: &[(u32, Fields, &'static str)],
+) -> Result<(), Fail> {
+    for row in rows {
+        let (word, fields, line) = *row;
+        agrees(rt, word, fields, line)?;
     }
     Ok(())
 }
 
 #[test]
 fn words_instructions_and_texts(rt: HostRuntime) -> Result<(), Fail> {
-    agree(&rt, &register_rows())?;
-    agree(&rt, &shift_rows())?;
-    agree(&rt, &hi_lo_rows())?;
-    agree(&rt, &trap_rows())?;
-    agree(&rt, &branch_rows())?;
-    agree(&rt, &jump_rows())?;
-    agree(&rt, &immediate_rows())?;
-    agree(&rt, &load_rows())?;
-    agree(&rt, &store_rows())?;
-    agree(&rt, &system_rows())?;
-    Ok(())
+    agree(&rt, &COMPUTING_ROWS)?;
+    agree(&rt, &CONTROL_ROWS)?;
+    agree(&rt, &MEMORY_ROWS)
 }
 
 /// Words of no row: each field that must be zero set in turn, and codes that the standard leaves free.
@@ -182,67 +196,107 @@ fn cop0_names(rs: u32, code: u32, zeros: bool) -> Option<&'static str> {
     }
 }
 
+/// What a word is decoded to, by name.
+fn name_of(word: u32) -> Option<&'static str> {
+    decode(word).map(|instr| mnemonic_of(&instr))
+}
+
+/// The names of the words with these two codes: with zeros between them, with rt 5 and rd 12, and with sa 1.
+fn cop0_words_are_named(rt: &impl Abort, rs: u32, code: u32) {
+    let word = 0x4000_0000 | rs << 21 | code;
+    let wait = if rs >= 16 && code == 0x20 {
+        Some("wait")
+    } else {
+        None
+    };
+    expect(
+        rt,
+        word,
+        [
+            name_of(word),
+            name_of(word | 0x5_6000),
+            name_of(word | 0x40),
+        ],
+        [
+            cop0_names(rs, code, true),
+            cop0_names(rs, code, false),
+            wait,
+        ],
+    );
+}
+
 /// Each pair of rs and fn with opcode 10: once with zeros between them, once with rt 5 and rd 12, once with sa 1.
 #[test]
 fn every_word_of_coprocessor_0(rt: HostRuntime) {
     for rs in 0..32u32 {
         for code in 0..64u32 {
-            let word = 0x4000_0000 + rs * 0x20_0000 + code;
-            let names = |word: u32| decode(word).map(|instr| mnemonic_of(&instr));
-            assert_eq!(rt; names(word), cop0_names(rs, code, true), "{word:08x}");
-            assert_eq!(rt;
-                names(word + 0x5_6000),
-                cop0_names(rs, code, false),
-                "{word:08x}"
-            );
-            let wait = if rs >= 16 && code == 0x20 {
-                Some("wait")
-            } else {
-                None
-            };
-            assert_eq!(rt; names(word + 0x40), wait, "{word:08x}");
+            cop0_words_are_named(&rt, rs, code);
         }
     }
 }
 
-/// Branches and jumps at the ends of the address space, and at the end of a jump's region.
+/// Branches at the ends of the address space: the address, the offset and the target.
+static BRANCH_TARGETS: [(u32, u16, u32); 3] = [
+    (0xffff_fffc, 0, 0),
+    (0, 0xfffe, 0xffff_fffc),
+    (0x8000_0000, 0x7fff, 0x8002_0000),
+];
+
+/// Jumps at the end of a region and of the address space: the address, the code's target and where that is.
+static JUMP_TARGETS: [(u32, u32, u32); 3] = [
+    (0x8fff_fffc, 1, 0x9000_0004),
+    (0x8fff_fff8, 1, 0x8000_0004),
+    (0xffff_fffc, 0x3ff_ffff, 0x0fff_fffc),
+];
+
+fn branches_reach(rt: &impl Abort) {
+    for row in &BRANCH_TARGETS {
+        let (address, offset, target) = *row;
+        let got = branch_target_of(address, offset);
+        expect(rt, (address, offset), got, target);
+    }
+}
+
+fn jumps_reach(rt: &impl Abort) {
+    for row in &JUMP_TARGETS {
+        let (address, code, target) = *row;
+        let got = jump_target_of(address, JumpTarget::new(code % 0x400_0000));
+        expect(rt, (address, code), got, target);
+    }
+}
+
 #[test]
 fn targets(rt: HostRuntime) {
-    assert_eq!(rt; branch_target_of(0xffff_fffc, 0), 0);
-    assert_eq!(rt; branch_target_of(0, 0xfffe), 0xffff_fffc);
-    assert_eq!(rt; branch_target_of(0x8000_0000, 0x7fff), 0x8002_0000);
-    assert_eq!(rt;
-        jump_target_of(0x8fff_fffc, JumpTarget::new(1)),
-        0x9000_0004
-    );
-    assert_eq!(rt;
-        jump_target_of(0x8fff_fff8, JumpTarget::new(1)),
-        0x8000_0004
-    );
-    assert_eq!(rt;
-        jump_target_of(0xffff_fffc, JumpTarget::new(0x3ff_ffff)),
-        0x0fff_fffc
-    );
+    branches_reach(&rt);
+    jumps_reach(&rt);
+}
+
+/// The coprocessor that a word is an instruction of.
+fn unit_of(word: u32) -> Option<u32> {
+    match decode(word) {
+        Some(Instr::Coprocessor { op, .. }) => Some(op.unit()),
+        _ => None,
+    }
 }
 
 /// The coprocessor of each opcode.
+static UNITS: [(u32, u32); 10] = [
+    (0x11, 1),
+    (0x31, 1),
+    (0x35, 1),
+    (0x39, 1),
+    (0x3d, 1),
+    (0x12, 2),
+    (0x32, 2),
+    (0x36, 2),
+    (0x3a, 2),
+    (0x3e, 2),
+];
+
 #[test]
 fn units(rt: HostRuntime) {
-    for (opcode, unit) in [
-        (0x11u32, 1),
-        (0x31, 1),
-        (0x35, 1),
-        (0x39, 1),
-        (0x3d, 1),
-        (0x12, 2),
-        (0x32, 2),
-        (0x36, 2),
-        (0x3a, 2),
-        (0x3e, 2),
-    ] {
-        match decode(opcode << 26) {
-            Some(Instr::Coprocessor { op, .. }) => assert_eq!(rt; op.unit(), unit),
-            _ => assert!(rt; false, "{opcode:x}"),
-        }
+    for row in &UNITS {
+        let (opcode, unit) = *row;
+        expect(&rt, opcode, unit_of(opcode << 26), Some(unit));
     }
 }

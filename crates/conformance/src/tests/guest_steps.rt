@@ -1,59 +1,33 @@
-//! Steps of a guest, its log and its seats, and reads of its memory.
+//! The guest's own calls: its steps, its log and its seats, and reads of its memory.
 ghost use Rattle.std.specs.Prelude.{◌≡◌, ◌<◌, [], IfOk};
 ghost use Rattle.guest.specs.Seats.{IsLegal};
 
-use crate::{Guest, Log, Refused, Seat, Stop};
-use elf32::Image;
+use super::code::Code;
+use super::code::Code::*;
+use super::expect;
+use super::run::{boot_guest, make_steps, raw_image};
 use flatvm::SeatNo;
+use guest::{Guest, Log, Refused, Seat, Stop};
 use mips_isa::Reg;
-use mips_step::StepOut;
 use std::process::Abort;
 use std::test::Fail;
 
-const COUNTING: [u32; 4] = [
-    0x2421_0001, // addiu $1,$1,1
-    0x2421_0001,
-    0x2421_0001,
-    0x0020_0000, // a word of no row
+const COUNTING: [Code; 4] = [
+    Word(0x2421_0001), // addiu $1,$1,1
+    Word(0x2421_0001),
+    Word(0x2421_0001),
+    Word(0x0020_0000), // a word of no row
 ];
 
-/// A guest with 2 pages that has booted these words.
-fn booted<R: AllocGlobal + Abort>(rt: &R, words: &[u32], log_runs: u32) -> Result<Guest, Fail>
+/// A guest with 2 pages that has booted this code.
+fn booted<R: AllocGlobal + Abort>(rt: &R, code: &[Code], log_runs: u32) -> Result<Guest, Fail>
     ensures { IfOk result (λ guest. guest.log.items ≡ []) }
 {
-    let image = words_image(rt, words)?;
-    assert!(rt; image.fits(2));
-    Ok(Guest::boot(rt.alloc(), image, 2, log_runs)?)
+    let image = raw_image(rt, "boot", code)?;
+    boot_guest(rt, "boot", image, 2, log_runs)
 }
 
-fn words_image<R: AllocGlobal + Abort>(rt: &R, words: &[u32]) -> Result<Image, Fail> {
-    let mut bytes = Vec::new(rt.alloc());
-    for word in words {
-        bytes.extend_from_slice(&word.to_le_bytes())?;
-    }
-    assert!(rt; bytes.len() < 0x1000);
-    Ok(Image::raw(rt.alloc(), bytes)?)
-}
-
-fn step_once(rt: &impl Abort, guest: &mut Guest, seat: &mut Seat) -> StepOut
-    requires { IsLegal seat.old guest.old.log.items }
-    ensures { IsLegal seat.new guest.new.log.items }
-{
-    assert!(rt; guest.log_room().is_ok());
-    assert!(rt; guest.need().is_none());
-    guest.step(seat)
-}
-
-fn make_steps(rt: &impl Abort, guest: &mut Guest, seat: &mut Seat, count: usize)
-    requires { IsLegal seat.old guest.old.log.items }
-    ensures { IsLegal seat.new guest.new.log.items }
-{
-    for _ in 0..count {
-        assert!(rt; step_once(rt, guest, seat) == StepOut::Done);
-    }
-}
-
-/// Checks PC and register 1, and how many steps were made, in how many runs.
+/// Checks PC and register 1, and how many steps of the runner were made, in how many runs.
 fn check_steps(
     rt: &impl Abort,
     guest: &Guest,
@@ -62,22 +36,40 @@ fn check_steps(
     (steps, runs): (u64, u32),
 ) {
     let cpu = guest.view().cpu;
-    assert_eq!(rt; (cpu.pc(), cpu.reg(Reg::new(1))), (pc, count));
     let log = guest.log();
-    assert_eq!(rt; (log.len(), log.runs(), seat.made()), (steps, runs, steps));
+    expect(
+        rt,
+        ("after steps", steps),
+        (
+            (cpu.pc(), cpu.reg(Reg::new(1))),
+            (log.len(), log.is_empty(), log.runs()),
+            (seat.made(), seat.number()),
+        ),
+        (
+            (pc, count),
+            (steps, steps == 0, runs),
+            (steps, SeatNo::runner()),
+        ),
+    );
+}
+
+/// Checks the guest at boot, after three steps, and after a fourth that is an exception.
+fn check_exception(rt: &impl Abort, guest: &mut Guest, seat: &mut Seat)
+    requires { IsLegal seat.old guest.old.log.items }
+{
+    check_steps(rt, guest, seat, (0x8000_0000, 0), (0, 0));
+    make_steps(rt, guest, seat, 3);
+    check_steps(rt, guest, seat, (0x8000_000c, 3), (3, 1));
+    make_steps(rt, guest, seat, 1);
+    guest.replay();
+    check_steps(rt, guest, seat, (0x8000_0180, 3), (4, 1));
 }
 
 #[test]
 fn a_guest_steps_into_an_exception(rt: HostRuntime) -> Result<(), Fail> {
     let mut guest = booted(&rt, &COUNTING, 16)?;
     let mut seat = Seat::new(SeatNo::runner());
-    assert!(rt; guest.log().is_empty());
-    make_steps(&rt, &mut guest, &mut seat, 3);
-    check_steps(&rt, &guest, &seat, (0x8000_000c, 3), (3, 1));
-    make_steps(&rt, &mut guest, &mut seat, 1);
-    guest.replay();
-    check_steps(&rt, &guest, &seat, (0x8000_0180, 3), (4, 1));
-    assert!(rt; seat.number() == SeatNo::runner());
+    check_exception(&rt, &mut guest, &mut seat);
     Ok(())
 }
 
@@ -86,57 +78,69 @@ fn a_guest_stops_where_its_log_is_full(rt: HostRuntime) -> Result<(), Fail> {
     let mut guest = booted(&rt, &COUNTING, 1)?;
     let mut seat = Seat::new(SeatNo::runner());
     make_steps(&rt, &mut guest, &mut seat, 1);
-    assert!(rt; guest.log_room() == Err(Stop::LogFull));
+    expect(&rt, "after a step", guest.log_room(), Err(Stop::LogFull));
     Ok(())
 }
+
+/// Seats, how many steps there are once each has made its one, and in how many runs.
+static ONE_STEP_EACH: [(u8, u64, u32); 7] = [
+    (1, 1, 1),
+    (1, 2, 1),
+    (0, 3, 2),
+    (0, 4, 2),
+    (3, 5, 3),
+    (3, 6, 3),
+    (1, 7, 4),
+];
 
 /// Adds a step of a seat, and checks how many steps there are, and in how many runs.
 fn check_step(rt: &impl Abort, log: &mut Log, seat: u8, len: u64, runs: u32)
     requires { seat < 4 }
 {
-    assert!(rt; log.make_room().is_ok());
+    assert!(rt; log.make_room().is_ok(), "item {len}");
     log.step(SeatNo::new(seat));
-    assert_eq!(rt; (log.len(), log.runs()), (len, runs), "after item {len}");
+    expect(
+        rt,
+        ("after item", len),
+        (log.len(), log.runs()),
+        (len, runs),
+    );
+}
+
+fn check_one_step_each(rt: &impl Abort, log: &mut Log) {
+    for (seat, len, runs) in &ONE_STEP_EACH {
+        check_step(rt, log, *seat % 4, *len, *runs);
+    }
 }
 
 #[test]
 fn neighbouring_steps_of_one_seat_are_one_run(rt: HostRuntime) {
     let mut log = Log::new(rt.alloc(), 4);
-    assert_eq!(rt; (log.len(), log.runs()), (0, 0));
-    for (seat, len, runs) in [
-        (1, 1, 1),
-        (1, 2, 1),
-        (0, 3, 2),
-        (0, 4, 2),
-        (3, 5, 3),
-        (3, 6, 3),
-        (1, 7, 4),
-    ] {
-        check_step(&rt, &mut log, seat, len, runs);
-    }
-    assert!(rt; log.make_room() == Err(Stop::LogFull));
+    expect(&rt, "at first", (log.len(), log.runs()), (0, 0));
+    check_one_step_each(&rt, &mut log);
+    expect(&rt, "at last", log.make_room(), Err(Stop::LogFull));
 }
 
 /// It stores to the last word of two pages, maps fffff000 to physical address 1000 and 0 to 0, and then enters user mode.
-const MAPPING: [u32; 18] = [
-    0x3c02_8000, // lui $2,0x8000
-    0x3c01_7654, // lui $1,0x7654
-    0x3421_3210, // ori $1,$1,0x3210
-    0xac41_1ffc, // sw $1,0x1ffc($2)
-    0x2401_e000, // addiu $1,$0,0xe000
-    0x4081_5000, // mtc0 $1,EntryHi: ffffe000
-    0x2401_0042, // addiu $1,$0,0x42: frame 1, valid
-    0x4081_1800, // mtc0 $1,EntryLo1
-    0x4200_0002, // tlbwi, of entry 0
-    0x2401_0001, // addiu $1,$0,1
-    0x4081_0000, // mtc0 $1,Index
-    0x4080_5000, // mtc0 $0,EntryHi
-    0x2401_0002, // addiu $1,$0,2: frame 0, valid
-    0x4081_1000, // mtc0 $1,EntryLo0
-    0x4080_1800, // mtc0 $0,EntryLo1
-    0x4200_0002, // tlbwi, of entry 1
-    0x2401_0010, // addiu $1,$0,0x10: UM
-    0x4081_6000, // mtc0 $1,Status
+const MAPPING: [Code; 18] = [
+    Word(0x3c02_8000), // lui $2,0x8000
+    Word(0x3c01_7654), // lui $1,0x7654
+    Word(0x3421_3210), // ori $1,$1,0x3210
+    Word(0xac41_1ffc), // sw $1,0x1ffc($2)
+    Word(0x2401_e000), // addiu $1,$0,0xe000
+    Word(0x4081_5000), // mtc0 $1,EntryHi: ffffe000
+    Word(0x2401_0042), // addiu $1,$0,0x42: frame 1, valid
+    Word(0x4081_1800), // mtc0 $1,EntryLo1
+    Word(0x4200_0002), // tlbwi, of entry 0
+    Word(0x2401_0001), // addiu $1,$0,1
+    Word(0x4081_0000), // mtc0 $1,Index
+    Word(0x4080_5000), // mtc0 $0,EntryHi
+    Word(0x2401_0002), // addiu $1,$0,2: frame 0, valid
+    Word(0x4081_1000), // mtc0 $1,EntryLo0
+    Word(0x4080_1800), // mtc0 $0,EntryLo1
+    Word(0x4200_0002), // tlbwi, of entry 1
+    Word(0x2401_0010), // addiu $1,$0,0x10: UM
+    Word(0x4081_6000), // mtc0 $1,Status
 ];
 
 /// Reads as the machine boots, and what they give. The buffer has as many bytes.
@@ -196,11 +200,7 @@ fn check_read<R: AllocGlobal + Abort>(
 ) -> Result<(), Fail> {
     let mut buffer = vec![in rt.alloc(); 0xa5; bytes.len()]?;
     let found = guest.debug_read(address, &mut buffer);
-    assert_eq!(rt;
-        (found, buffer.as_slice()),
-        (answer, bytes),
-        "{address:08x}"
-    );
+    expect(rt, address, (found, buffer.as_slice()), (answer, bytes));
     Ok(())
 }
 
@@ -227,11 +227,22 @@ fn check_refused<R: AllocGlobal + Abort>(
     Ok(())
 }
 
+fn check_at_boot<R: AllocGlobal + Abort>(rt: &R, guest: &Guest) -> Result<(), Fail> {
+    check_given(rt, guest, &GIVEN_AT_BOOT)?;
+    check_refused(rt, guest, &REFUSED_AT_BOOT)
+}
+
 #[test]
 fn a_guest_gives_its_bytes_at_boot(rt: HostRuntime) -> Result<(), Fail> {
     let guest = booted(&rt, &MAPPING, 16)?;
-    check_given(&rt, &guest, &GIVEN_AT_BOOT)?;
-    check_refused(&rt, &guest, &REFUSED_AT_BOOT)
+    check_at_boot(&rt, &guest)
+}
+
+fn check_where_mapped<R: AllocGlobal + Abort>(rt: &R, guest: &Guest) -> Result<(), Fail> {
+    let is_user_mode = guest.view().cpu.cp0().is_user_mode();
+    expect(rt, "user mode", is_user_mode, true);
+    check_given(rt, guest, &GIVEN_WHERE_MAPPED)?;
+    check_refused(rt, guest, &REFUSED_WHERE_MAPPED)
 }
 
 #[test]
@@ -239,7 +250,5 @@ fn a_guest_gives_its_bytes_where_mapped(rt: HostRuntime) -> Result<(), Fail> {
     let mut guest = booted(&rt, &MAPPING, 16)?;
     let mut seat = Seat::new(SeatNo::runner());
     make_steps(&rt, &mut guest, &mut seat, MAPPING.len());
-    assert!(rt; guest.view().cpu.cp0().is_user_mode());
-    check_given(&rt, &guest, &GIVEN_WHERE_MAPPED)?;
-    check_refused(&rt, &guest, &REFUSED_WHERE_MAPPED)
+    check_where_mapped(&rt, &guest)
 }

@@ -1,20 +1,10 @@
 //! Tables of the registers, of exception entry, of the timer and of the interrupts.
-use crate::{Coprocessor, Cp0, Exc};
-use std::fmt::Debug;
+use super::expect;
+use mips_cp0::{Coprocessor, Cp0, Exc};
 use std::process::Abort;
 
-// Asserts one case. The tests share it, since each assertion in a function's own body makes its proof much longer.
-fn expect<C: Debug + Drop, T: PartialEq + Debug + Drop>(
-    rt: &impl Abort,
-    case: C,
-    got: T,
-    wanted: T,
-) {
-    assert!(rt; got == wanted, "{case:?}: {got:?}, not {wanted:?}");
-}
-
 // Number, select, and what a read gives at boot, after a write of FFFFFFFF, and after one of 00000000.
-const REGISTERS: [(u32, u32, u32, u32, u32); 18] = [
+static REGISTERS: [(u32, u32, u32, u32, u32); 18] = [
     (0, 0, 0, 0x0000_000f, 0),
     (1, 0, 0x0000_000f, 0x0000_000f, 0x0000_000f),
     (2, 0, 0, 0x03ff_ffff, 0),
@@ -47,14 +37,16 @@ fn reads(number: u32, select: u32) -> (u32, u32, u32) {
 
 #[test]
 fn registers_read_and_write(rt: HostRuntime) {
-    for (number, select, boot, ones, zeros) in REGISTERS {
+    for row in &REGISTERS {
+        let (number, select, boot, ones, zeros) = *row;
         let values = (boot, ones, zeros);
         expect(&rt, (number, select), reads(number, select), values);
     }
 }
 
 fn is_register(number: u32, select: u32) -> bool {
-    for (known, known_select, _, _, _) in REGISTERS {
+    for row in &REGISTERS {
+        let (known, known_select, _, _, _) = *row;
         if number == known && select == known_select {
             return true;
         }
@@ -62,44 +54,59 @@ fn is_register(number: u32, select: u32) -> bool {
     false
 }
 
+// A write to each number that is no register's reads as zero.
+fn others_read_zero(rt: &impl Abort, cp0: &mut Cp0, number: u32) {
+    for select in 0..8 {
+        if !is_register(number, select) {
+            cp0.write(number, select, 0xffff_ffff);
+            expect(rt, (number, select), cp0.read(number, select, 0), 0);
+        }
+    }
+}
+
+// Each register reads as at boot.
+fn registers_are_untouched(rt: &impl Abort, cp0: &Cp0) {
+    for row in &REGISTERS {
+        let (number, select, boot, _, _) = *row;
+        let value = cp0.read(number, select, 0);
+        expect(rt, ("untouched", number, select), value, boot);
+    }
+}
+
 #[test]
 fn other_numbers_read_zero(rt: HostRuntime) {
     let mut cp0 = Cp0::boot();
     for number in 0..32 {
-        for select in 0..8 {
-            if !is_register(number, select) {
-                cp0.write(number, select, 0xffff_ffff);
-                expect(&rt, (number, select), cp0.read(number, select, 0), 0);
-            }
-        }
+        others_read_zero(&rt, &mut cp0, number);
     }
-    for (number, select, boot, _, _) in REGISTERS {
-        let value = cp0.read(number, select, 0);
-        expect(&rt, ("untouched", number, select), value, boot);
-    }
+    registers_are_untouched(&rt, &cp0);
 }
+
+// The lines and what Cause shows of them.
+static LINES: [(u8, u32); 6] = [
+    (0x00, 0),
+    (0x04, 0x0400),
+    (0x08, 0x0800),
+    (0x0c, 0x0c00),
+    (0xf3, 0),
+    (0xff, 0x0c00),
+];
 
 #[test]
 fn cause_shows_the_lines(rt: HostRuntime) {
     let mut cp0 = Cp0::boot();
-    for (lines, shown) in [
-        (0x00, 0),
-        (0x04, 0x0400),
-        (0x08, 0x0800),
-        (0x0c, 0x0c00),
-        (0xf3, 0),
-        (0xff, 0x0c00),
-    ] {
+    for row in &LINES {
+        let (lines, shown) = *row;
         expect(&rt, ("lines", lines), cp0.read(13, 0, lines), shown);
     }
     cp0.write(13, 0, 0xffff_ffff);
-    expect(&rt, "Cause", cp0.read(13, 0, 0xff), 0x0080_0f00);
-    expect(&rt, "Status", cp0.read(12, 0, 0xff), 0);
+    let after = (cp0.read(13, 0, 0xff), cp0.read(12, 0, 0xff));
+    expect(&rt, "Cause and Status", after, (0x0080_0f00, 0));
 }
 
 // An exception, its code, the coprocessor that it names, the offset of its vector with EXL clear, the address that
 // BadVAddr takes, and whether Context and EntryHi take it too.
-const EXCEPTIONS: [(Exc, u32, u32, u32, Option<u32>, bool); 18] = [
+static EXCEPTIONS: [(Exc, u32, u32, u32, Option<u32>, bool); 18] = [
     (Exc::Interrupt, 0, 0, 0x180, None, false),
     (
         Exc::Modified {
@@ -253,30 +260,53 @@ fn entered(exc: Exc, nested: bool, in_slot: bool, bootstrap: bool) -> (u32, [u32
     (vector, exception_registers(&cp0))
 }
 
+// Whether it is within a handler, whether in a delay slot, EPC and the bit BD of Cause.
+static PLACES: [(bool, bool, u32, u32); 4] = [
+    (false, false, 0x8000_2000, 0),
+    (false, true, 0x8000_1ffc, 0x8000_0000),
+    (true, false, 0x8000_0ffc, 0x8000_0000),
+    (true, true, 0x8000_0ffc, 0x8000_0000),
+];
+
+// The registers that the exception of a row leaves.
+fn left_by(
+    row: &(Exc, u32, u32, u32, Option<u32>, bool),
+    epc: u32,
+    delay: u32,
+    status: u32,
+) -> [u32; 6] {
+    let (_, code, coprocessor, _, bad, by_tlb) = *row;
+    let (context, entry_hi) = if by_tlb {
+        (0xab80_2010, 0x0040_20ff)
+    } else {
+        (0xab80_0000, 0xffff_e0ff)
+    };
+    let cause = delay | coprocessor << 28 | code << 2;
+    [epc, cause, status, bad.unwrap_or(0), context, entry_hi]
+}
+
+// The exception of a row at each place; within a handler its vector is the general one.
+fn exception_enters(
+    rt: &impl Abort,
+    row: &(Exc, u32, u32, u32, Option<u32>, bool),
+    bootstrap: bool,
+    base: u32,
+    status: u32,
+) {
+    let (exc, _, _, offset, _, _) = *row;
+    for place in &PLACES {
+        let (nested, in_slot, epc, delay) = *place;
+        let vector = base | if nested { 0x180 } else { offset };
+        let wanted = (vector, left_by(row, epc, delay, status));
+        let case = (exc, nested, in_slot, bootstrap);
+        expect(rt, case, entered(exc, nested, in_slot, bootstrap), wanted);
+    }
+}
+
 // Each exception with BEV clear or set, the base of the vectors then, and Status.
 fn exceptions_enter(rt: &impl Abort, bootstrap: bool, base: u32, status: u32) {
-    for (exc, code, coprocessor, offset, bad, by_tlb) in EXCEPTIONS {
-        let bad = bad.unwrap_or(0);
-        let (context, entry_hi) = if by_tlb {
-            (0xab80_2010, 0x0040_20ff)
-        } else {
-            (0xab80_0000, 0xffff_e0ff)
-        };
-        for (nested, in_slot, offset, epc, delay) in [
-            (false, false, offset, 0x8000_2000, 0),
-            (false, true, offset, 0x8000_1ffc, 0x8000_0000),
-            (true, false, 0x180, 0x8000_0ffc, 0x8000_0000),
-            (true, true, 0x180, 0x8000_0ffc, 0x8000_0000),
-        ] {
-            let vector = base | offset;
-            let cause = delay | coprocessor << 28 | code << 2;
-            expect(
-                rt,
-                (exc, nested, in_slot, bootstrap),
-                entered(exc, nested, in_slot, bootstrap),
-                (vector, [epc, cause, status, bad, context, entry_hi]),
-            );
-        }
+    for row in &EXCEPTIONS {
+        exception_enters(rt, row, bootstrap, base, status);
     }
 }
 
@@ -365,71 +395,108 @@ fn eret_returns(rt: HostRuntime) {
 #[test]
 fn timer_interrupts(rt: HostRuntime) {
     let mut cp0 = Cp0::boot();
+    timer_is_not_due(&rt, &mut cp0);
+    timer_is_due(&rt, &mut cp0);
+    timer_is_cleared(&rt, &mut cp0);
+}
+
+// Five instructions, with the writes of the second and of the fourth.
+fn timer_is_not_due(rt: &impl Abort, cp0: &mut Cp0) {
     for step in 1..6 {
         cp0.tick();
-        expect(&rt, ("step", step), cp0.interrupt_due(0), false);
-        if step == 2 {
-            cp0.write(11, 0, 6);
-        }
-        if step == 4 {
-            cp0.write(12, 0, 0x8001);
+        expect(rt, ("step", step), cp0.interrupt_due(0), false);
+        match step {
+            2 => cp0.write(11, 0, 6),
+            4 => cp0.write(12, 0, 0x8001),
+            _ => (),
         }
     }
+}
+
+fn timer_is_due(rt: &impl Abort, cp0: &mut Cp0) {
     cp0.tick();
-    expect(&rt, "Count is Compare", cp0.interrupt_due(0), true);
+    let due = cp0.interrupt_due(0);
     let vector = cp0.enter(Exc::Interrupt, 0x8000_0014, false);
-    expect(&rt, "vector", vector, 0x8000_0180);
+    let entered = (due, vector, cp0.interrupt_due(0));
     expect(
-        &rt,
+        rt,
+        "due, vector and due then",
+        entered,
+        (true, 0x8000_0180, false),
+    );
+    expect(
+        rt,
         "EPC, Cause, Status, Count and Random",
-        [
-            cp0.epc(),
-            cp0.cause(),
-            cp0.status(),
-            cp0.read(9, 0, 0),
-            cp0.read(1, 0, 0),
-        ],
+        timer_registers(cp0),
         [0x8000_0014, 0x0000_8000, 0x0000_8003, 6, 9],
     );
-    expect(&rt, "in the handler", cp0.interrupt_due(0), false);
-    timer_is_cleared(&rt, cp0);
+}
+
+// EPC, Cause, Status, Count and Random.
+fn timer_registers(cp0: &Cp0) -> [u32; 5] {
+    [
+        cp0.epc(),
+        cp0.cause(),
+        cp0.status(),
+        cp0.read(9, 0, 0),
+        cp0.read(1, 0, 0),
+    ]
 }
 
 // The writes of Count and of Compare behind an interrupt of the timer.
-fn timer_is_cleared(rt: &impl Abort, mut cp0: Cp0) {
+fn timer_is_cleared(rt: &impl Abort, cp0: &mut Cp0) {
     cp0.write(9, 0, 0xffff_ffff);
+    let left = cp0.cause();
+    cp0.write(11, 0, 0);
+    let cleared = (left, cp0.cause());
     expect(
         rt,
-        "a write of Count leaves the timer",
-        cp0.cause(),
-        0x0000_8000,
+        "Cause after writes of Count and of Compare",
+        cleared,
+        (0x0000_8000, 0),
     );
-    cp0.write(11, 0, 0);
-    expect(rt, "a write of Compare clears it", cp0.cause(), 0);
     cp0.tick();
-    expect(rt, "Count goes round", cp0.read(9, 0, 0), 0);
-    expect(rt, "the timer at Count 0", cp0.cause(), 0x0000_8000);
+    let round = (cp0.read(9, 0, 0), cp0.cause());
+    expect(
+        rt,
+        "Count goes round: Count and Cause",
+        round,
+        (0, 0x0000_8000),
+    );
 }
+
+// The interrupts of a mask with each of the low bits of Status, and those of the other masks.
+fn enabled_by_its_mask(rt: &impl Abort, cp0: &mut Cp0, lines: u8, mask: u32) {
+    for level in 0..8 {
+        cp0.write(12, 0, mask | level);
+        let of = cp0.interrupt_due(lines);
+        cp0.write(12, 0, (0x0000_ff00 ^ mask) | level);
+        let due = (of, cp0.interrupt_due(lines));
+        expect(
+            rt,
+            ("of and without", mask, level),
+            due,
+            (level == 1, false),
+        );
+    }
+}
+
+// The bits of Cause that are written, the lines, and the mask of both.
+static SOURCES: [(u32, u8, u32); 5] = [
+    (0x0000_0100, 0x00, 0x0000_0100),
+    (0x0000_0200, 0x00, 0x0000_0200),
+    (0, 0x04, 0x0000_0400),
+    (0, 0x08, 0x0000_0800),
+    (0, 0x0c, 0x0000_0c00),
+];
 
 #[test]
 fn interrupts_are_enabled(rt: HostRuntime) {
-    for (source, lines, mask) in [
-        (0x0000_0100, 0x00, 0x0000_0100),
-        (0x0000_0200, 0x00, 0x0000_0200),
-        (0, 0x04, 0x0000_0400),
-        (0, 0x08, 0x0000_0800),
-        (0, 0x0c, 0x0000_0c00),
-    ] {
+    for row in &SOURCES {
+        let (source, lines, mask) = *row;
         let mut cp0 = Cp0::boot();
         cp0.write(13, 0, source);
-        for level in 0..8 {
-            cp0.write(12, 0, mask | level);
-            let due = cp0.interrupt_due(lines);
-            expect(&rt, ("of", mask, level), due, level == 1);
-            cp0.write(12, 0, (0x0000_ff00 ^ mask) | level);
-            let due = cp0.interrupt_due(lines);
-            expect(&rt, ("without", mask, level), due, false);
-        }
+        enabled_by_its_mask(&rt, &mut cp0, lines, mask);
         cp0.write(12, 0, 0x0000_ff01);
         let due = cp0.interrupt_due(0xf3);
         expect(&rt, ("lines that are not there", source), due, source != 0);
@@ -446,16 +513,21 @@ fn goes_round(rt: &impl Abort, cp0: &mut Cp0, wired: u32) {
     expect(rt, ("round of Wired", wired), cp0.random(), 15);
 }
 
+// A write of Wired and two rounds.
+fn goes_round_twice(rt: &impl Abort, cp0: &mut Cp0, wired: u32) {
+    cp0.write(6, 0, wired);
+    expect(rt, ("a write of Wired", wired), cp0.random(), 15);
+    goes_round(rt, cp0, wired);
+    goes_round(rt, cp0, wired);
+}
+
 #[test]
 fn random_goes_round(rt: HostRuntime) {
     let mut cp0 = Cp0::boot();
     cp0.tick();
     expect(&rt, "one instruction after boot", cp0.read(1, 0, 0), 14);
     for wired in [0, 5, 15] {
-        cp0.write(6, 0, wired);
-        expect(&rt, ("a write of Wired", wired), cp0.random(), 15);
-        goes_round(&rt, &mut cp0, wired);
-        goes_round(&rt, &mut cp0, wired);
+        goes_round_twice(&rt, &mut cp0, wired);
     }
 }
 
@@ -495,27 +567,47 @@ fn modes_and_coprocessors(rt: HostRuntime) {
     }
 }
 
+// An Index, and the entry that it names.
+static INDEXES: [(u32, u32); 5] = [
+    (0, 0),
+    (15, 15),
+    (0x8000_0000, 0),
+    (0x8000_0007, 7),
+    (16, 0),
+];
+
+fn index_is_kept(rt: &impl Abort, cp0: &mut Cp0) {
+    for row in &INDEXES {
+        let (index, _) = *row;
+        cp0.set_index(index);
+        expect(
+            rt,
+            "Index and its entry",
+            (cp0.read(0, 0, 0), cp0.indexed()),
+            *row,
+        );
+    }
+}
+
+// EntryHi, EntryLo0, EntryLo1 and the address space.
+fn entry_registers(cp0: &Cp0) -> ([u32; 3], u8) {
+    (
+        [cp0.entry_hi(), cp0.entry_lo0(), cp0.entry_lo1()],
+        cp0.asid(),
+    )
+}
+
 #[test]
 fn registers_of_the_tlb(rt: HostRuntime) {
     let mut cp0 = Cp0::boot();
-    for (index, entry) in [
-        (0, 0),
-        (15, 15),
-        (0x8000_0000, 0),
-        (0x8000_0007, 7),
-        (16, 0),
-    ] {
-        cp0.set_index(index);
-        expect(&rt, "Index", cp0.read(0, 0, 0), index);
-        expect(&rt, ("entry of Index", index), cp0.indexed(), entry);
-    }
+    index_is_kept(&rt, &mut cp0);
     cp0.set_entry(0x0040_2005, 0x83, 0x01);
+    let entry = ([0x0040_2005, 0x83, 0x01], 5);
     expect(
         &rt,
-        "EntryHi, EntryLo0 and EntryLo1",
-        [cp0.entry_hi(), cp0.entry_lo0(), cp0.entry_lo1()],
-        [0x0040_2005, 0x83, 0x01],
+        "EntryHi, EntryLo0, EntryLo1 and ASID",
+        entry_registers(&cp0),
+        entry,
     );
-    expect(&rt, "ASID", cp0.asid(), 5);
     expect(&rt, "error level", cp0.is_error_level(), false);
 }

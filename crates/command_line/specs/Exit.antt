@@ -1,7 +1,7 @@
 -- How the program ends.
 use Rattle.std.specs.Prelude.{ℕ}
-use Rattle.vmhost.specs.declared.program.Status.{Status}
-use Rattle.vmhost.specs.declared.program.Status.TheVariants.{Done, Refused, Usage, Stopped}
+use Rattle.command_line.specs.declared.program.Status.{Status}
+use Rattle.command_line.specs.declared.program.Status.TheVariants.{Done, Refused, Usage, Stopped}
 
 -- the status as the system sees it
 abbrev pub code_of : Status → ℕ

@@ -1,0 +1,8 @@
+//! The tests of the crates that the processor is made of: `mips_isa`, `mips_alu`, `mips_cp0`, `mips_tlb` and
+//! `mips_step`.
+//!
+//! They stand apart from these so that a run of the tests proves them alone.
+#![tactic(auto)]
+
+#[cfg(test)]
+mod tests;
