@@ -1,10 +1,9 @@
 //! Images that are written and read back.
 use super::memory::image;
-use super::{is_segment, refusal, word_of};
+use super::{expect, is_segment, refusal, taken, word_of};
 use elf32::{Image, Segment, read, write};
 use std::alloc::{AllocError, Global};
 use std::process::Abort;
-use std::test::Fail;
 
 /// An image of so many segments, each of them 4 bytes with their number in 8 bytes of memory.
 fn counted(alloc: Global, count: u8) -> Result<Image, AllocError> {
@@ -34,33 +33,31 @@ fn is_same(image: &Image, other: &Image) -> bool {
         ))
 }
 
-fn check_reads_back<R: AllocGlobal + Abort>(rt: &R, count: u8) -> Result<(), Fail> {
-    let image = counted(rt.alloc(), count)?;
-    let file = write(rt.alloc(), &image)?;
-    assert_eq!(rt; file.len(), 52 + 36 * usize::from(count));
-    let back = read(rt.alloc(), &file, 1)?;
-    assert!(rt; is_same(&back, &image), "{count} segments");
-    Ok(())
+/// The case is the number of segments.
+fn check_reads_back<R: AllocGlobal + Abort>(rt: &R, count: u8) {
+    let image = taken(rt, count, counted(rt.alloc(), count));
+    let file = taken(rt, count, write(rt.alloc(), &image));
+    expect(rt, count, file.len(), 52 + 36 * usize::from(count));
+    let back = taken(rt, count, read(rt.alloc(), &file, 1));
+    expect(rt, count, is_same(&back, &image), true);
 }
 
 #[test]
-fn up_to_64_segments_read_back_in_their_order(rt: HostRuntime) -> Result<(), Fail> {
+fn up_to_64_segments_read_back_in_their_order(rt: HostRuntime) {
     for count in [1, 2, 3, 63, 64] {
-        check_reads_back(&rt, count)?;
+        check_reads_back(&rt, count);
     }
-    Ok(())
 }
 
 #[test]
-fn a_file_of_65_segments_is_refused(rt: HostRuntime) -> Result<(), Fail> {
-    let image = counted(rt.alloc(), 65)?;
-    let file = write(rt.alloc(), &image)?;
-    assert_eq!(rt; refusal(rt.alloc(), &file, 1), 4);
-    Ok(())
+fn a_file_of_65_segments_is_refused(rt: HostRuntime) {
+    let image = taken(&rt, "image", counted(rt.alloc(), 65));
+    let file = taken(&rt, "file", write(rt.alloc(), &image));
+    expect(&rt, "fault", refusal(rt.alloc(), &file, 1), 4);
 }
 
 /// Words of the file of `image`: its second program header is of a segment of 5 bytes after one of 3.
-const WORDS: [(usize, u32); 16] = [
+static WORDS: [(usize, u32); 16] = [
     (24, 0x8000_001c),
     (44, 2),
     (56, 116),
@@ -79,18 +76,23 @@ const WORDS: [(usize, u32); 16] = [
     (120, 0x5555_5555),
 ];
 
-fn check_word(rt: &impl Abort, file: &[u8], place: usize, want: u32) {
-    assert_eq!(rt; word_of(file, place), Some(want), "at {place}");
+/// The case is the word's place.
+fn check_words(rt: &impl Abort, file: &[u8]) {
+    for (place, want) in &WORDS {
+        expect(rt, *place, word_of(file, *place), Some(*want));
+    }
+}
+
+/// The file of `image`.
+fn written<R: AllocGlobal + Abort>(rt: &R) -> Vec<u8> {
+    let image = taken(rt, "image", image(rt.alloc()));
+    taken(rt, "file", write(rt.alloc(), &image))
 }
 
 #[test]
-fn bytes_stand_one_after_the_other(rt: HostRuntime) -> Result<(), Fail> {
-    let image = image(rt.alloc())?;
-    let file = write(rt.alloc(), &image)?;
-    for (place, want) in WORDS {
-        check_word(&rt, &file, place, want);
-    }
-    let back = read(rt.alloc(), &file, 1)?;
-    assert_eq!(rt; (file.len(), back.segments.len()), (124, 2));
-    Ok(())
+fn bytes_stand_one_after_the_other(rt: HostRuntime) {
+    let file = written(&rt);
+    check_words(&rt, &file);
+    let back = taken(&rt, "read back", read(rt.alloc(), &file, 1));
+    expect(&rt, "lengths", (file.len(), back.segments.len()), (124, 2));
 }

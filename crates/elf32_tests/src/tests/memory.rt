@@ -1,11 +1,11 @@
 //! Calls that take memory: the answer is the right one, or says that memory was wanted, and is no other.
-use super::is_segment;
+use super::{expect, is_segment};
 use elf32::{ElfError, Image, Segment, read, write};
 use std::alloc::{AllocError, Global};
 
 /// The bytes 33 33 33 at 80000100, in 4 bytes of memory, and behind them 55 55 55 55 55 at 80000000, in 32 bytes. It is
 /// entered at 8000001C.
-const FILE: [u8; 124] = [
+static FILE: [u8; 124] = [
     0x7f, 0x45, 0x4c, 0x46, 0x01, 0x01, 0x01, 0x00, 0x00, 0x00, 0x00, 0x00, 0x00, 0x00, 0x00, 0x00,
     0x02, 0x00, 0x08, 0x00, 0x01, 0x00, 0x00, 0x00, 0x1c, 0x00, 0x00, 0x80, 0x34, 0x00, 0x00, 0x00,
     0x00, 0x00, 0x00, 0x00, 0x00, 0x00, 0x00, 0x00, 0x34, 0x00, 0x20, 0x00, 0x02, 0x00, 0x00, 0x00,
@@ -50,8 +50,8 @@ pub fn image(alloc: Global) -> Result<Image, AllocError> {
 #[test]
 fn wanted_by_read(rt: HostRuntime) {
     match read(rt.alloc(), &FILE, 1) {
-        Ok(image) => assert!(rt; is_image(&image)),
-        Err(error) => assert_eq!(rt; error, ElfError::Memory),
+        Ok(image) => expect(&rt, "image", is_image(&image), true),
+        Err(error) => expect(&rt, "error", error, ElfError::Memory),
     }
 }
 
@@ -60,7 +60,7 @@ fn wanted_by_read(rt: HostRuntime) {
 fn wanted_by_write(rt: HostRuntime) {
     if let Ok(image) = image(rt.alloc()) {
         match write(rt.alloc(), &image) {
-            Ok(file) => assert!(rt; file.as_slice() == FILE.as_slice()),
+            Ok(file) => expect(&rt, "file", file.as_slice(), FILE.as_slice()),
             Err(AllocError) => (),
         }
     }

@@ -1,10 +1,10 @@
 //! A file of one segment, byte by byte.
-use super::is_segment;
+use super::{expect, is_single, taken};
 use elf32::{Image, Segment, read, write};
-use std::test::Fail;
+use std::alloc::{AllocError, Global};
 
 /// The words 24010005, 00411021, 1420FFFE and 2421FFFF at 80000000, where it is entered.
-pub const SINGLE: [u8; 100] = [
+pub static SINGLE: [u8; 100] = [
     0x7f, 0x45, 0x4c, 0x46, 0x01, 0x01, 0x01, 0x00, 0x00, 0x00, 0x00, 0x00, 0x00, 0x00, 0x00, 0x00,
     0x02, 0x00, 0x08, 0x00, 0x01, 0x00, 0x00, 0x00, 0x00, 0x00, 0x00, 0x80, 0x34, 0x00, 0x00, 0x00,
     0x00, 0x00, 0x00, 0x00, 0x00, 0x00, 0x00, 0x00, 0x34, 0x00, 0x20, 0x00, 0x01, 0x00, 0x00, 0x00,
@@ -15,35 +15,34 @@ pub const SINGLE: [u8; 100] = [
 ];
 
 /// The bytes of its segment.
-const BYTES: [u8; 16] = [
+static BYTES: [u8; 16] = [
     0x05, 0x00, 0x01, 0x24, 0x21, 0x10, 0x41, 0x00, 0xfe, 0xff, 0x20, 0x14, 0xff, 0xff, 0x21, 0x24,
 ];
 
 #[test]
-fn it_reads_back(rt: HostRuntime) -> Result<(), Fail> {
-    let image = read(rt.alloc(), &SINGLE, 1)?;
-    assert_eq!(rt; image.entry, 0x8000_0000);
-    let is_right = match image.segments.as_slice() {
-        [segment] => is_segment(segment, 0x8000_0000, &BYTES, 16),
-        _ => false,
-    };
-    assert!(rt; is_right);
-    Ok(())
+fn it_reads_back(rt: HostRuntime) {
+    let image = taken(&rt, "image", read(rt.alloc(), &SINGLE, 1));
+    let found = (image.entry, is_single(&image, &BYTES, 16));
+    expect(&rt, "image", found, (0x8000_0000, true));
+}
+
+/// The image of the file.
+fn single(alloc: Global) -> Result<Image, AllocError> {
+    let mut segments = Vec::new(alloc);
+    segments.push(Segment {
+        address: 0x8000_0000,
+        bytes: BYTES.to_vec(alloc)?,
+        size: 16,
+    })?;
+    Ok(Image {
+        entry: 0x8000_0000,
+        segments,
+    })
 }
 
 #[test]
-fn it_is_written(rt: HostRuntime) -> Result<(), Fail> {
-    let mut segments = Vec::new(rt.alloc());
-    segments.push(Segment {
-        address: 0x8000_0000,
-        bytes: BYTES.to_vec(rt.alloc())?,
-        size: 16,
-    })?;
-    let image = Image {
-        entry: 0x8000_0000,
-        segments,
-    };
-    let file = write(rt.alloc(), &image)?;
-    assert!(rt; file.as_slice() == SINGLE.as_slice());
-    Ok(())
+fn it_is_written(rt: HostRuntime) {
+    let image = taken(&rt, "image", single(rt.alloc()));
+    let file = taken(&rt, "file", write(rt.alloc(), &image));
+    expect(&rt, "file", file.as_slice(), SINGLE.as_slice());
 }

@@ -1,7 +1,7 @@
 //! Every beginning of a good source has the verdict that the rules give it.
-use masm::{AsmError, assemble_image};
+use super::{expect, fault_of, taken};
+use masm::assemble_image;
 use std::process::Abort;
-use std::test::Fail;
 
 /// The first length from which on, up to the next row's, a beginning has this fault and line; 0 and 0 where it is taken.
 type Run = (usize, u32, u64);
@@ -75,27 +75,31 @@ static LONG_RUNS: [Run; 38] = [
     (69, 0, 0),
 ];
 
-fn beginnings(rt: &(impl Abort + AllocGlobal), source: &str, runs: &[Run]) -> Result<(), Fail> {
+/// What is wanted at this length: what the run says that begins there, or else what was wanted before.
+fn want_at(runs: &[Run], length: usize, before: (u32, u64)) -> (u32, u64) {
+    match runs.iter().find(|run| run.0 == length) {
+        Some((_, kind, line)) => (*kind, *line),
+        None => before,
+    }
+}
+
+fn beginning(rt: &(impl Abort + AllocGlobal), source: &str, length: usize, want: (u32, u64)) {
+    let beginning = taken(rt, length, source.get(..length).ok_or("no such beginning"));
+    let found = fault_of(assemble_image(rt.alloc(), beginning));
+    expect(rt, length, found, want);
+}
+
+fn beginnings(rt: &(impl Abort + AllocGlobal), source: &str, runs: &[Run]) {
     let mut want = (0, 0);
     for length in 0..=source.len() {
-        if let Some((_, kind, line)) = runs.iter().find(|run| run.0 == length) {
-            want = (*kind, *line);
-        }
-        let beginning = source.get(..length).ok_or("no such beginning")?;
-        let found = match assemble_image(rt.alloc(), beginning) {
-            Ok(_) => (0, 0),
-            Err(AsmError::Fault { fault, line }) => (fault.number(), line),
-            Err(AsmError::Memory(_)) => (100, 0),
-        };
-        assert_eq!(rt; found, want, "{length}");
+        want = want_at(runs, length, want);
+        beginning(rt, source, length, want);
     }
-    Ok(())
 }
 
 #[test]
-fn every_beginning(rt: HostRuntime) -> Result<(), Fail> {
-    assert_eq!(rt; SHORT.len(), 33);
-    beginnings(&rt, SHORT, &SHORT_RUNS)?;
-    assert_eq!(rt; LONG.len(), 69);
-    beginnings(&rt, LONG, &LONG_RUNS)
+fn every_beginning(rt: HostRuntime) {
+    expect(&rt, "lengths", (SHORT.len(), LONG.len()), (33, 69));
+    beginnings(&rt, SHORT, &SHORT_RUNS);
+    beginnings(&rt, LONG, &LONG_RUNS);
 }

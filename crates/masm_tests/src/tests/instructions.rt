@@ -1,8 +1,7 @@
 //! Every mnemonic with its operand forms: the line, and its word by the encodings of the standard (volume II).
-use super::word_and_line;
-use std::test::Fail;
+use super::{Word, word_and_line};
 
-static REGISTERS: [(u32, &'static str); 36] = [
+static REGISTERS: [Word; 36] = [
     (0x00430820, "add $1,$2,$3"),
     (0x00430821, "addu $1,$2,$3"),
     (0x00430822, "sub $1,$2,$3"),
@@ -41,7 +40,7 @@ static REGISTERS: [(u32, &'static str); 36] = [
     (0x70850005, "msubu $4,$5"),
 ];
 
-static TRAPS: [(u32, &'static str); 29] = [
+static TRAPS: [Word; 29] = [
     (0x0022fff0, "tge $1,$2,1023"),
     (0x03e00030, "tge $31,$0,0"),
     (0x0022fff1, "tgeu $1,$2,1023"),
@@ -73,7 +72,7 @@ static TRAPS: [(u32, &'static str); 29] = [
     (0x0000000c, "syscall 0"),
 ];
 
-static TRANSFERS: [(u32, &'static str); 26] = [
+static TRANSFERS: [Word; 26] = [
     (0x10220003, "beq $1,$2,0x80000010"),
     (0x10227fff, "beq $1,$2,0x80020000"),
     (0x14220003, "bne $1,$2,0x80000010"),
@@ -102,7 +101,7 @@ static TRANSFERS: [(u32, &'static str); 26] = [
     (0x0040f809, "jalr $31,$2"),
 ];
 
-static IMMEDIATES: [(u32, &'static str); 31] = [
+static IMMEDIATES: [Word; 31] = [
     (0x20418000, "addi $1,$2,-32768"),
     (0x20417fff, "addi $1,$2,32767"),
     (0x24418000, "addiu $1,$2,-32768"),
@@ -136,7 +135,7 @@ static IMMEDIATES: [(u32, &'static str); 31] = [
     (0xac018000, "sw $1,-32768($0)"),
 ];
 
-static SYSTEM: [(u32, &'static str); 13] = [
+static SYSTEM: [Word; 13] = [
     (0xbd1f0010, "cache 31,16($8)"),
     (0xcd1f0010, "pref 31,16($8)"),
     (0x40028001, "mfc0 $2,$16,1"),
@@ -154,11 +153,10 @@ static SYSTEM: [(u32, &'static str); 13] = [
 
 /// Each line, at 80000000, is assembled to its word, and the word is printed as the line.
 #[test]
-fn lines_and_words(rt: HostRuntime) -> Result<(), Fail> {
-    word_and_line(&rt, &REGISTERS)?;
-    word_and_line(&rt, &TRAPS)?;
-    word_and_line(&rt, &TRANSFERS)?;
-    word_and_line(&rt, &IMMEDIATES)?;
-    word_and_line(&rt, &SYSTEM)?;
-    Ok(())
+fn lines_and_words(rt: HostRuntime) {
+    word_and_line(&rt, &REGISTERS);
+    word_and_line(&rt, &TRAPS);
+    word_and_line(&rt, &TRANSFERS);
+    word_and_line(&rt, &IMMEDIATES);
+    word_and_line(&rt, &SYSTEM);
 }

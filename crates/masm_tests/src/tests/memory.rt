@@ -1,4 +1,5 @@
 //! Calls that take memory: the answer is the right one, or says that memory was wanted, and is no other.
+use super::expect;
 use elf32::{Image, Segment};
 use masm::{AsmError, assemble, assemble_image, disassembly_of, listing};
 use std::alloc::{AllocError, Global};
@@ -7,11 +8,11 @@ use std::alloc::{AllocError, Global};
 const SOURCE: &str =
     ".org 0x80000010\n.entry here\n.byte 5\n.org 0x80000000\n.word there\nhere: eret\nthere: .space 1\n";
 
-const FIRST: [u8; 1] = [0x05];
+static FIRST: [u8; 1] = [0x05];
 
-const SECOND: [u8; 9] = [0x08, 0x00, 0x00, 0x80, 0x18, 0x00, 0x00, 0x42, 0x00];
+static SECOND: [u8; 9] = [0x08, 0x00, 0x00, 0x80, 0x18, 0x00, 0x00, 0x42, 0x00];
 
-const FILE: [u8; 126] = [
+static FILE: [u8; 126] = [
     0x7f, 0x45, 0x4c, 0x46, 0x01, 0x01, 0x01, 0x00, 0x00, 0x00, 0x00, 0x00, 0x00, 0x00, 0x00, 0x00,
     0x02, 0x00, 0x08, 0x00, 0x01, 0x00, 0x00, 0x00, 0x04, 0x00, 0x00, 0x80, 0x34, 0x00, 0x00, 0x00,
     0x00, 0x00, 0x00, 0x00, 0x00, 0x00, 0x00, 0x00, 0x34, 0x00, 0x20, 0x00, 0x02, 0x00, 0x00, 0x00,
@@ -73,24 +74,24 @@ fn is_memory(error: AsmError) -> bool {
 #[test]
 fn wanted_by_assemble_image(rt: HostRuntime) {
     match assemble_image(rt.alloc(), SOURCE) {
-        Ok(image) => assert!(rt; is_image(&image)),
-        Err(error) => assert!(rt; is_memory(error)),
+        Ok(image) => expect(&rt, "image", is_image(&image), true),
+        Err(error) => expect(&rt, "error", is_memory(error), true),
     }
 }
 
 #[test]
 fn wanted_by_assemble(rt: HostRuntime) {
     match assemble(rt.alloc(), SOURCE) {
-        Ok(file) => assert!(rt; file.as_slice() == FILE.as_slice()),
-        Err(error) => assert!(rt; is_memory(error)),
+        Ok(file) => expect(&rt, "file", file.as_slice(), FILE.as_slice()),
+        Err(error) => expect(&rt, "error", is_memory(error), true),
     }
 }
 
 #[test]
 fn wanted_by_listing(rt: HostRuntime) {
     match listing(rt.alloc(), SOURCE) {
-        Ok(lines) => assert_eq!(rt; lines.as_str(), LINES),
-        Err(error) => assert!(rt; is_memory(error)),
+        Ok(lines) => expect(&rt, "lines", lines.as_str(), LINES),
+        Err(error) => expect(&rt, "error", is_memory(error), true),
     }
 }
 
@@ -99,7 +100,7 @@ fn wanted_by_listing(rt: HostRuntime) {
 fn wanted_by_disassembly_of(rt: HostRuntime) {
     if let Ok(image) = image(rt.alloc()) {
         match disassembly_of(rt.alloc(), &image) {
-            Ok(lines) => assert_eq!(rt; lines.as_str(), LINES),
+            Ok(lines) => expect(&rt, "lines", lines.as_str(), LINES),
             Err(AllocError) => (),
         }
     }
