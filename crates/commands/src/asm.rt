@@ -5,7 +5,7 @@ ghost use Rattle.masm.specs.Executables.{IsExecutableOf};
 ghost use Rattle.commands.specs.Faults.{IsAsmFault, IsAsmRefusal, IsAsmRunFault};
 ghost use Rattle.commands.specs.Sources.{source_text};
 
-use crate::fault::{Fault, file_fault};
+use crate::fault::{Fault, of_file};
 use crate::image_file::whole_file;
 use crate::order::Asm;
 use masm::assemble;
@@ -22,9 +22,9 @@ use std::rt::Files;
 pub fn assemble_file<'a, R: Files + AllocGlobal>(rt: &R, order: Asm<'a>) -> Result<(), Fault<'a>>
     ensures { IfErr result (λ fault. IsAsmRunFault order.entry fault) }
 {
-    let source = File::open(rt, order.source).map_err(|e| file_fault(order.source, &e))?;
+    let source = of_file(order.source, File::open(rt, order.source))?;
     let executable = executable_of(rt.alloc(), source, order.source)?;
-    let mut output = File::create(rt, order.output).map_err(|e| file_fault(order.output, &e))?;
+    let mut output = of_file(order.output, File::create(rt, order.output))?;
     write_file(&mut output, order.output, &executable)
 }
 
@@ -41,7 +41,7 @@ pub fn executable_of<'a, F: Read + Drop>(
     ensures refused { IfSome (F.remaining file) (λ all. IfErr result (λ fault. IsAsmRefusal all fault)) }
     ensures faults { IfErr result (λ fault. IsAsmFault (Fault.File name.entry) fault) }
 {
-    let bytes = whole_file(alloc, file).map_err(|e| file_fault(name, &e))?;
+    let bytes = of_file(name, whole_file(alloc, file))?;
     executable_in(alloc, &bytes)
 }
 
@@ -62,5 +62,5 @@ pub fn write_file<'a, F: Write>(file: &mut F, name: &'a str, bytes: &[u8]) -> Re
     ensures whole { OnOk result (Appends (F.contents file.old) (F.contents file.new) bytes.now) }
     ensures faults { IfErr result (λ fault. IsAsmFault (Fault.File name.entry) fault) }
 {
-    file.write_all(bytes).map_err(|e| file_fault(name, &e))
+    of_file(name, file.write_all(bytes))
 }

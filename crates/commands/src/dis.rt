@@ -3,7 +3,7 @@ ghost use Rattle.std.specs.Prelude.{◌≡◌, IfErr, IfOk, IfSome, string_bytes
 ghost use Rattle.commands.specs.Disassembled.{IsDisassemblyOf};
 ghost use Rattle.commands.specs.Faults.{IsDisFault, IsElfFault, IsElfRefusal};
 
-use crate::fault::{Fault, file_fault};
+use crate::fault::{Fault, of_file};
 use crate::image_file::{image_in, whole_file};
 use crate::order::Dis;
 use masm::disassembly_of;
@@ -25,7 +25,7 @@ pub fn disassemble_file<'a, R: Files + AllocGlobal>(
 ) -> Result<String, Fault<'a>>
     ensures { IfErr result (λ fault. IsDisFault order.entry fault) }
 {
-    let file = File::open(rt, order.image).map_err(|e| file_fault(order.image, &e))?;
+    let file = of_file(order.image, File::open(rt, order.image))?;
     disassembly(rt.alloc(), file, order.image)
 }
 
@@ -39,7 +39,7 @@ pub fn disassembly<'a, F: Read + Drop>(
     ensures refused { IfSome (F.remaining file) (λ all. IfErr result (λ fault. IsElfRefusal all 131072 fault)) }
     ensures faults { IfErr result (λ fault. IsElfFault (Fault.File name.entry) fault) }
 {
-    let bytes = whole_file(alloc, file).map_err(|e| file_fault(name, &e))?;
+    let bytes = of_file(name, whole_file(alloc, file))?;
     disassembly_in(alloc, &bytes)
 }
 

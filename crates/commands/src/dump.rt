@@ -19,25 +19,25 @@ pub struct Dump<'a> {
 
 impl fmt::Display for Dump<'_> {
     fn fmt<W: fmt::Write>(&self, f: &mut fmt::Formatter<W>) -> fmt::Result {
-        let cpu = self.view.cpu;
         writeln!(f, "steps {}", self.ran.steps)?;
-        writeln!(
-            f,
-            "pc {:08x} hi {:08x} lo {:08x}",
-            cpu.pc(),
-            cpu.hi(),
-            cpu.lo()
-        )?;
-        for row in 0..8 {
-            write_registers(f, cpu, row * 4)?;
-        }
-        write_system_registers(f, cpu)?;
+        write_cpu(f, self.view.cpu)?;
         writeln!(f, "out -")?;
         match self.ran.stop {
             None => Ok(()),
             Some(stop) => writeln!(f, "stop {}", stop.number()),
         }
     }
+}
+
+fn write_cpu<W: fmt::Write>(f: &mut fmt::Formatter<W>, cpu: &Cpu) -> fmt::Result {
+    let pc = cpu.pc();
+    let hi = cpu.hi();
+    let lo = cpu.lo();
+    writeln!(f, "pc {pc:08x} hi {hi:08x} lo {lo:08x}")?;
+    for row in 0..8 {
+        write_registers(f, cpu, row * 4)?;
+    }
+    write_system_registers(f, cpu)
 }
 
 fn write_registers<W: fmt::Write>(f: &mut fmt::Formatter<W>, cpu: &Cpu, first: u32) -> fmt::Result

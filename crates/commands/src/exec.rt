@@ -1,12 +1,12 @@
 //! The command `exec`.
 ghost use Rattle.std.specs.Prelude.{◌≡◌, IfErr, IfOk};
 ghost use Rattle.elf32.specs.Images.{FitsPages};
-ghost use Rattle.commands.specs.Faults.{IsFaultOf};
+ghost use Rattle.commands.specs.Faults.{IsElfRunFault, IsFaultOf};
 ghost use Rattle.commands.specs.Raw.{IsPageCount};
 ghost use Rattle.commands.specs.Runs.{IsCount};
 
 use crate::dump::Dump;
-use crate::fault::{Fault, file_fault};
+use crate::fault::{Fault, of_file};
 use crate::image_file::{elf_image, is_page_count, raw_image};
 use crate::machine::{Machine, Ran, Runner, run};
 use crate::order::{Exec, Format, MachineKind};
@@ -14,6 +14,7 @@ use elf32::Image;
 use flatvm::Flat;
 use std::alloc::{AllocError, Global};
 use std::fs::File;
+use std::io::Read;
 use std::rt::Files;
 
 /// What a run prints, and how it went.
@@ -36,20 +37,25 @@ pub fn run_image<'a, R: Files + AllocGlobal>(rt: &R, order: Exec<'a>) -> Result<
     ensures faults { IfErr result (λ fault. IsFaultOf order.entry.format order.entry fault) }
 {
     let image = load(rt, order)?;
-    let alloc = rt.alloc();
     let report = match order.kind {
-        MachineKind::Guest => report_run(
-            alloc,
-            Runner::boot(alloc, image, order.pages)?,
-            order.steps,
-        )?,
-        MachineKind::Flat => report_run(
-            alloc,
-            Flat::boot(alloc, &image, order.pages)?,
-            order.steps,
-        )?,
+        MachineKind::Guest => run_guest(rt.alloc(), image, order.pages, order.steps),
+        MachineKind::Flat => run_flat(rt.alloc(), &image, order.pages, order.steps),
     };
-    Ok(report)
+    Ok(report?)
+}
+
+fn run_guest(alloc: Global, image: Image, pages: u32, steps: u32) -> Result<Report, AllocError>
+    requires { FitsPages image pages }
+    ensures { IfOk result (λ r. IsCount steps r.ran) }
+{
+    report_run(alloc, Runner::boot(alloc, image, pages)?, steps)
+}
+
+fn run_flat(alloc: Global, image: &Image, pages: u32, steps: u32) -> Result<Report, AllocError>
+    requires { FitsPages image.now pages }
+    ensures { IfOk result (λ r. IsCount steps r.ran) }
+{
+    report_run(alloc, Flat::boot(alloc, image, pages)?, steps)
 }
 
 fn report_run<M: Machine + Drop>(
@@ -74,16 +80,22 @@ fn load<'a, R: Files + AllocGlobal>(rt: &R, order: Exec<'a>) -> Result<Image, Fa
     ensures legal { IfOk result (λ image. IsPageCount order.entry.pages) }
     ensures faults { IfErr result (λ fault. IsFaultOf order.entry.format order.entry fault) }
 {
-    let file = File::open(rt, order.image).map_err(|e| file_fault(order.image, &e))?;
+    let file = of_file(order.image, File::open(rt, order.image))?;
     match order.format {
         Format::Raw => raw_image(rt.alloc(), file, order),
-        Format::Elf => {
-            let image = elf_image(rt.alloc(), file, order.image, order.pages)?;
-            if is_page_count(order.pages) {
-                Ok(image)
-            } else {
-                Err(Fault::Limits)
-            }
-        }
+        Format::Elf => load_elf(rt.alloc(), file, order),
+    }
+}
+
+fn load_elf<'a, F: Read + Drop>(alloc: Global, file: F, order: Exec<'a>) -> Result<Image, Fault<'a>>
+    ensures fits { IfOk result (λ image. FitsPages image order.entry.pages) }
+    ensures legal { IfOk result (λ image. IsPageCount order.entry.pages) }
+    ensures faults { IfErr result (λ fault. IsElfRunFault order.entry fault) }
+{
+    let image = elf_image(alloc, file, order.image, order.pages)?;
+    if is_page_count(order.pages) {
+        Ok(image)
+    } else {
+        Err(Fault::Limits)
     }
 }

@@ -1,5 +1,5 @@
 //! Why a command is refused.
-ghost use Rattle.std.specs.Prelude.{◌≡◌, ◌≢◌};
+ghost use Rattle.std.specs.Prelude.{◌≡◌, ◌≢◌, ◌⊎◌, Err, IfErr, IfOk, Ok};
 ghost use Rattle.std.specs.IoError.{error_kind};
 ghost use Rattle.commands.specs.Faults.{fault_of};
 ghost use Rattle.commands.specs.declared.fault.Fault.TheVariants.{Memory};
@@ -56,9 +56,24 @@ impl From<AsmError> for Fault<'_> {
 pub fn file_fault<'a>(name: &'a str, error: &io::Error) -> Fault<'a>
     ensures memory { error_kind error.now ≡ ErrorKind.OutOfMemory → result ≡ Fault.Memory }
     ensures file { error_kind error.now ≢ ErrorKind.OutOfMemory → result ≡ Fault.File name.entry }
+    ensures either { (result ≡ Fault.Memory) ⊎ (result ≡ Fault.File name.entry) }
 {
     match error.kind() {
         ErrorKind::OutOfMemory => Fault::Memory,
         _ => Fault::File { name },
+    }
+}
+
+/// What was asked of the file of this name, with an error as `file_fault` has it.
+pub fn of_file<'a, T: Drop>(name: &'a str, given: io::Result<T>) -> Result<T, Fault<'a>>
+    ensures value { IfOk given (λ value. result ≡ Ok value) }
+    ensures memory { IfErr given (λ error. error_kind error ≡ ErrorKind.OutOfMemory → result ≡ Err Fault.Memory) }
+    ensures file { IfErr given (λ error. error_kind error ≢ ErrorKind.OutOfMemory → result ≡ Err (Fault.File name.entry)) }
+    ensures given { IfOk result (λ value. given ≡ Ok value) }
+    ensures faults { IfErr result (λ fault. (fault ≡ Fault.Memory) ⊎ (fault ≡ Fault.File name.entry)) }
+{
+    match given {
+        Ok(value) => Ok(value),
+        Err(error) => Err(file_fault(name, &error)),
     }
 }

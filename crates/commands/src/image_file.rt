@@ -5,7 +5,7 @@ ghost use Rattle.elf32.specs.Files.{StandsFor};
 ghost use Rattle.commands.specs.Faults.{IsElfFault, IsElfRefusal, IsRawFault};
 ghost use Rattle.commands.specs.Raw.{IsPageCount, IsRaw};
 
-use crate::fault::{Fault, file_fault};
+use crate::fault::{Fault, of_file};
 use crate::order::Exec;
 use elf32::{ElfError, Image};
 use std::alloc::Global;
@@ -39,7 +39,7 @@ pub fn elf_image<'a, F: Read + Drop>(
     ensures refused { IfSome (F.remaining file) (λ all. IfErr result (λ fault. IsElfRefusal all pages fault)) }
     ensures faults { IfErr result (λ fault. IsElfFault (Fault.File name.entry) fault) }
 {
-    let bytes = whole_file(alloc, file).map_err(|e| file_fault(name, &e))?;
+    let bytes = of_file(name, whole_file(alloc, file))?;
     image_in(alloc, &bytes, pages)
 }
 
@@ -81,20 +81,45 @@ pub fn raw_image<'a, F: Read + Drop>(
     ensures raw { IfSome (F.remaining file) (λ all. IsPageCount order.entry.pages → IsErrOf result Fault.Raw → ¬ IsRaw (order.entry.pages * 4096) (length all)) }
     ensures faults { IfErr result (λ fault. IsRawFault order.entry fault) }
 {
-    let room = u64::from(order.pages) * 4096;
     if is_page_count(order.pages) {
-        match raw_bytes(alloc, file, room).map_err(|e| file_fault(order.image, &e))? {
-            Some(bytes) => Ok(Image::raw(alloc, bytes)?),
-            None => Err(Fault::Raw),
-        }
+        raw_image_within(alloc, file, order)
     } else {
-        let length = length_up_to(file, room + 1).map_err(|e| file_fault(order.image, &e))?;
-        Err(if is_raw(length, room) {
-            Fault::Limits
-        } else {
-            Fault::Raw
-        })
+        Err(fault_outside(file, order)?)
     }
+}
+
+/// The raw image for a number of pages within its limits.
+fn raw_image_within<'a, F: Read + Drop>(
+    alloc: Global,
+    file: F,
+    order: Exec<'a>,
+) -> Result<Image, Fault<'a>>
+    requires { IsPageCount order.pages }
+    ensures fits { IfOk result (λ image. FitsPages image order.entry.pages) }
+    ensures bytes { IfSome (F.remaining file) (λ all. IfOk result (λ image. map (λ s. s.bytes.items) image.segments.items ≡ all ∷ [])) }
+    ensures raw { IfSome (F.remaining file) (λ all. IsErrOf result Fault.Raw → ¬ IsRaw (order.entry.pages * 4096) (length all)) }
+    ensures faults { IfErr result (λ fault. IsRawFault order.entry fault) }
+{
+    let room = u64::from(order.pages) * 4096;
+    match of_file(order.image, raw_bytes(alloc, file, room))? {
+        Some(bytes) => Ok(Image::raw(alloc, bytes)?),
+        None => Err(Fault::Raw),
+    }
+}
+
+/// What is wrong with a raw image where the number of pages is outside its limits.
+fn fault_outside<'a, F: Read + Drop>(file: F, order: Exec<'a>) -> Result<Fault<'a>, Fault<'a>>
+    requires { ¬ IsPageCount order.pages }
+    ensures found { IfOk result (λ fault. IsRawFault order.entry fault) }
+    ensures faults { IfErr result (λ fault. IsRawFault order.entry fault) }
+{
+    let room = u64::from(order.pages) * 4096;
+    let length = of_file(order.image, length_up_to(file, room + 1))?;
+    Ok(if is_raw(length, room) {
+        Fault::Limits
+    } else {
+        Fault::Raw
+    })
 }
 
 /// The bytes of a file, or `None` where it is no raw image for a memory of `room` bytes; of a file that is too long, one
