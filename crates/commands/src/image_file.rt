@@ -84,7 +84,7 @@ pub fn raw_image<'a, F: Read + Drop>(
     if is_page_count(order.pages) {
         raw_image_within(alloc, file, order)
     } else {
-        Err(fault_outside(file, order)?)
+        Err(fault_outside(file, order))
     }
 }
 
@@ -108,18 +108,16 @@ fn raw_image_within<'a, F: Read + Drop>(
 }
 
 /// What is wrong with a raw image where the number of pages is outside its limits.
-fn fault_outside<'a, F: Read + Drop>(file: F, order: Exec<'a>) -> Result<Fault<'a>, Fault<'a>>
+fn fault_outside<'a, F: Read + Drop>(file: F, order: Exec<'a>) -> Fault<'a>
     requires { ¬ IsPageCount order.pages }
-    ensures found { IfOk result (λ fault. IsRawFault order.entry fault) }
-    ensures faults { IfErr result (λ fault. IsRawFault order.entry fault) }
+    ensures { IsRawFault order.entry result }
 {
     let room = u64::from(order.pages) * 4096;
-    let length = of_file(order.image, length_up_to(file, room + 1))?;
-    Ok(if is_raw(length, room) {
-        Fault::Limits
-    } else {
-        Fault::Raw
-    })
+    match of_file(order.image, length_up_to(file, room + 1)) {
+        Ok(length) if is_raw(length, room) => Fault::Limits,
+        Ok(_) => Fault::Raw,
+        Err(fault) => fault,
+    }
 }
 
 /// The bytes of a file, or `None` where it is no raw image for a memory of `room` bytes; of a file that is too long, one
