@@ -3,7 +3,7 @@ ghost use Rattle.std.specs.Prelude.{◌+◌, ◌<◌};
 
 use crate::machine::Ran;
 use flatvm::View;
-use mips_isa::Reg;
+use mips_instr::Reg;
 use mips_step::Cpu;
 use std::fmt;
 

@@ -6,7 +6,7 @@ use elf32::Fault;
 use flatvm::SeatNo;
 use guest::{Guest, Seat};
 use masm::AsmFault;
-use mips_isa::Reg;
+use mips_instr::Reg;
 use mips_step::{Cpu, StepOut};
 use std::process::Abort;
 use std::test::Fail;

@@ -4,7 +4,7 @@ use Rattle.std.specs.List.{flat_map}
 use Rattle.std.proofs.lemmas.Bool.{ltb-true}
 use Rattle.mips_isa.specs.Fields.{Fields, fields, immediate, index, trap_code, call_code, wait_code}
 use Rattle.mips_isa.specs.Table.{Row, fits, reading, readings, readings_of, special_rows, regimm_rows, special2_rows, cop0_rows, opcode_rows, memory_rows, special_readings, regimm_readings, special2_readings, cop0_readings, opcode_readings, memory_readings}
-use Rattle.mips_isa.specs.declared.instr.Instr.{Instr}
+use Rattle.mips_instr.specs.declared.instr.Instr.{Instr}
 use Rattle.masm.specs.Laws.{HasFields}
 use Rattle.masm.proofs.TakenApart.{both}
 

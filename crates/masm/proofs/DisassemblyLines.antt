@@ -4,7 +4,7 @@ use Rattle.std.specs.Fmt.{digits, padded_integral, format_spec}
 use Rattle.std.specs.Int.{from_le_bytes, w32}
 use Rattle.std.proofs.Math.Seq.{take-length}
 use Rattle.std.proofs.lemmas.Fmt as written
-use Rattle.mips_isa.specs.Operands.{hex_byte}
+use Rattle.mips_instr.specs.Operands.{hex_byte}
 use Rattle.masm.specs.Disassembly.{lines_at, byte_line, word_line}
 
 -- what the formatter writes of a byte with two hexadecimal digits

@@ -1,9 +1,7 @@
 pub mod Answered
 pub mod Bytes
 pub mod DecodedFields
-pub mod Digits
 pub mod DisassemblyLines
-pub mod Fronts
 pub mod Keys
 pub mod Loadable
 pub mod Mirrors
@@ -22,6 +20,5 @@ pub mod PrintedNames
 pub mod PrintedNumbers
 pub mod PrintedOperands
 pub mod PrintedRanges
-pub mod Signs
 pub mod Spans
 pub mod TakenApart

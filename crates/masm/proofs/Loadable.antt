@@ -14,7 +14,7 @@ use Rattle.masm.specs.Listings.{Part, Listing, first_output, part_size, parts_of
 use Rattle.masm.specs.Images.{IsSegmentOf, AreSegmentsOf, IsImageOf}
 use Rattle.masm.specs.Assembly.{Means}
 use Rattle.masm.specs.declared.layout.Span.{Span}
-use Rattle.masm.specs.declared.error.AsmFault.TheVariants as fault
+use Rattle.masm_lines.specs.declared.fault.AsmFault.TheVariants as fault
 use Rattle.masm.proofs.Bytes.{bytes_length}
 use Rattle.masm.proofs.Mirrors.{span_of, mirror, mirror_parts, all_sound}
 use Rattle.masm.proofs.Spans.{Apart, IsWithin, AllApart, AreSound, first_sound, spans_sound}

@@ -4,14 +4,15 @@ use Rattle.std.specs.Int.{to_le_bytes, w32}
 use Rattle.std.proofs.lemmas.List.{map-append, length-replicate}
 use Rattle.std.proofs.lemmas.List.Sums.{sum_by-append, sum_by-cons}
 use Rattle.word32.specs.Zeros.{zeros}
-use Rattle.masm.specs.Grammar.{Line}
-use Rattle.masm.specs.Statements.{Statement, Instruction, Transfer, Word, AddressOf, Byte, Space, Org, Entry}
+use Rattle.masm_lines.specs.Grammar.{Line}
+use Rattle.masm_lines.specs.Statements.{Statement, Instruction, Transfer, Word, AddressOf, Byte, Space, Org, Entry}
 use Rattle.masm.specs.Names.{Names, known_address, value_address}
-use Rattle.masm.specs.Places.{Layout, segment_at, spans, size_of, after_statement}
+use Rattle.masm.specs.Places.{Layout, segment_at, spans, after_statement}
+use Rattle.masm_lines.specs.Statements.{size_of}
 use Rattle.masm.specs.Meanings.{Item, Code, Bytes, item_size, item_of, aimed}
 use Rattle.masm.specs.Listings.{Part, Output, part_size, part_at, parts_of, next_place, with_item, with_statement}
 use Rattle.masm.specs.Assembly.{Puts, ArePlaced}
-use Rattle.masm.specs.Steps.{◌>>=◌}
+use Rattle.masm_lines.specs.Steps.{◌>>=◌}
 use Rattle.masm.specs.declared.layout.Span.{Span}
 use Rattle.masm.proofs.Answered.{answered}
 use Rattle.masm.proofs.Spans.{IsSound, after_sound}

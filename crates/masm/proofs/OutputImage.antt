@@ -9,8 +9,8 @@ use Rattle.masm.specs.Answers.{Gives}
 use Rattle.masm.specs.Assembly.{at_line}
 use Rattle.masm.specs.Images.{IsSegmentOf, AreSegmentsOf, IsImageOf}
 use Rattle.masm.specs.Listings.{Part, Listing, Output, has_byte_at, listing_with, listing_of, entry_of, parts_of, part_size}
-use Rattle.masm.specs.declared.error.AsmFault.{AsmFault}
-use Rattle.masm.specs.declared.error.AsmFault.TheVariants as fault
+use Rattle.masm_lines.specs.declared.fault.AsmFault.{AsmFault}
+use Rattle.masm_lines.specs.declared.fault.AsmFault.TheVariants as fault
 use Rattle.masm.proofs.OutputItems.{bytes_size}
 
 -- whether a segment has a byte at an address

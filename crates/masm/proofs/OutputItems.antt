@@ -9,9 +9,9 @@ use Rattle.masm.specs.Listings.{Part, Output, with_statement, with_item, next_pl
 use Rattle.masm.specs.declared.output.Output.{Output as OutputCode}
 use Rattle.masm.specs.Answers.{IsOutput}
 use Rattle.masm.specs.Names.{Names}
-use Rattle.masm.specs.Places.{alignment_of}
-use Rattle.masm.specs.Steps.{◌>>=◌}
-use Rattle.masm.specs.Statements.{Statement, Instruction, Transfer, Word, AddressOf, Byte, Space, Org, Entry}
+use Rattle.masm_lines.specs.Statements.{alignment_of}
+use Rattle.masm_lines.specs.Steps.{◌>>=◌}
+use Rattle.masm_lines.specs.Statements.{Statement, Instruction, Transfer, Word, AddressOf, Byte, Space, Org, Entry}
 
 -- the bytes of an item are as many as its size
 stand_size : (bs : List ℕ) (i : Item) → StandFor bs i → length bs ≡ item_size i

@@ -5,12 +5,12 @@ use Rattle.std.specs.Result.{result_err, IsErrAnd}
 use Rattle.std.specs.Str.Lines.{lines}
 use Rattle.masm.specs.Answers.{Gives, fault_in}
 use Rattle.masm.specs.Assembly.{Reading, Located, over_lines, at_line, first_step, first_reading, second_step, after_line, labels_from, AreApart, ArePlaced, Puts, Means}
-use Rattle.masm.specs.Grammar.{Line, line_of}
+use Rattle.masm_lines.specs.Grammar.{Line, line_of}
 use Rattle.elf32.specs.declared.image.Image.{Image}
 use Rattle.masm.specs.Images.{IsImageOf}
 use Rattle.masm.specs.Listings.{Output, Listing, first_output, listing_of}
 use Rattle.masm.specs.Names.{Names}
-use Rattle.masm.specs.declared.error.AsmFault.{AsmFault}
+use Rattle.masm_lines.specs.declared.fault.AsmFault.{AsmFault}
 use Rattle.masm.specs.declared.error.AsmError.{AsmError}
 use Rattle.masm.specs.declared.error.AsmError.TheVariants as error
 use Rattle.masm.proofs.OutputPass.{both_taken, given}

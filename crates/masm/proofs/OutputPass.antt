@@ -3,9 +3,9 @@ use Rattle.std.proofs.Common.{◌≡◌, ℕ, ◌+◌, ◌<◌, List, [], get_or
 use Rattle.masm.specs.Assembly.{over_lines, at_line, Located}
 use Rattle.masm.specs.Answers.{Follows, Gives}
 use Rattle.masm.specs.Faults.{located}
-use Rattle.masm.specs.Steps.{◌>>=◌}
+use Rattle.masm_lines.specs.Steps.{◌>>=◌}
 use Rattle.masm.specs.declared.error.AsmError.{AsmError}
-use Rattle.masm.specs.declared.error.AsmFault.{AsmFault}
+use Rattle.masm_lines.specs.declared.fault.AsmFault.{AsmFault}
 use Rattle.masm.specs.declared.error.LineError.{LineError}
 use Rattle.masm.specs.declared.error.LineError.TheVariants as of_line
 

@@ -5,18 +5,19 @@ use Rattle.std.proofs.lemmas.List.{length-replicate}
 use Rattle.std.proofs.lemmas.List.Sums.{sum_by_push}
 use Rattle.std.proofs.lemmas.Bool.Decides.{nat_tests}
 use Rattle.word32.specs.Zeros.{zeros}
-use Rattle.mips_isa.specs.declared.instr.Instr.{Instr}
+use Rattle.mips_instr.specs.declared.instr.Instr.{Instr}
 use Rattle.masm.specs.Answers.{IsOutput, HasRoom, HasRoomFor, HasRoomForLine}
 use Rattle.masm.specs.Assembly.{Reading, first_step, first_reading, placed, after_line, second_step}
-use Rattle.masm.specs.Grammar.{Line, line_of}
+use Rattle.masm_lines.specs.Grammar.{Line, line_of}
 use Rattle.masm.specs.Listings.{Output, first_output, with_statement, with_item, part_size, part_at, parts_of, next_place}
 use Rattle.masm.specs.Meanings.{Item, Code, Bytes, item_size, item_of, aimed}
 use Rattle.masm.specs.Names.{Names, known_address, value_address, is_double}
-use Rattle.masm.specs.Places.{Layout, next_address, after_statement, is_misplaced, has_misplaced, is_outside, overlaps, is_one_too_many, alignment_of, size_of}
-use Rattle.masm.specs.Statements.{Statement, Instruction, Transfer, Word, AddressOf, Byte, Space, Org, Entry}
-use Rattle.masm.specs.Steps.{◌>>=◌}
-use Rattle.masm.specs.declared.error.AsmFault.{AsmFault}
-use Rattle.masm.specs.declared.error.AsmFault.TheVariants as fault
+use Rattle.masm.specs.Places.{Layout, next_address, after_statement, is_misplaced, has_misplaced, is_outside, overlaps, is_one_too_many}
+use Rattle.masm_lines.specs.Statements.{alignment_of, size_of}
+use Rattle.masm_lines.specs.Statements.{Statement, Instruction, Transfer, Word, AddressOf, Byte, Space, Org, Entry}
+use Rattle.masm_lines.specs.Steps.{◌>>=◌}
+use Rattle.masm_lines.specs.declared.fault.AsmFault.{AsmFault}
+use Rattle.masm_lines.specs.declared.fault.AsmFault.TheVariants as fault
 use Rattle.std.specs.Int.{to_le_bytes, w32}
 use Rattle.masm.specs.declared.output.Output.{Output as OutputCode}
 use Rattle.masm.proofs.OutputItems.{bytes_size}

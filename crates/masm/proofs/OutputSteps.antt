@@ -5,14 +5,14 @@ use Rattle.masm.specs.Meanings.{Bytes, item_of}
 use Rattle.masm.specs.Answers.{Follows}
 use Rattle.masm.specs.Listings.{Output, with_item, with_statement}
 use Rattle.masm.specs.Names.{Names}
-use Rattle.masm.specs.Places.{alignment_of}
-use Rattle.masm.specs.Statements.{Byte, Space}
-use Rattle.masm.specs.Views.{statement_view}
-use Rattle.masm.specs.declared.error.AsmFault.{AsmFault}
+use Rattle.masm_lines.specs.Statements.{alignment_of}
+use Rattle.masm_lines.specs.Statements.{Byte, Space}
+use Rattle.masm_lines.specs.Views.{statement_view}
+use Rattle.masm_lines.specs.declared.fault.AsmFault.{AsmFault}
 use Rattle.masm.specs.declared.error.LineError.{LineError}
 use Rattle.masm.specs.declared.error.LineError.TheVariants as of_line
-use Rattle.masm.specs.declared.statement.Statement.{Statement as StatementCode}
-use Rattle.masm.specs.declared.statement.Statement.TheVariants as statement_code
+use Rattle.masm_lines.specs.declared.statement.Statement.{Statement as StatementCode}
+use Rattle.masm_lines.specs.declared.statement.Statement.TheVariants as statement_code
 use Rattle.word32.specs.Zeros.{zeros}
 use Rattle.std.specs.Borrow.{Bor}
 

@@ -4,7 +4,7 @@ use Rattle.std.specs.Result.{IsErrAnd}
 use Rattle.masm.specs.Answers.{Gives}
 use Rattle.masm.specs.Assembly.{Reading, Located, over_lines, at_line, first_step, first_reading, second_step}
 use Rattle.masm.specs.Listings.{Output, Listing, first_output, listing_of}
-use Rattle.masm.specs.Steps.{◌>>=◌}
+use Rattle.masm_lines.specs.Steps.{◌>>=◌}
 use Rattle.masm.specs.declared.error.AsmError.{AsmError}
 use Rattle.masm.specs.declared.error.AsmError.TheVariants as error
 

@@ -3,17 +3,17 @@ use Rattle.std.proofs.Common.{◌≡◌, ℕ, ◌+◌, ◌-◌, List, [], ◌∷
 use Rattle.std.specs.Int.{to_le_bytes, w32}
 use Rattle.std.proofs.lemmas.List.{take_all}
 use Rattle.mips_isa.specs.Table.{readings}
-use Rattle.mips_isa.specs.declared.instr.Instr.{Instr}
+use Rattle.mips_instr.specs.declared.instr.Instr.{Instr}
 use Rattle.masm.specs.Meanings.{Item, Code, Bytes, item_of, aimed}
 use Rattle.masm.specs.Images.{StandFor}
 use Rattle.masm.specs.Answers.{IsOutput}
 use Rattle.masm.specs.Listings.{Output, next_place}
 use Rattle.masm.specs.declared.output.Output.{Output as OutputCode}
-use Rattle.masm.specs.declared.error.AsmFault.{AsmFault}
+use Rattle.masm_lines.specs.declared.fault.AsmFault.{AsmFault}
 use Rattle.masm.specs.Names.{Names, value_address, known_address}
-use Rattle.masm.specs.Operands.{Value}
-use Rattle.masm.specs.Statements.{Statement, Instruction, Transfer, Word, AddressOf}
-use Rattle.masm.specs.Steps.{◌>>=◌}
+use Rattle.masm_lines.specs.Operands.{Value}
+use Rattle.masm_lines.specs.Statements.{Statement, Instruction, Transfer, Word, AddressOf}
+use Rattle.masm_lines.specs.Steps.{◌>>=◌}
 use Rattle.masm.proofs.OutputItems.{bytes_size}
 
 pub zeros_behind : (items : List ℕ) (n count len : ℕ) → n ≡ length items → len ≡ length items → take (n + count) items ++ replicate (n + count - len) 0 ≡ items ++ replicate count 0

@@ -6,8 +6,8 @@ use Rattle.masm.specs.Faults.{located}
 use Rattle.masm.specs.declared.error.AsmError.{AsmError}
 use Rattle.masm.specs.declared.error.LineError.{LineError}
 use Rattle.masm.specs.declared.error.LineError.TheVariants as of_line
-use Rattle.masm.specs.Steps.{◌>>=◌}
-use Rattle.masm.specs.declared.error.AsmFault.{AsmFault}
+use Rattle.masm_lines.specs.Steps.{◌>>=◌}
+use Rattle.masm_lines.specs.declared.fault.AsmFault.{AsmFault}
 
 module _ {S : Type 0} (step : S → List ℕ → Result S AsmFault) where
   pub goes_on : (n : ℕ) (s t : S) (lines : List (List ℕ)) (i : ℕ) → i < length lines → step s (get_or lines i []) ≡ Ok t → over_lines step n s (drop i lines) ≡ over_lines step (n + 1) t (drop (i + 1) lines)

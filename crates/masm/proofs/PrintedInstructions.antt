@@ -2,48 +2,48 @@
 use Rattle.std.proofs.Common.{◌≡◌, ℕ, ◌%◌, ◌^◌, ◌<◌, ◌≤◌, pos, List, [], ◌∷◌, ◌++◌, refl, arith, Ok, None, codes, decimal}
 use Rattle.std.specs.Fmt.{signed_decimal}
 use Rattle.std.specs.Int.{to_le_bytes, w32}
-use Rattle.mips_isa.specs.Coprocessor.{coprocessor_word}
-use Rattle.mips_isa.specs.Operands.{signed_half, operand_text}
-use Rattle.mips_isa.specs.Targets.{branch_target, jump_target}
-use Rattle.mips_isa.specs.Text.{instr_text}
-use Rattle.mips_isa.specs.declared.instr.Instr.{Instr}
-use Rattle.mips_isa.specs.declared.instr.Instr.TheVariants as instr
-use Rattle.mips_isa.specs.declared.instr.ImmediateOp.{ImmediateOp}
-use Rattle.mips_isa.specs.declared.instr.ImmediateOp.TheVariants.{Addi, Addiu, Slti, Sltiu, Andi, Ori, Xori}
-use Rattle.mips_isa.specs.declared.operand.Operand.TheVariants as printed
-use Rattle.mips_isa.specs.declared.instr.RegisterOp.{RegisterOp}
-use Rattle.mips_isa.specs.declared.instr.ConditionalMoveOp.{ConditionalMoveOp}
-use Rattle.mips_isa.specs.declared.instr.ShiftOp.{ShiftOp}
-use Rattle.mips_isa.specs.declared.instr.ShiftVariableOp.{ShiftVariableOp}
-use Rattle.mips_isa.specs.declared.instr.CountOp.{CountOp}
-use Rattle.mips_isa.specs.declared.instr.MoveFromOp.{MoveFromOp}
-use Rattle.mips_isa.specs.declared.instr.MoveToOp.{MoveToOp}
-use Rattle.mips_isa.specs.declared.instr.MultiplyOp.{MultiplyOp}
-use Rattle.mips_isa.specs.declared.instr.DivideOp.{DivideOp}
-use Rattle.mips_isa.specs.declared.instr.LoadOp.{LoadOp}
-use Rattle.mips_isa.specs.declared.instr.StoreOp.{StoreOp}
-use Rattle.mips_isa.specs.declared.instr.CacheOp.{CacheOp}
-use Rattle.mips_isa.specs.declared.instr.BranchOp.{BranchOp}
-use Rattle.mips_isa.specs.declared.instr.BranchZeroOp.{BranchZeroOp}
-use Rattle.mips_isa.specs.declared.instr.JumpOp.{JumpOp}
-use Rattle.mips_isa.specs.declared.instr.TrapOp.{TrapOp}
-use Rattle.mips_isa.specs.declared.instr.TrapImmediateOp.{TrapImmediateOp}
-use Rattle.mips_isa.specs.declared.instr.Cp0MoveOp.{Cp0MoveOp}
-use Rattle.mips_isa.specs.declared.instr.TlbOp.{TlbOp}
-use Rattle.mips_isa.specs.declared.instr.TlbOp.TheVariants.{Tlbr, Tlbwi, Tlbwr, Tlbp}
-use Rattle.mips_isa.specs.declared.instr.CoprocessorOp.{CoprocessorOp}
-use Rattle.mips_isa.specs.declared.instr.CoprocessorOp.TheVariants.{Cop1, Cop2, Lwc1, Lwc2, Ldc1, Ldc2, Swc1, Swc2, Sdc1, Sdc2}
-use Rattle.masm.specs.Mnemonics.{named_instruction, arithmetic_named, memory_named, control_named, hi_lo_named, system_named, single_named, named_register, named_conditional_move, named_shift, named_shift_variable, named_count, named_move_from, named_move_to, named_multiply, named_divide, named_immediate, named_load, named_store, named_cache, named_branch, named_branch_zero, named_jump, named_trap, named_trap_immediate, named_cp0_move, named_tlb}
-use Rattle.mips_isa.specs.Mnemonics.{register_mnemonic, conditional_move_mnemonic, shift_mnemonic, shift_variable_mnemonic, count_mnemonic, move_from_mnemonic, move_to_mnemonic, multiply_mnemonic, divide_mnemonic, immediate_mnemonic, load_mnemonic, store_mnemonic, cache_mnemonic, branch_mnemonic, branch_zero_mnemonic, jump_mnemonic, trap_mnemonic, trap_immediate_mnemonic, cp0_move_mnemonic, tlb_mnemonic}
-use Rattle.masm.specs.Grammar.{body_of, label_of, statement_in, statement_or_nothing, line_of}
-use Rattle.masm.specs.Instructions.{with_operands}
+use Rattle.mips_instr.specs.Coprocessor.{coprocessor_word}
+use Rattle.mips_instr.specs.Operands.{signed_half, operand_text}
+use Rattle.mips_instr.specs.Targets.{branch_target, jump_target}
+use Rattle.mips_instr.specs.Text.{instr_text}
+use Rattle.mips_instr.specs.declared.instr.Instr.{Instr}
+use Rattle.mips_instr.specs.declared.instr.Instr.TheVariants as instr
+use Rattle.mips_instr.specs.declared.instr.ImmediateOp.{ImmediateOp}
+use Rattle.mips_instr.specs.declared.instr.ImmediateOp.TheVariants.{Addi, Addiu, Slti, Sltiu, Andi, Ori, Xori}
+use Rattle.mips_instr.specs.declared.operand.Operand.TheVariants as printed
+use Rattle.mips_instr.specs.declared.instr.RegisterOp.{RegisterOp}
+use Rattle.mips_instr.specs.declared.instr.ConditionalMoveOp.{ConditionalMoveOp}
+use Rattle.mips_instr.specs.declared.instr.ShiftOp.{ShiftOp}
+use Rattle.mips_instr.specs.declared.instr.ShiftVariableOp.{ShiftVariableOp}
+use Rattle.mips_instr.specs.declared.instr.CountOp.{CountOp}
+use Rattle.mips_instr.specs.declared.instr.MoveFromOp.{MoveFromOp}
+use Rattle.mips_instr.specs.declared.instr.MoveToOp.{MoveToOp}
+use Rattle.mips_instr.specs.declared.instr.MultiplyOp.{MultiplyOp}
+use Rattle.mips_instr.specs.declared.instr.DivideOp.{DivideOp}
+use Rattle.mips_instr.specs.declared.instr.LoadOp.{LoadOp}
+use Rattle.mips_instr.specs.declared.instr.StoreOp.{StoreOp}
+use Rattle.mips_instr.specs.declared.instr.CacheOp.{CacheOp}
+use Rattle.mips_instr.specs.declared.instr.BranchOp.{BranchOp}
+use Rattle.mips_instr.specs.declared.instr.BranchZeroOp.{BranchZeroOp}
+use Rattle.mips_instr.specs.declared.instr.JumpOp.{JumpOp}
+use Rattle.mips_instr.specs.declared.instr.TrapOp.{TrapOp}
+use Rattle.mips_instr.specs.declared.instr.TrapImmediateOp.{TrapImmediateOp}
+use Rattle.mips_instr.specs.declared.instr.Cp0MoveOp.{Cp0MoveOp}
+use Rattle.mips_instr.specs.declared.instr.TlbOp.{TlbOp}
+use Rattle.mips_instr.specs.declared.instr.TlbOp.TheVariants.{Tlbr, Tlbwi, Tlbwr, Tlbp}
+use Rattle.mips_instr.specs.declared.instr.CoprocessorOp.{CoprocessorOp}
+use Rattle.mips_instr.specs.declared.instr.CoprocessorOp.TheVariants.{Cop1, Cop2, Lwc1, Lwc2, Ldc1, Ldc2, Swc1, Swc2, Sdc1, Sdc2}
+use Rattle.masm_lines.specs.Mnemonics.{named_instruction, arithmetic_named, memory_named, control_named, hi_lo_named, system_named, single_named, named_register, named_conditional_move, named_shift, named_shift_variable, named_count, named_move_from, named_move_to, named_multiply, named_divide, named_immediate, named_load, named_store, named_cache, named_branch, named_branch_zero, named_jump, named_trap, named_trap_immediate, named_cp0_move, named_tlb}
+use Rattle.mips_instr.specs.Mnemonics.{register_mnemonic, conditional_move_mnemonic, shift_mnemonic, shift_variable_mnemonic, count_mnemonic, move_from_mnemonic, move_to_mnemonic, multiply_mnemonic, divide_mnemonic, immediate_mnemonic, load_mnemonic, store_mnemonic, cache_mnemonic, branch_mnemonic, branch_zero_mnemonic, jump_mnemonic, trap_mnemonic, trap_immediate_mnemonic, cp0_move_mnemonic, tlb_mnemonic}
+use Rattle.masm_lines.specs.Grammar.{body_of, label_of, statement_in, statement_or_nothing, line_of}
+use Rattle.masm_lines.specs.Instructions.{with_operands}
 use Rattle.masm.specs.Laws.{HasFields, LinePuts, item_printed}
 use Rattle.masm.specs.Meanings.{Code, Bytes, item_of, aimed, branch_offset, jump_index}
-use Rattle.masm.specs.Operands.{Written, Register, Plain, Number, Based, operands_in}
-use Rattle.masm.specs.Statements.{Instruction, Transfer, Word, instruction_statement, directive_statement, operation_of, named_directive}
-use Rattle.masm.specs.Tokens.{trimmed, trimmed_start}
-use Rattle.masm.specs.declared.operation.Directive.TheVariants as directive
-use Rattle.masm.specs.declared.operation.Operation.TheVariants as operation
+use Rattle.masm_lines.specs.Operands.{Written, Register, Plain, Number, Based, operands_in}
+use Rattle.masm_lines.specs.Statements.{Instruction, Transfer, Word, instruction_statement, directive_statement, operation_of, named_directive}
+use Rattle.masm_lines.specs.Tokens.{trimmed, trimmed_start}
+use Rattle.masm_lines.specs.declared.operation.Directive.TheVariants as directive
+use Rattle.masm_lines.specs.declared.operation.Operation.TheVariants as operation
 use Rattle.masm.proofs.TakenApart.{IsOperand, AreOperands, one_operand, two_operands, three_operands}
 use Rattle.masm.proofs.PrintedNames.{IsName, register_named, conditional_move_named, shift_named, shift_variable_named, count_named, move_from_named, move_to_named, multiply_named, divide_named, immediate_named, load_named, store_named, cache_named, branch_named, branch_zero_named, jump_named, trap_named, trap_immediate_named, cp0_move_named, syscall_named, break_named, sync_named, jr_named, jalr_named, lui_named, wait_named}
 use Rattle.masm.proofs.PrintedNumbers.{decimal_number, half_number, hex_half_number, hex_word_number}

@@ -4,16 +4,16 @@ use Rattle.std.specs.List.{list_all, suffix_len}
 use Rattle.std.specs.Char.{is_ascii}
 use Rattle.std.proofs.Math.Bool.{and-false}
 use Rattle.std.proofs.lemmas.Bool.{ltb-true}
-use Rattle.mips_isa.specs.declared.instr.Instr.{Instr}
+use Rattle.mips_instr.specs.declared.instr.Instr.{Instr}
 use Rattle.std.proofs.Math.Seq.{drop-append_seam, get_or-append_seam}
 use Rattle.std.proofs.lemmas.List.{length-append}
-use Rattle.masm.specs.Characters.{is_blank, begins_comment, continues_name}
-use Rattle.masm.specs.Grammar.{body_of, label_of, statement_in, statement_or_nothing, line_of}
-use Rattle.masm.specs.Tokens.{trimmed_start, is_name}
-use Rattle.masm.specs.Operands.{Written}
-use Rattle.masm.specs.Statements.{Statement, operation_of, statement_of, instruction_statement}
-use Rattle.masm.specs.declared.operation.Operation.{Operation}
-use Rattle.masm.specs.declared.operation.Operation.TheVariants as operation
+use Rattle.masm_lines.specs.Characters.{is_blank, begins_comment, continues_name}
+use Rattle.masm_lines.specs.Grammar.{body_of, label_of, statement_in, statement_or_nothing, line_of}
+use Rattle.masm_lines.specs.Tokens.{trimmed_start, is_name}
+use Rattle.masm_lines.specs.Operands.{Written}
+use Rattle.masm_lines.specs.Statements.{Statement, operation_of, statement_of, instruction_statement}
+use Rattle.masm_lines.specs.declared.operation.Operation.{Operation}
+use Rattle.masm_lines.specs.declared.operation.Operation.TheVariants as operation
 use Rattle.masm.proofs.TakenApart.{is_dense, dense_ascii, dense_no_blank, dense_no_comment, both, is_false, is_some, all_imply, all_of_two, front_stops, before_it, before_none, back_stops, untrimmed, AreOperands}
 use Rattle.masm.proofs.PrintedNames.{IsName}
 

@@ -1,51 +1,51 @@
 -- The names of the instructions, as the grammar reads them.
 use Rattle.std.proofs.Common.{◌≡◌, ℕ, true, List, length, codes, refl, nat_lt, Ok}
 use Rattle.std.specs.List.{list_all}
-use Rattle.mips_isa.specs.Mnemonics.{register_mnemonic, conditional_move_mnemonic, shift_mnemonic, shift_variable_mnemonic, count_mnemonic, move_from_mnemonic, move_to_mnemonic, multiply_mnemonic, divide_mnemonic, immediate_mnemonic, load_mnemonic, store_mnemonic, cache_mnemonic, branch_mnemonic, branch_zero_mnemonic, jump_mnemonic, trap_mnemonic, trap_immediate_mnemonic, cp0_move_mnemonic}
-use Rattle.mips_isa.specs.declared.instr.Instr.{Instr}
-use Rattle.mips_isa.specs.declared.instr.Instr.TheVariants as instr
-use Rattle.mips_isa.specs.declared.instr.RegisterOp.{RegisterOp}
-use Rattle.mips_isa.specs.declared.instr.RegisterOp.TheVariants.{Add, Addu, Sub, Subu, And, Or, Xor, Nor, Slt, Sltu, Mul}
-use Rattle.mips_isa.specs.declared.instr.ConditionalMoveOp.{ConditionalMoveOp}
-use Rattle.mips_isa.specs.declared.instr.ConditionalMoveOp.TheVariants.{Movz, Movn}
-use Rattle.mips_isa.specs.declared.instr.ShiftOp.{ShiftOp}
-use Rattle.mips_isa.specs.declared.instr.ShiftOp.TheVariants.{Sll, Srl, Sra}
-use Rattle.mips_isa.specs.declared.instr.ShiftVariableOp.{ShiftVariableOp}
-use Rattle.mips_isa.specs.declared.instr.ShiftVariableOp.TheVariants.{Sllv, Srlv, Srav}
-use Rattle.mips_isa.specs.declared.instr.CountOp.{CountOp}
-use Rattle.mips_isa.specs.declared.instr.CountOp.TheVariants.{Clz, Clo}
-use Rattle.mips_isa.specs.declared.instr.MoveFromOp.{MoveFromOp}
-use Rattle.mips_isa.specs.declared.instr.MoveFromOp.TheVariants.{Mfhi, Mflo}
-use Rattle.mips_isa.specs.declared.instr.MoveToOp.{MoveToOp}
-use Rattle.mips_isa.specs.declared.instr.MoveToOp.TheVariants.{Mthi, Mtlo}
-use Rattle.mips_isa.specs.declared.instr.MultiplyOp.{MultiplyOp}
-use Rattle.mips_isa.specs.declared.instr.MultiplyOp.TheVariants.{Mult, Multu, Madd, Maddu, Msub, Msubu}
-use Rattle.mips_isa.specs.declared.instr.DivideOp.{DivideOp}
-use Rattle.mips_isa.specs.declared.instr.DivideOp.TheVariants.{Div, Divu}
-use Rattle.mips_isa.specs.declared.instr.ImmediateOp.{ImmediateOp}
-use Rattle.mips_isa.specs.declared.instr.ImmediateOp.TheVariants.{Addi, Addiu, Slti, Sltiu, Andi, Ori, Xori}
-use Rattle.mips_isa.specs.declared.instr.LoadOp.{LoadOp}
-use Rattle.mips_isa.specs.declared.instr.LoadOp.TheVariants.{Lb, Lh, Lwl, Lw, Lbu, Lhu, Lwr, Ll}
-use Rattle.mips_isa.specs.declared.instr.StoreOp.{StoreOp}
-use Rattle.mips_isa.specs.declared.instr.StoreOp.TheVariants.{Sb, Sh, Swl, Sw, Swr, Sc}
-use Rattle.mips_isa.specs.declared.instr.CacheOp.{CacheOp}
-use Rattle.mips_isa.specs.declared.instr.CacheOp.TheVariants.{Cache, Pref}
-use Rattle.mips_isa.specs.declared.instr.BranchOp.{BranchOp}
-use Rattle.mips_isa.specs.declared.instr.BranchOp.TheVariants.{Beq, Bne, Beql, Bnel}
-use Rattle.mips_isa.specs.declared.instr.BranchZeroOp.{BranchZeroOp}
-use Rattle.mips_isa.specs.declared.instr.BranchZeroOp.TheVariants.{Bltz, Bgez, Bltzl, Bgezl, Bltzal, Bgezal, Bltzall, Bgezall, Blez, Bgtz, Blezl, Bgtzl}
-use Rattle.mips_isa.specs.declared.instr.JumpOp.{JumpOp}
-use Rattle.mips_isa.specs.declared.instr.JumpOp.TheVariants.{J, Jal}
-use Rattle.mips_isa.specs.declared.instr.TrapOp.{TrapOp}
-use Rattle.mips_isa.specs.declared.instr.TrapOp.TheVariants.{Tge, Tgeu, Tlt, Tltu, Teq, Tne}
-use Rattle.mips_isa.specs.declared.instr.TrapImmediateOp.{TrapImmediateOp}
-use Rattle.mips_isa.specs.declared.instr.TrapImmediateOp.TheVariants.{Tgei, Tgeiu, Tlti, Tltiu, Teqi, Tnei}
-use Rattle.mips_isa.specs.declared.instr.Cp0MoveOp.{Cp0MoveOp}
-use Rattle.mips_isa.specs.declared.instr.Cp0MoveOp.TheVariants.{Mfc0, Mtc0}
-use Rattle.masm.specs.Characters.{continues_name}
-use Rattle.masm.specs.Statements.{operation_of}
-use Rattle.masm.specs.declared.operation.Operation.TheVariants as operation
-use Rattle.masm.specs.Mnemonics.{named_instruction, arithmetic_named, memory_named, control_named, hi_lo_named, system_named, single_named, named_register, named_conditional_move, named_shift, named_shift_variable, named_count, named_move_from, named_move_to, named_multiply, named_divide, named_immediate, named_load, named_store, named_cache, named_branch, named_branch_zero, named_jump, named_trap, named_trap_immediate, named_cp0_move, named_tlb}
+use Rattle.mips_instr.specs.Mnemonics.{register_mnemonic, conditional_move_mnemonic, shift_mnemonic, shift_variable_mnemonic, count_mnemonic, move_from_mnemonic, move_to_mnemonic, multiply_mnemonic, divide_mnemonic, immediate_mnemonic, load_mnemonic, store_mnemonic, cache_mnemonic, branch_mnemonic, branch_zero_mnemonic, jump_mnemonic, trap_mnemonic, trap_immediate_mnemonic, cp0_move_mnemonic}
+use Rattle.mips_instr.specs.declared.instr.Instr.{Instr}
+use Rattle.mips_instr.specs.declared.instr.Instr.TheVariants as instr
+use Rattle.mips_instr.specs.declared.instr.RegisterOp.{RegisterOp}
+use Rattle.mips_instr.specs.declared.instr.RegisterOp.TheVariants.{Add, Addu, Sub, Subu, And, Or, Xor, Nor, Slt, Sltu, Mul}
+use Rattle.mips_instr.specs.declared.instr.ConditionalMoveOp.{ConditionalMoveOp}
+use Rattle.mips_instr.specs.declared.instr.ConditionalMoveOp.TheVariants.{Movz, Movn}
+use Rattle.mips_instr.specs.declared.instr.ShiftOp.{ShiftOp}
+use Rattle.mips_instr.specs.declared.instr.ShiftOp.TheVariants.{Sll, Srl, Sra}
+use Rattle.mips_instr.specs.declared.instr.ShiftVariableOp.{ShiftVariableOp}
+use Rattle.mips_instr.specs.declared.instr.ShiftVariableOp.TheVariants.{Sllv, Srlv, Srav}
+use Rattle.mips_instr.specs.declared.instr.CountOp.{CountOp}
+use Rattle.mips_instr.specs.declared.instr.CountOp.TheVariants.{Clz, Clo}
+use Rattle.mips_instr.specs.declared.instr.MoveFromOp.{MoveFromOp}
+use Rattle.mips_instr.specs.declared.instr.MoveFromOp.TheVariants.{Mfhi, Mflo}
+use Rattle.mips_instr.specs.declared.instr.MoveToOp.{MoveToOp}
+use Rattle.mips_instr.specs.declared.instr.MoveToOp.TheVariants.{Mthi, Mtlo}
+use Rattle.mips_instr.specs.declared.instr.MultiplyOp.{MultiplyOp}
+use Rattle.mips_instr.specs.declared.instr.MultiplyOp.TheVariants.{Mult, Multu, Madd, Maddu, Msub, Msubu}
+use Rattle.mips_instr.specs.declared.instr.DivideOp.{DivideOp}
+use Rattle.mips_instr.specs.declared.instr.DivideOp.TheVariants.{Div, Divu}
+use Rattle.mips_instr.specs.declared.instr.ImmediateOp.{ImmediateOp}
+use Rattle.mips_instr.specs.declared.instr.ImmediateOp.TheVariants.{Addi, Addiu, Slti, Sltiu, Andi, Ori, Xori}
+use Rattle.mips_instr.specs.declared.instr.LoadOp.{LoadOp}
+use Rattle.mips_instr.specs.declared.instr.LoadOp.TheVariants.{Lb, Lh, Lwl, Lw, Lbu, Lhu, Lwr, Ll}
+use Rattle.mips_instr.specs.declared.instr.StoreOp.{StoreOp}
+use Rattle.mips_instr.specs.declared.instr.StoreOp.TheVariants.{Sb, Sh, Swl, Sw, Swr, Sc}
+use Rattle.mips_instr.specs.declared.instr.CacheOp.{CacheOp}
+use Rattle.mips_instr.specs.declared.instr.CacheOp.TheVariants.{Cache, Pref}
+use Rattle.mips_instr.specs.declared.instr.BranchOp.{BranchOp}
+use Rattle.mips_instr.specs.declared.instr.BranchOp.TheVariants.{Beq, Bne, Beql, Bnel}
+use Rattle.mips_instr.specs.declared.instr.BranchZeroOp.{BranchZeroOp}
+use Rattle.mips_instr.specs.declared.instr.BranchZeroOp.TheVariants.{Bltz, Bgez, Bltzl, Bgezl, Bltzal, Bgezal, Bltzall, Bgezall, Blez, Bgtz, Blezl, Bgtzl}
+use Rattle.mips_instr.specs.declared.instr.JumpOp.{JumpOp}
+use Rattle.mips_instr.specs.declared.instr.JumpOp.TheVariants.{J, Jal}
+use Rattle.mips_instr.specs.declared.instr.TrapOp.{TrapOp}
+use Rattle.mips_instr.specs.declared.instr.TrapOp.TheVariants.{Tge, Tgeu, Tlt, Tltu, Teq, Tne}
+use Rattle.mips_instr.specs.declared.instr.TrapImmediateOp.{TrapImmediateOp}
+use Rattle.mips_instr.specs.declared.instr.TrapImmediateOp.TheVariants.{Tgei, Tgeiu, Tlti, Tltiu, Teqi, Tnei}
+use Rattle.mips_instr.specs.declared.instr.Cp0MoveOp.{Cp0MoveOp}
+use Rattle.mips_instr.specs.declared.instr.Cp0MoveOp.TheVariants.{Mfc0, Mtc0}
+use Rattle.masm_lines.specs.Characters.{continues_name}
+use Rattle.masm_lines.specs.Statements.{operation_of}
+use Rattle.masm_lines.specs.declared.operation.Operation.TheVariants as operation
+use Rattle.masm_lines.specs.Mnemonics.{named_instruction, arithmetic_named, memory_named, control_named, hi_lo_named, system_named, single_named, named_register, named_conditional_move, named_shift, named_shift_variable, named_count, named_move_from, named_move_to, named_multiply, named_divide, named_immediate, named_load, named_store, named_cache, named_branch, named_branch_zero, named_jump, named_trap, named_trap_immediate, named_cp0_move, named_tlb}
 use Rattle.masm.proofs.TakenApart.{is_dense}
 
 -- a name of letters and digits, which names an instruction

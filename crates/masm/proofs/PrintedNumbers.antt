@@ -10,9 +10,9 @@ use Rattle.std.proofs.lemmas.Bool.Decides.{nat_tests}
 use Rattle.std.proofs.Math.Dec.{ltb}
 use Rattle.std.proofs.lemmas.Bool.{lt-ltb}
 use Rattle.std.proofs.lemmas.Fmt.{decimal_is_IsNumeral}
-use Rattle.mips_isa.specs.Operands.{hex_digit, hex_byte, signed_half}
-use Rattle.masm.specs.Characters.{starts_name, is_open}
-use Rattle.masm.specs.Tokens.{is_name, natural_of, number_of}
+use Rattle.mips_instr.specs.Operands.{hex_digit, hex_byte, signed_half}
+use Rattle.masm_lines.specs.Characters.{starts_name, is_open}
+use Rattle.masm_lines.specs.Tokens.{is_name, natural_of, number_of}
 use Rattle.masm.proofs.TakenApart.{is_solid}
 
 -- what holds of each number below another, given of one after the other

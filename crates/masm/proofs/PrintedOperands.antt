@@ -6,9 +6,9 @@ use Rattle.std.proofs.Math.Seq.{take-append_seam, get_or-append_seam}
 use Rattle.std.proofs.lemmas.List.{length-append}
 use Rattle.std.proofs.lemmas.List.Folds.{list_any-append}
 use Rattle.std.proofs.lemmas.Bool.{ltb-true}
-use Rattle.masm.specs.Characters.{is_open}
-use Rattle.masm.specs.Tokens.{register_of}
-use Rattle.masm.specs.Operands.{Register, Plain, Number, Based, written_of, based_of}
+use Rattle.masm_lines.specs.Characters.{is_open}
+use Rattle.masm_lines.specs.Tokens.{register_of}
+use Rattle.masm_lines.specs.Operands.{Register, Plain, Number, Based, written_of, based_of}
 use Rattle.masm.proofs.TakenApart.{is_solid, IsOperand, all_of_two, none_pass, before_it, behind_it}
 use Rattle.masm.proofs.PrintedNumbers.{AllBelow, below, IsNumber}
 

@@ -3,9 +3,9 @@ use Rattle.std.proofs.Common.{◌≡◌, ℕ, ◌+◌, ◌-◌, ◌*◌, ◌/◌
 use Rattle.std.proofs.lemmas.Bool.Decides.{nat_tests}
 use Rattle.std.proofs.lemmas.Bool.{lt-ltb}
 use Rattle.word32.specs.Sign.{sign_extended_half}
-use Rattle.mips_isa.specs.Operands.{signed_half}
-use Rattle.mips_isa.specs.Targets.{slot_address, branch_target, jump_target}
-use Rattle.masm.specs.Ranges.{bits_within, signed_half_bits}
+use Rattle.mips_instr.specs.Operands.{signed_half}
+use Rattle.mips_instr.specs.Targets.{slot_address, branch_target, jump_target}
+use Rattle.masm_lines.specs.Ranges.{bits_within, signed_half_bits}
 use Rattle.masm.specs.Meanings.{words_between, branch_offset, jump_index}
 use Rattle.masm.proofs.PrintedNumbers.{half_or_more, at_least}
 

@@ -2,8 +2,9 @@
 use Rattle.std.proofs.Common.{◌≡◌, ℕ, zero, suc, ◌+◌, ◌<◌, ◌≤◌, ◌⊎◌, inl, inr, Bool, true, false, ◌==◌, ◌%◌, ◌&&◌, ◌||◌, not, nat_lt, nat_le, if◌then◌else◌, List, [], ◌∷◌, ◌++◌, length, length-append, refl, sym, ap, subst, arith, Option, Some, None}
 use Rattle.std.specs.List.{list_any, AllByRecursion}
 use Rattle.std.proofs.lemmas.Bool.{ltb-false}
-use Rattle.masm.specs.Statements.{Statement, Instruction, Transfer, Word, AddressOf, Byte, Space, Org, Entry}
-use Rattle.masm.specs.Places.{Layout, first_layout, next_address, spans, size_of, alignment_of, after_statement, overlaps, is_outside, is_one_too_many, is_misplaced, has_misplaced}
+use Rattle.masm_lines.specs.Statements.{Statement, Instruction, Transfer, Word, AddressOf, Byte, Space, Org, Entry}
+use Rattle.masm.specs.Places.{Layout, first_layout, next_address, spans, after_statement, overlaps, is_outside, is_one_too_many, is_misplaced, has_misplaced}
+use Rattle.masm_lines.specs.Statements.{size_of, alignment_of}
 use Rattle.masm.specs.declared.layout.Span.{Span}
 
 pub zero_or_some : (n : ℕ) → (n ≡ 0) ⊎ (0 < n)

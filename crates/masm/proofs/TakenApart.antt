@@ -7,9 +7,9 @@ use Rattle.std.proofs.Math.Seq.{take-append_seam, drop-append-add, take-length}
 use Rattle.std.proofs.lemmas.List.{length-append, get_or-append_right}
 use Rattle.std.proofs.lemmas.List.Folds.{list_all-append, list_any-append}
 use Rattle.std.proofs.lemmas.List.Sums.{suffix_len_is, AllPass-from_list_all}
-use Rattle.masm.specs.Characters.{is_blank, begins_comment, is_comma}
-use Rattle.masm.specs.Tokens.{trimmed, trimmed_start}
-use Rattle.masm.specs.Operands.{Written, written_of, operands_in, operands_up_to}
+use Rattle.masm_lines.specs.Characters.{is_blank, begins_comment, is_comma}
+use Rattle.masm_lines.specs.Tokens.{trimmed, trimmed_start}
+use Rattle.masm_lines.specs.Operands.{Written, written_of, operands_in, operands_up_to}
 
 -- a character of a name or of operands: ASCII, and no blank or `#`
 abbrev pub is_dense : ℕ → Bool

@@ -4,14 +4,14 @@ use Rattle.std.specs.Cmp.Lexicographic.{slice_cmp}
 use Rattle.std.specs.Ordering.{nat_cmp}
 use Rattle.std.specs.BTreeMap.{get_by}
 use Rattle.masm.specs.Names as names
-use Rattle.masm.specs.Statements.{Statement}
-use Rattle.masm.specs.Grammar.{Line, line_of}
-use Rattle.masm.specs.Places.{size_of}
+use Rattle.masm_lines.specs.Statements.{Statement}
+use Rattle.masm_lines.specs.Grammar.{Line, line_of}
+use Rattle.masm_lines.specs.Statements.{size_of}
 use Rattle.masm.specs.Assembly.{Reading, Located}
 use Rattle.masm.specs.Listings as listings
 use Rattle.masm.specs.Images.{AreBytesOf, AreSegmentsOf}
 use Rattle.masm.specs.Views.{layout_view}
-use Rattle.masm.specs.declared.error.AsmFault.{AsmFault}
+use Rattle.masm_lines.specs.declared.fault.AsmFault.{AsmFault}
 use Rattle.masm.specs.declared.error.AsmError.{AsmError}
 use Rattle.masm.specs.declared.error.AsmError.TheVariants as error
 use Rattle.masm.specs.declared.error.LineError.{LineError}

@@ -2,13 +2,13 @@
 use Rattle.std.specs.Prelude.{◌≡◌, ℕ, ◌+◌, false, if◌then◌else◌, List, [], ◌∷◌, map, Option, Result, Ok, Err}
 use Rattle.std.specs.Str.Lines.{lines}
 use Rattle.std.specs.Result.{result_err}
-use Rattle.masm.specs.Grammar.{Line, line_of}
+use Rattle.masm_lines.specs.Grammar.{Line, line_of}
 use Rattle.masm.specs.Places.{Layout, first_layout, next_address, after_statement, has_misplaced}
 use Rattle.masm.specs.Names.{Names, with_label, is_double}
 use Rattle.masm.specs.Listings.{Output, first_output, with_statement, Listing, listing_of}
-use Rattle.masm.specs.Steps.{◌>>=◌}
-use Rattle.masm.specs.declared.error.AsmFault.{AsmFault}
-use Rattle.masm.specs.declared.error.AsmFault.TheVariants as fault
+use Rattle.masm_lines.specs.Steps.{◌>>=◌}
+use Rattle.masm_lines.specs.declared.fault.AsmFault.{AsmFault}
+use Rattle.masm_lines.specs.declared.fault.AsmFault.TheVariants as fault
 
 -- a fault with its line, counted from 1; 0 is no line
 abbrev pub Located : Type 0 → Type 0

@@ -2,9 +2,9 @@
 use Rattle.std.specs.Prelude.{ℕ, ◌+◌, ◌/◌, ◌%◌, ◌^◌, List, [], ◌∷◌, ◌++◌, codes, flat_map}
 use Rattle.std.specs.Int.{from_le_bytes, w32}
 use Rattle.mips_isa.specs.Table.{readings}
-use Rattle.mips_isa.specs.Operands.{hex_byte}
-use Rattle.mips_isa.specs.Text.{instr_text}
-use Rattle.mips_isa.specs.declared.instr.Instr.{Instr}
+use Rattle.mips_instr.specs.Operands.{hex_byte}
+use Rattle.mips_instr.specs.Text.{instr_text}
+use Rattle.mips_instr.specs.declared.instr.Instr.{Instr}
 use Rattle.elf32.specs.declared.image.Segment.{Segment}
 
 -- the eight digits of a word

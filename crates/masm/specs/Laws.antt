@@ -1,27 +1,13 @@
 -- What the reading of lines has to do with their printing.
-use Rattle.std.specs.Prelude.{◌≡◌, ℕ, ◌<◌, ◌^◌, List, [], ◌∷◌, Some, None, Ok}
+use Rattle.std.specs.Prelude.{◌≡◌, ℕ, ◌<◌, ◌^◌, List, Some, None, Ok}
 use Rattle.std.specs.Int.{to_le_bytes, w32}
-use Rattle.mips_isa.specs.Coprocessor.{coprocessor_word}
-use Rattle.mips_isa.specs.Fields.{fields}
-use Rattle.mips_isa.specs.Table.{Row}
-use Rattle.mips_isa.specs.Mnemonics.{mnemonic}
-use Rattle.mips_isa.specs.declared.instr.Instr.{Instr}
-use Rattle.mips_isa.specs.declared.instr.Instr.TheVariants as instr
-use Rattle.masm.specs.Grammar.{line_of}
+use Rattle.mips_instr.specs.Coprocessor.{coprocessor_word}
+use Rattle.mips_instr.specs.declared.instr.Instr.{Instr}
+use Rattle.mips_instr.specs.declared.instr.Instr.TheVariants as instr
+use Rattle.masm_lines.specs.Grammar.{line_of}
 use Rattle.masm.specs.Meanings.{Item, Code, Bytes, item_of}
-use Rattle.masm.specs.Mnemonics.{named_instruction}
 use Rattle.masm.specs.Names.{Names}
-use Rattle.masm.specs.Statements.{Statement}
-
--- an instruction is found by the name by which it is printed; those of coprocessors 1 and 2 are printed as words
-abbrev pub IsNamed : Instr → Type 0
-IsNamed (instr.Coprocessor op code) = Unit {0}
-IsNamed i = named_instruction (mnemonic i) ≡ Some i
-
--- what each row of the instruction table means where its fields are 0
-abbrev pub AreNamed : List Row → Type 0
-AreNamed [] = Unit {0}
-AreNamed (row ∷ rows) = IsNamed (row.means (fields 0)) × AreNamed rows
+use Rattle.masm_lines.specs.Statements.{Statement}
 
 -- the operands of an instruction are those that the fields of its word can hold
 abbrev pub HasFields : Instr → Type 0

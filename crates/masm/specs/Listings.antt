@@ -1,12 +1,12 @@
 -- Listings: the instructions and bytes that stand in segments, each at its address, and the entry.
 use Rattle.std.specs.Prelude.{ℕ, ◌+◌, ◌%◌, Bool, ◌==◌, ◌&&◌, nat_lt, nat_le, if◌then◌else◌, List, [], ◌∷◌, ◌++◌, sum_by, Option, Some, None, unwrap_or, Result, Ok, Err}
 use Rattle.std.specs.List.{list_any}
-use Rattle.masm.specs.Statements.{Statement, Org, Entry}
+use Rattle.masm_lines.specs.Statements.{Statement, Org, Entry}
 use Rattle.masm.specs.Names.{Names, known_address}
 use Rattle.masm.specs.Meanings.{Item, item_size, item_of}
-use Rattle.masm.specs.Steps.{◌>>=◌}
-use Rattle.masm.specs.declared.error.AsmFault.{AsmFault}
-use Rattle.masm.specs.declared.error.AsmFault.TheVariants as fault
+use Rattle.masm_lines.specs.Steps.{◌>>=◌}
+use Rattle.masm_lines.specs.declared.fault.AsmFault.{AsmFault}
+use Rattle.masm_lines.specs.declared.fault.AsmFault.TheVariants as fault
 
 -- a segment: its first address, and what stands from there on, one after the other
 pub record Part : Type 0 where

@@ -2,14 +2,14 @@
 use Rattle.std.specs.Prelude.{ℕ, ◌-◌, ◌/◌, ◌%◌, ◌^◌, ◌==◌, ◌&&◌, nat_le, nat_lt, if◌then◌else◌, List, [], ◌∷◌, length, Result, Ok, Err}
 use Rattle.std.specs.Int.{to_le_bytes, w32}
 use Rattle.word32.specs.Zeros.{zeros}
-use Rattle.mips_isa.specs.Targets.{slot_address}
-use Rattle.mips_isa.specs.declared.instr.Instr.{Instr}
-use Rattle.mips_isa.specs.declared.instr.Instr.TheVariants as instr
+use Rattle.mips_instr.specs.Targets.{slot_address}
+use Rattle.mips_instr.specs.declared.instr.Instr.{Instr}
+use Rattle.mips_instr.specs.declared.instr.Instr.TheVariants as instr
 use Rattle.masm.specs.Names.{Names, known_address, value_address}
-use Rattle.masm.specs.Statements.{Statement, Instruction, Transfer, Word, AddressOf, Byte, Space, Org, Entry}
-use Rattle.masm.specs.Steps.{◌>>=◌}
-use Rattle.masm.specs.declared.error.AsmFault.{AsmFault}
-use Rattle.masm.specs.declared.error.AsmFault.TheVariants as fault
+use Rattle.masm_lines.specs.Statements.{Statement, Instruction, Transfer, Word, AddressOf, Byte, Space, Org, Entry}
+use Rattle.masm_lines.specs.Steps.{◌>>=◌}
+use Rattle.masm_lines.specs.declared.fault.AsmFault.{AsmFault}
+use Rattle.masm_lines.specs.declared.fault.AsmFault.TheVariants as fault
 
 -- what a listing has at an address
 pub data Item : Type 0 where

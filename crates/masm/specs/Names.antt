@@ -1,10 +1,10 @@
 -- The addresses of names.
 use Rattle.std.specs.Prelude.{ℕ, Bool, false, if◌then◌else◌, List, [], ◌∷◌, ◌++◌, Option, Some, None, is_some, Result, ok_or}
 use Rattle.std.specs.Str.{bytes_eq}
-use Rattle.masm.specs.Operands.{Value, Number, Name}
-use Rattle.masm.specs.Ranges.{address_bits}
-use Rattle.masm.specs.declared.error.AsmFault.{AsmFault}
-use Rattle.masm.specs.declared.error.AsmFault.TheVariants as fault
+use Rattle.masm_lines.specs.Operands.{Value, Number, Name}
+use Rattle.masm_lines.specs.Ranges.{address_bits}
+use Rattle.masm_lines.specs.declared.fault.AsmFault.{AsmFault}
+use Rattle.masm_lines.specs.declared.fault.AsmFault.TheVariants as fault
 
 -- names with their addresses
 abbrev pub Names : Type 0

@@ -2,7 +2,7 @@
 use Rattle.std.specs.Prelude.{ℕ, ◌+◌, ◌%◌, Bool, false, not, ◌==◌, ◌&&◌, ◌||◌, nat_lt, nat_le, if◌then◌else◌, List, [], ◌∷◌, ◌++◌, length, Option, Some, None}
 use Rattle.std.specs.List.{list_any}
 use Rattle.masm.specs.declared.layout.Span.{Span}
-use Rattle.masm.specs.Statements.{Statement, Instruction, Transfer, Word, AddressOf, Byte, Space, Org, Entry}
+use Rattle.masm_lines.specs.Statements.{Statement, Org, size_of, alignment_of}
 
 -- a `Span` is a segment's first address, `start`, and how many bytes it has so far, `size`
 
@@ -25,25 +25,6 @@ next_address l = l.current.start + l.current.size
 -- the non-empty segments
 abbrev pub spans : Layout → List Span
 spans l = if l.current.size == 0 then l.earlier else l.earlier ++ l.current ∷ []
-
--- how many bytes a statement puts at its place
-abbrev pub size_of : Statement → ℕ
-size_of (Instruction i) = 4
-size_of (Transfer i value) = 4
-size_of (Word n) = 4
-size_of (AddressOf name) = 4
-size_of (Byte n) = 1
-size_of (Space n) = n
-size_of (Org n) = 0
-size_of (Entry name) = 0
-
--- instructions and words stand at multiples of 4
-abbrev pub alignment_of : Statement → ℕ
-alignment_of (Instruction i) = 4
-alignment_of (Transfer i value) = 4
-alignment_of (Word n) = 4
-alignment_of (AddressOf name) = 4
-alignment_of _ = 1
 
 -- the layout after a statement: `.org` begins a segment, and the others lengthen the present one
 abbrev pub after_statement : Layout → Option Statement → Layout

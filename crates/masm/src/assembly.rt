@@ -6,7 +6,7 @@ ghost use Rattle.masm.specs.Assembly.{Means, first_fault};
 ghost use Rattle.masm.specs.Executables.{IsExecutableOf};
 ghost use Rattle.masm.specs.Images.{IsImageOf};
 ghost use Rattle.masm.specs.Listings.{Listing};
-ghost use Rattle.masm.specs.Views.{text_view};
+ghost use Rattle.masm_lines.specs.Views.{text_view};
 
 use crate::AsmError;
 use crate::output::image_of;

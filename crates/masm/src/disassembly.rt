@@ -6,11 +6,12 @@ ghost use Rattle.masm.specs.Assembly.{Means, first_fault};
 ghost use Rattle.masm.specs.Disassembly as spec;
 ghost use Rattle.masm.specs.Images.{IsImageOf};
 ghost use Rattle.masm.specs.Listings.{Listing};
-ghost use Rattle.mips_isa.specs.Operands.{hex_byte};
+ghost use Rattle.mips_instr.specs.Operands.{hex_byte};
 
 use crate::{AsmError, assemble_image};
 use elf32::Image;
-use mips_isa::{decode, text};
+use mips_instr::text;
+use mips_isa::decode;
 use std::alloc::{AllocError, Global};
 use std::fmt;
 

@@ -1,25 +1,14 @@
 //! Laws of the definitions: a line is read as the instruction that is printed as that line.
 ghost use Rattle.std.specs.Prelude.{◌≡◌, ℕ, ◌≤◌, ◌<◌, ◌%◌, ◌∷◌, [], codes, Some, Ok};
-ghost use Rattle.mips_isa.specs.Table.{readings, special_rows, regimm_rows, special2_rows, cop0_rows, opcode_rows, memory_rows};
-ghost use Rattle.mips_isa.specs.declared.instr.Instr.{Instr};
-ghost use Rattle.mips_isa.specs.declared.instr.Instr.TheVariants.{Branch};
-ghost use Rattle.mips_isa.specs.Text.{instr_text};
-ghost use Rattle.mips_isa.specs.declared.instr.BranchOp.TheVariants.{Beq};
+ghost use Rattle.mips_isa.specs.Table.{readings};
+ghost use Rattle.mips_instr.specs.declared.instr.Instr.{Instr};
+ghost use Rattle.mips_instr.specs.declared.instr.Instr.TheVariants.{Branch};
+ghost use Rattle.mips_instr.specs.Text.{instr_text};
+ghost use Rattle.mips_instr.specs.declared.instr.BranchOp.TheVariants.{Beq};
 ghost use Rattle.masm.specs.Assembly.{assembly, first_fault};
-ghost use Rattle.masm.specs.Laws.{AreNamed, HasFields, LinePuts, item_printed};
+ghost use Rattle.masm.specs.Laws.{HasFields, LinePuts, item_printed};
 ghost use Rattle.masm.specs.Meanings.{Code};
-ghost use Rattle.masm.specs.declared.error.AsmFault.TheVariants as fault;
-
-/// A law: the instruction of each row of the table is found by the name by which it is printed.
-#[tactic(auto, unfolding(crate::specs::Mnemonics::named_instruction))]
-pub fn each_row_is_named()
-    ensures special { AreNamed special_rows }
-    ensures regimm { AreNamed regimm_rows }
-    ensures special2 { AreNamed special2_rows }
-    ensures cop0 { AreNamed cop0_rows }
-    ensures opcode { AreNamed opcode_rows }
-    ensures memory { AreNamed memory_rows }
-{}
+ghost use Rattle.masm_lines.specs.declared.fault.AsmFault.TheVariants as fault;
 
 /// A law: the line that is printed of an instruction at an address where one may stand is read as that instruction there;
 /// the line of an instruction of coprocessor 1 or 2 as its word.

@@ -2,10 +2,10 @@
 ghost use Rattle.std.specs.Prelude.{◌≡◌, ◌+◌, ◌<◌, ◌^◌, false, OnOk, Some};
 ghost use Rattle.std.specs.List.{list_any};
 ghost use Rattle.masm.specs.Places as place;
-ghost use Rattle.masm.specs.Views.{layout_view, line_view, statement_view};
+ghost use Rattle.masm.specs.Views.{layout_view};
+ghost use Rattle.masm_lines.specs.Views.{line_view, statement_view};
 
-use crate::line::Line;
-use crate::statement::Statement;
+use masm_lines::{Line, Statement};
 use std::alloc::{AllocError, Global};
 
 /// The first address of memory that is mapped to no other place, and where the first segment starts.

@@ -8,19 +8,16 @@ ghost use Rattle.masm.specs.Images.{IsImageOf, StandFor};
 ghost use Rattle.masm.specs.Listings as listings;
 ghost use Rattle.masm.specs.Meanings as meaning;
 ghost use Rattle.masm.specs.Names as naming;
-ghost use Rattle.masm.specs.Places.{alignment_of};
-ghost use Rattle.masm.specs.Views.{statement_view, text_view};
+ghost use Rattle.masm_lines.specs.Statements.{alignment_of};
+ghost use Rattle.masm_lines.specs.Views.{statement_view, text_view};
 ghost use Rattle.word32.specs.Zeros.{zeros};
 
-use crate::AsmFault;
 use crate::error::{AsmError, LineError};
 use crate::layout::FIRST_ADDRESS;
-use crate::line::line_of;
-use crate::range::address_bits;
 use crate::reading::Names;
-use crate::statement::Statement;
 use crate::target::aimed;
 use elf32::{Image, Segment};
+use masm_lines::{AsmFault, Statement, address_bits, line_of};
 use mips_isa::encode;
 use std::alloc::{AllocError, Global};
 

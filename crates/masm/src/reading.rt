@@ -4,12 +4,12 @@ ghost use Rattle.masm.specs.Answers.{Knows, IsReading, Follows, Gives};
 ghost use Rattle.masm.specs.Assembly as spec;
 ghost use Rattle.masm.specs.Names as naming;
 ghost use Rattle.masm.specs.Places.{next_address};
-ghost use Rattle.masm.specs.Views.{layout_view, line_view, text_view};
+ghost use Rattle.masm.specs.Views.{layout_view};
+ghost use Rattle.masm_lines.specs.Views.{line_view, text_view};
 
-use crate::AsmFault;
 use crate::error::{AsmError, LineError};
 use crate::layout::Layout;
-use crate::line::{Line, line_of};
+use masm_lines::{AsmFault, Line, line_of};
 use std::alloc::{AllocError, Global};
 use std::collections::BTreeMap;
 

@@ -2,8 +2,8 @@
 ghost use Rattle.std.specs.Prelude.{◌≡◌, ◌<◌, ◌^◌, IfOk};
 ghost use Rattle.masm.specs.Meanings.{branch_offset, jump_index, aimed};
 
-use crate::AsmFault;
-use mips_isa::{Instr, JumpTarget};
+use masm_lines::AsmFault;
+use mips_instr::{Instr, JumpTarget};
 
 /// The offset in words from the delay slot by which a branch at an address leads to a target.
 #[tactic(auto, unfolding(crate::specs::Meanings::branch_offset, crate::specs::Meanings::words_between))]

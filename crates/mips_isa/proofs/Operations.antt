@@ -4,7 +4,7 @@ use Rattle.std.specs.List.{list_all, flat_map}
 use Rattle.std.specs.Prelude.{option_to_list}
 use Rattle.std.proofs.lemmas.Bool.{false≢true}
 use Rattle.std.proofs.lemmas.List.Folds.{list_all-append}
-use Rattle.mips_isa.specs.declared.instr.Instr.{Instr}
+use Rattle.mips_instr.specs.declared.instr.Instr.{Instr}
 use Rattle.mips_isa.specs.Fields.{Fields, fields}
 use Rattle.mips_isa.specs.Memory.{touches_memory}
 use Rattle.mips_isa.specs.Table.{Row, fits, reading, readings, readings_of, special_rows, regimm_rows, special2_rows, cop0_rows, opcode_rows, special_readings, regimm_readings, special2_readings, cop0_readings, opcode_readings}

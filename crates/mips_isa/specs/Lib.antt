@@ -1,9 +1,4 @@
-pub mod Coprocessor
 pub mod Fields
 pub mod Forms
 pub mod Memory
-pub mod Mnemonics
-pub mod Operands
 pub mod Table
-pub mod Targets
-pub mod Text

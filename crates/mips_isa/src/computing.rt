@@ -1,7 +1,7 @@
 //! The words of instructions that compute from registers.
 ghost use Rattle.std.specs.Prelude.{◌≡◌, ◌∷◌, []};
 ghost use Rattle.mips_isa.specs.Table.{readings};
-ghost use Rattle.mips_isa.specs.declared.instr.Instr.TheVariants as instr;
+ghost use Rattle.mips_instr.specs.declared.instr.Instr.TheVariants as instr;
 
 use crate::joining::{join, zero};
 use crate::{

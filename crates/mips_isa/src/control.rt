@@ -1,7 +1,7 @@
 //! The words of traps, branches and jumps.
 ghost use Rattle.std.specs.Prelude.{◌≡◌, ◌∷◌, []};
 ghost use Rattle.mips_isa.specs.Table.{readings};
-ghost use Rattle.mips_isa.specs.declared.instr.Instr.TheVariants as instr;
+ghost use Rattle.mips_instr.specs.declared.instr.Instr.TheVariants as instr;
 
 use crate::joining::{join, join_call, join_imm, join_index, join_trap, zero};
 use crate::{

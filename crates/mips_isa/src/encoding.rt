@@ -1,8 +1,8 @@
 //! From an instruction to its word.
 ghost use Rattle.std.specs.Prelude.{◌≡◌, ◌∷◌, [], Some};
-ghost use Rattle.mips_isa.specs.Coprocessor.{coprocessor_word};
+ghost use Rattle.mips_instr.specs.Coprocessor.{coprocessor_word};
 ghost use Rattle.mips_isa.specs.Table.{readings};
-ghost use Rattle.mips_isa.specs.declared.instr.Instr.TheVariants as instr;
+ghost use Rattle.mips_instr.specs.declared.instr.Instr.TheVariants as instr;
 
 use crate::computing::{
     conditional_move_word, count_word, divide_word, move_from_word, move_to_word, multiply_word,

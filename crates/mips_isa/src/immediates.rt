@@ -1,8 +1,8 @@
 //! The words of instructions with an immediate or an offset, and of those of coprocessors 1 and 2.
 ghost use Rattle.std.specs.Prelude.{◌≡◌, ◌∷◌, []};
-ghost use Rattle.mips_isa.specs.Coprocessor.{coprocessor_word};
+ghost use Rattle.mips_instr.specs.Coprocessor.{coprocessor_word};
 ghost use Rattle.mips_isa.specs.Table.{readings};
-ghost use Rattle.mips_isa.specs.declared.instr.Instr.TheVariants as instr;
+ghost use Rattle.mips_instr.specs.declared.instr.Instr.TheVariants as instr;
 
 use crate::joining::{join_imm, join_index, zero};
 use crate::{CacheOp, CoprocessorCode, CoprocessorOp, Hint, ImmediateOp, LoadOp, Reg, StoreOp};
@@ -74,16 +74,5 @@ pub fn coprocessor_bits(op: CoprocessorOp, code: CoprocessorCode) -> u32
     ensures reads { readings result ≡ instr.Coprocessor op code ∷ [] }
     ensures word { result ≡ coprocessor_word op code }
 {
-    match op {
-        CoprocessorOp::Cop1 => join_index(0x11, code.bits()),
-        CoprocessorOp::Cop2 => join_index(0x12, code.bits()),
-        CoprocessorOp::Lwc1 => join_index(0x31, code.bits()),
-        CoprocessorOp::Lwc2 => join_index(0x32, code.bits()),
-        CoprocessorOp::Ldc1 => join_index(0x35, code.bits()),
-        CoprocessorOp::Ldc2 => join_index(0x36, code.bits()),
-        CoprocessorOp::Swc1 => join_index(0x39, code.bits()),
-        CoprocessorOp::Swc2 => join_index(0x3a, code.bits()),
-        CoprocessorOp::Sdc1 => join_index(0x3d, code.bits()),
-        CoprocessorOp::Sdc2 => join_index(0x3e, code.bits()),
-    }
+    join_index(op.opcode(), code.bits())
 }

@@ -1,7 +1,7 @@
 //! The words of the instructions of coprocessor 0.
 ghost use Rattle.std.specs.Prelude.{◌≡◌, ◌∷◌, []};
 ghost use Rattle.mips_isa.specs.Table.{readings};
-ghost use Rattle.mips_isa.specs.declared.instr.Instr.TheVariants as instr;
+ghost use Rattle.mips_instr.specs.declared.instr.Instr.TheVariants as instr;
 
 use crate::joining::{join, join_wait, zero};
 use crate::{Cp0MoveOp, Reg, Select, TlbOp, WaitCode};

@@ -1,12 +1,12 @@
 //! The state of the processor, and how control moves.
 ghost use Rattle.std.specs.Prelude.{◌≡◌, ℕ, ◌<◌, ◌^◌, ◌==◌, is_some, IfSome, Ok};
-ghost use Rattle.mips_isa.specs.Targets.{slot_address};
+ghost use Rattle.mips_instr.specs.Targets.{slot_address};
 ghost use Rattle.mips_step.specs.Processor.{Processor, reg, with_reg, next, jumped, skipped, linked, clocked, excepted, boot_processor};
 ghost use Rattle.mips_step.specs.Places.{alignment, place, data_address};
 
 use crate::Size;
 use mips_cp0::{Cp0, Exc};
-use mips_isa::Reg;
+use mips_instr::Reg;
 use mips_tlb::{Kind, Tlb, direct_address};
 use std::marker::Model;
 use word32::sext16;

@@ -6,7 +6,7 @@ use mips_alu::{
     Accumulation, ArithOp, Comparison, HiLo, LeadingBits, ShiftKind, Signedness, arith, compare,
     count_leading, divide, multiply, shift,
 };
-use mips_isa::{
+use mips_instr::{
     BranchOp, BranchZeroOp, ConditionalMoveOp, CountOp, DivideOp, ImmediateOp, MultiplyOp,
     RegisterOp, ShiftAmount, ShiftOp, ShiftVariableOp, TrapImmediateOp, TrapOp,
 };

@@ -5,7 +5,7 @@ use super::expect;
 use super::run::{boot_table_machine, raw_image, state_of, step_table_machine};
 use elf32::{Image, Segment};
 use flatvm::{Flat, Item, SeatNo, What};
-use mips_isa::Reg;
+use mips_instr::Reg;
 use std::alloc::{AllocError, Global};
 use std::process::Abort;
 use std::test::Fail;

@@ -8,7 +8,7 @@ use super::expect;
 use super::run::{boot_guest, make_steps, raw_image};
 use flatvm::SeatNo;
 use guest::{Guest, Log, Refused, Seat, Stop};
-use mips_isa::Reg;
+use mips_instr::Reg;
 use std::process::Abort;
 use std::test::Fail;
 

@@ -7,7 +7,7 @@ use super::expect;
 use elf32::Image;
 use flatvm::{Flat, SeatNo};
 use guest::{Guest, Seat};
-use mips_isa::Reg;
+use mips_instr::Reg;
 use mips_step::{Cpu, StepOut};
 use std::process::Abort;
 use std::test::Fail;

@@ -6,7 +6,7 @@ ghost use Rattle.mips_step.specs.Effect.{moved_from, moved_to, with_hi_lo, cp0_m
 use super::Cpu;
 use mips_alu::HiLo;
 use mips_cp0::Coprocessor;
-use mips_isa::{Cp0MoveOp, MoveFromOp, MoveToOp, Reg, Select, TlbOp};
+use mips_instr::{Cp0MoveOp, MoveFromOp, MoveToOp, Reg, Select, TlbOp};
 
 impl Cpu {
     /// HI and LO together.

@@ -7,7 +7,7 @@ use Rattle.masm.specs.Answers.{Gives, Knows, fault_in}
 use Rattle.masm.specs.Assembly.{Reading, first_pass, second_pass, assembly_of, first_fault}
 use Rattle.masm.specs.Images.{IsImageOf}
 use Rattle.masm.specs.Listings.{Listing}
-use Rattle.masm.specs.Views.{text_view}
+use Rattle.masm_lines.specs.Views.{text_view}
 use Rattle.masm.specs.declared.error.AsmError.{AsmError}
 use Rattle.masm.specs.declared.reading.Names.{Names}
 use Rattle.masm.proofs.OutputMeans.{image_told, error_told, fault_told}

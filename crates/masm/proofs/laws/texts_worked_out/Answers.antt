@@ -1,14 +1,14 @@
 use Rattle.std.proofs.Common.{refl}
 use Rattle.masm.specs.Assembly.{first_step, first_pass, second_step, second_pass, assembly_of}
-use Rattle.masm.specs.Grammar.{body_of, label_of, statement_in, statement_or_nothing, line_of}
-use Rattle.masm.specs.Instructions.{with_operands}
+use Rattle.masm_lines.specs.Grammar.{body_of, label_of, statement_in, statement_or_nothing, line_of}
+use Rattle.masm_lines.specs.Instructions.{with_operands}
 use Rattle.masm.specs.Meanings.{words_between, branch_offset, jump_index, item_of}
-use Rattle.masm.specs.Operands.{based_of, written_of, operands_in}
+use Rattle.masm_lines.specs.Operands.{based_of, written_of, operands_in}
 use Rattle.masm.specs.Places.{is_misplaced}
-use Rattle.masm.specs.Ranges.{bits_within}
-use Rattle.masm.specs.Statements.{named_directive, operation_of, instruction_statement, directive_statement}
-use Rattle.masm.specs.Tokens.{trimmed_start, trimmed, natural_of, number_of, register_of}
-use Rattle.masm.specs.Mnemonics.{named_instruction, arithmetic_named, memory_named, control_named, hi_lo_named, system_named, single_named, named_register, named_conditional_move, named_shift, named_shift_variable, named_count, named_move_from, named_move_to, named_multiply, named_divide, named_immediate, named_load, named_store, named_cache, named_branch, named_branch_zero, named_jump, named_trap, named_trap_immediate, named_cp0_move, named_tlb}
+use Rattle.masm_lines.specs.Ranges.{bits_within}
+use Rattle.masm_lines.specs.Statements.{named_directive, operation_of, instruction_statement, directive_statement}
+use Rattle.masm_lines.specs.Tokens.{trimmed_start, trimmed, natural_of, number_of, register_of}
+use Rattle.masm_lines.specs.Mnemonics.{named_instruction, arithmetic_named, memory_named, control_named, hi_lo_named, system_named, single_named, named_register, named_conditional_move, named_shift, named_shift_variable, named_count, named_move_from, named_move_to, named_multiply, named_divide, named_immediate, named_load, named_store, named_cache, named_branch, named_branch_zero, named_jump, named_trap, named_trap_immediate, named_cp0_move, named_tlb}
 use Rattle.mips_isa.specs.Table.{readings_of, special_readings, regimm_readings, special2_readings, cop0_readings, opcode_readings, memory_readings}
 use Rattle.masm.proofs.laws.texts_worked_out.Goals as goal
 

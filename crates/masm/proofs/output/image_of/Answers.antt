@@ -4,7 +4,7 @@ use Rattle.masm.specs.Answers.{IsOutput, Knows, Gives}
 use Rattle.masm.specs.Assembly.{Reading, Located, over_lines, first_step, first_reading, first_pass, second_pass, assembly_of, second_step, at_line}
 use Rattle.masm.specs.Images.{IsImageOf}
 use Rattle.masm.specs.Listings.{Output, Listing, first_output, listing_of}
-use Rattle.masm.specs.Views.{text_view}
+use Rattle.masm_lines.specs.Views.{text_view}
 use Rattle.masm.specs.declared.reading.Names.{Names}
 use Rattle.masm.proofs.OutputPass.{given}
 use Rattle.masm.proofs.OutputWhole.{behind, from_lines, from_lines_is, behind_is, error_behind, same_error}

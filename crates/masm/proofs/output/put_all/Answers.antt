@@ -3,7 +3,7 @@ use Rattle.std.proofs.lemmas.List.{get_or-map, length-map}
 use Rattle.masm.specs.Answers.{IsOutput, Knows, Gives}
 use Rattle.masm.specs.Assembly.{Reading, over_lines, first_step, first_reading, second_step}
 use Rattle.masm.specs.Listings.{first_output}
-use Rattle.masm.specs.Views.{text_view}
+use Rattle.masm_lines.specs.Views.{text_view}
 use Rattle.masm.specs.declared.reading.Names.{Names}
 use Rattle.masm.proofs.OutputPass.{given, line_taken, line_refused, each_taken, error_at, next_of}
 use Rattle.masm.proofs.OutputRoom.{first_in_step, room, both_step, small}

@@ -2,7 +2,7 @@ use Rattle.std.proofs.Common.{◌≡◌, ◌+◌, drop, map, Ok}
 use Rattle.masm.specs.Answers.{IsOutput, Knows}
 use Rattle.masm.specs.Assembly.{Reading, over_lines, first_step, first_reading, second_step}
 use Rattle.masm.specs.Listings.{Output, first_output}
-use Rattle.masm.specs.Views.{text_view}
+use Rattle.masm_lines.specs.Views.{text_view}
 use Rattle.masm.proofs.OutputRoom.{InStep}
 use Rattle.masm.proofs.output.put_all.Given as goal
 

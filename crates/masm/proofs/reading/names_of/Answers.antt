@@ -3,7 +3,7 @@ use Rattle.std.proofs.lemmas.List.{get_or-map, length-map}
 use Rattle.masm.specs.Assembly.{first_pass, first_reading, first_step}
 use Rattle.masm.specs.Places.{next_address, Layout}
 use Rattle.masm.specs.Answers.{IsReading, Knows}
-use Rattle.masm.specs.Views.{text_view}
+use Rattle.masm_lines.specs.Views.{text_view}
 use Rattle.masm.proofs.Passes.{told, ends, goes_on, next_of}
 use Rattle.masm.proofs.reading.names_of.Goals as goal
 

@@ -2,7 +2,8 @@ use Rattle.std.proofs.Common.{◌≡◌, ◌<◌, ◌^◌, ◌+◌, drop, map}
 use Rattle.masm.specs.Answers.{IsReading}
 use Rattle.masm.specs.Assembly.{Reading, over_lines, first_step, first_pass}
 use Rattle.masm.specs.Places.{next_address}
-use Rattle.masm.specs.Views.{layout_view, text_view}
+use Rattle.masm.specs.Views.{layout_view}
+use Rattle.masm_lines.specs.Views.{text_view}
 use Rattle.masm.proofs.reading.names_of.Given as goal
 
 -- what is left of the first pass from here is the rest of the whole

@@ -3,7 +3,7 @@ use Rattle.word32.specs.Zeros.{zeros}
 use Rattle.masm.specs.Answers.{IsOutput}
 use Rattle.masm.specs.Listings.{with_statement, with_item}
 use Rattle.masm.specs.Meanings.{Bytes}
-use Rattle.masm.specs.Views.{statement_view}
+use Rattle.masm_lines.specs.Views.{statement_view}
 use Rattle.masm.proofs.OutputItems.{word_item}
 use Rattle.masm.proofs.OutputSteps.{follows_ok, follows_fault, byte_step, space_step, word_aligned}
 use Rattle.masm.proofs.output.Output.put.Goals as goal

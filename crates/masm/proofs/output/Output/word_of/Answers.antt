@@ -2,8 +2,8 @@ use Rattle.std.proofs.Common.{◌≡◌, rules, Ok, Err, ap, ◌∙◌, sym, ◌
 use Rattle.masm.specs.Meanings.{item_of, aimed}
 use Rattle.masm.specs.Listings.{next_place}
 use Rattle.masm.specs.Names.{value_address}
-use Rattle.masm.specs.Operands.{Number, Name}
-use Rattle.masm.specs.Views.{statement_view}
+use Rattle.masm_lines.specs.Operands.{Number, Name}
+use Rattle.masm_lines.specs.Views.{statement_view}
 use Rattle.masm.proofs.OutputWords.{place_is, instruction_word, data_word, address_word, transfer_word, transfer_fault}
 use Rattle.masm.proofs.output.Output.word_of.Goals as goal
 

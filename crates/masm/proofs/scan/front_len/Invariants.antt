@@ -1,7 +1,0 @@
-use Rattle.std.proofs.Common.{◌≡◌, ◌+◌, drop}
-use Rattle.std.specs.List.{prefix_len}
-use Rattle.masm.specs.Classes.{class_test}
-use Rattle.masm.proofs.scan.front_len.Given as goal
-
-abbrev pub invariant-loop-i : goal.invariant-loop-i
-invariant-loop-i l = prefix_len (class_test l.class) l.text ≡ l.i + prefix_len (class_test l.class) (drop l.i l.text)

@@ -1,0 +1,15 @@
+pub mod Characters
+pub mod Classes
+pub mod Faults
+pub mod Grammar
+pub mod Instructions
+pub mod Mnemonics
+pub mod Named
+pub mod Operands
+pub mod Parts
+pub mod Ranges
+pub mod Shapes
+pub mod Statements
+pub mod Steps
+pub mod Tokens
+pub mod Views

@@ -1,0 +1,28 @@
+//! A line of assembly language: its label and its statement, or its fault.
+//!
+//! What a line says stands in `specs/`: `Grammar` (a line is a label and a statement), which rests on `Tokens` (names and
+//! numbers), `Operands`, `Mnemonics` (the names of the instructions), `Instructions` (which operands each has, and the
+//! instruction that they make) and `Statements`. The crate above uses `line_of`, whose answer is that line or its first fault.
+//! A statement may still name an address; what it means there, and where it stands, is for the crate above.
+#![tactic(auto)]
+
+mod argument;
+mod character;
+pub mod fault;
+mod forms;
+pub mod laws;
+pub mod line;
+mod mnemonics;
+mod numbers;
+mod operands;
+mod operation;
+mod range;
+mod scan;
+pub mod statement;
+mod token;
+mod written;
+
+pub use fault::AsmFault;
+pub use line::{Line, line_of};
+pub use range::address_bits;
+pub use statement::Statement;

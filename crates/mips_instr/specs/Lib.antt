@@ -1,0 +1,5 @@
+pub mod Coprocessor
+pub mod Mnemonics
+pub mod Operands
+pub mod Targets
+pub mod Text
