@@ -51,9 +51,9 @@ enum Answer {
 /// Does what the words of the command line ask for, and gives the status to exit with. The name of the program is not
 /// among the words. `input` is not read yet.
 ///
-/// Status 0: done. 1: an input was refused, the line `vmhost: ` with the fault stands in `err`, and nothing was written
-/// to `out`; or `out` or `err` could not be written. 2: the command line was refused, and `err` has the reason. 3: the
-/// machine stopped before its last step; the last line in `out` says why.
+/// At least one of `out` and `err` stays as it was. Status 0: done, and what was asked for stands in `out`. 1: an input was
+/// refused, and the line `vmhost: ` with the fault stands in `err`; or `out` or `err` could not be written. 2: the command
+/// line was refused, and `err` has the reason. 3: the machine stopped before its last step; the last line in `out` says why.
 pub fn program<R, I, O, E>(rt: &R, words: &[String], input: &mut I, out: &mut O, err: &mut E) -> u8
 where
     R: Files + AllocGlobal,
@@ -65,6 +65,7 @@ where
     ensures usage { result ≡ 2 → out.new ≡ out.old }
     ensures done { result ≡ 0 → err.new ≡ err.old }
     ensures stopped { result ≡ 3 → err.new ≡ err.old }
+    ensures one_output { (out.new ≡ out.old) ⊎ (err.new ≡ err.old) }
 {
     let _ = input;
     let written = match parse(rt.alloc(), words) {
@@ -84,7 +85,9 @@ where
     O: Write,
     E: Write,
     ensures usage { IfOk result (λ s. code_of s ≢ 2) }
-    ensures refused { IfOk result (λ s. code_of s ≢ 1 → err.new ≡ err.old) }
+    ensures refused { IfOk result (λ s. code_of s ≡ 1 → out.new ≡ out.old) }
+    ensures carried_out { IfOk result (λ s. code_of s ≢ 1 → err.new ≡ err.old) }
+    ensures one_output { (out.new ≡ out.old) ⊎ (err.new ≡ err.old) }
 {
     match carry_out(rt, order) {
         Ok(answer) => write_answer(&answer, out),
@@ -114,7 +117,8 @@ fn executed<'a, R: Files + AllocGlobal>(rt: &R, order: Exec<'a>) -> Result<Answe
 }
 
 fn write_answer<O: Write>(answer: &Answer, out: &mut O) -> io::Result<Status>
-    ensures { IfOk result (λ s. code_of s ≢ 2) }
+    ensures not_refused { IfOk result (λ s. code_of s ≢ 1) }
+    ensures not_usage { IfOk result (λ s. code_of s ≢ 2) }
 {
     match answer {
         Answer::Nothing => Ok(Status::Done),
@@ -148,9 +152,11 @@ fn write_fault<E: Write>(fault: &Fault<'_>, err: &mut E) -> io::Result<Status>
 
 /// Writes help, or what is wrong with the command line; want of memory is a fault like others.
 fn write_error<O: Write, E: Write>(error: &Error, out: &mut O, err: &mut E) -> io::Result<Status>
+    ensures refused { IfOk result (λ s. code_of s ≡ 1 → out.new ≡ out.old) }
     ensures usage { IfOk result (λ s. code_of s ≡ 2 → out.new ≡ out.old) }
     ensures done { IfOk result (λ s. code_of s ≡ 0 → err.new ≡ err.old) }
     ensures stopped { IfOk result (λ s. code_of s ≢ 3) }
+    ensures one_output { (out.new ≡ out.old) ⊎ (err.new ≡ err.old) }
 {
     if error.kind() == clap::error::ErrorKind::OutOfMemory {
         return write_fault(&Fault::Memory, err);

@@ -1,5 +1,6 @@
 -- Images without a header.
-use Rattle.std.specs.Prelude.{ℕ, ◌<◌, ◌≤◌}
+use Rattle.std.specs.Prelude.{◌≡◌, ℕ, ◌<◌, ◌≤◌, List, [], ◌∷◌, length, map}
+use Rattle.elf32.specs.declared.image.Image.{Image}
 
 -- the limits of the number of pages
 pub record IsPageCount (pages : ℕ) : Type 0 where
@@ -10,3 +11,10 @@ pub record IsPageCount (pages : ℕ) : Type 0 where
 pub record IsRaw (room length : ℕ) : Type 0 where
   pub least : 0 < length
   pub most : length ≤ room
+
+-- the image of a file's bytes: they are one segment at 80000000, as long as the file, and it is entered there
+pub record IsRawImage (all : List ℕ) (image : Image) : Type 0 where
+  pub entry : image.entry ≡ 0x80000000
+  pub addresses : map (λ s. s.address) image.segments.items ≡ 0x80000000 ∷ []
+  pub bytes : map (λ s. s.bytes.items) image.segments.items ≡ all ∷ []
+  pub sizes : map (λ s. s.size) image.segments.items ≡ length all ∷ []

@@ -1,9 +1,9 @@
 //! Images in files.
-ghost use Rattle.std.specs.Prelude.{◌≡◌, ◌<◌, ◌*◌, ◌^◌, ◌↔◌, IfErr, IfOk, IfSome, IsErrOf, IsTrue, MatchOption, Some, [], ◌∷◌, length, map};
+ghost use Rattle.std.specs.Prelude.{◌≡◌, ◌<◌, ◌*◌, ◌^◌, ◌↔◌, IfErr, IfOk, IfSome, IsErrOf, IsTrue, MatchOption, Some, length};
 ghost use Rattle.elf32.specs.Images.{FitsPages};
 ghost use Rattle.elf32.specs.Files.{StandsFor};
 ghost use Rattle.commands.specs.Faults.{IsElfFault, IsElfRefusal, IsRawFault};
-ghost use Rattle.commands.specs.Raw.{IsPageCount, IsRaw};
+ghost use Rattle.commands.specs.Raw.{IsPageCount, IsRaw, IsRawImage};
 
 use crate::fault::{Fault, of_file};
 use crate::order::Exec;
@@ -77,7 +77,7 @@ pub fn raw_image<'a, F: Read + Drop>(
 ) -> Result<Image, Fault<'a>>
     ensures fits { IfOk result (λ image. FitsPages image order.entry.pages) }
     ensures legal { IfOk result (λ image. IsPageCount order.entry.pages) }
-    ensures bytes { IfSome (F.remaining file) (λ all. IfOk result (λ image. map (λ s. s.bytes.items) image.segments.items ≡ all ∷ [])) }
+    ensures image { IfSome (F.remaining file) (λ all. IfOk result (IsRawImage all)) }
     ensures raw { IfSome (F.remaining file) (λ all. IsPageCount order.entry.pages → IsErrOf result Fault.Raw → ¬ IsRaw (order.entry.pages * 4096) (length all)) }
     ensures faults { IfErr result (λ fault. IsRawFault order.entry fault) }
 {
@@ -96,7 +96,7 @@ fn raw_image_within<'a, F: Read + Drop>(
 ) -> Result<Image, Fault<'a>>
     requires { IsPageCount order.pages }
     ensures fits { IfOk result (λ image. FitsPages image order.entry.pages) }
-    ensures bytes { IfSome (F.remaining file) (λ all. IfOk result (λ image. map (λ s. s.bytes.items) image.segments.items ≡ all ∷ [])) }
+    ensures image { IfSome (F.remaining file) (λ all. IfOk result (IsRawImage all)) }
     ensures raw { IfSome (F.remaining file) (λ all. IsErrOf result Fault.Raw → ¬ IsRaw (order.entry.pages * 4096) (length all)) }
     ensures faults { IfErr result (λ fault. IsRawFault order.entry fault) }
 {

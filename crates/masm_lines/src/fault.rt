@@ -4,7 +4,7 @@ ghost use Rattle.masm_lines.specs.Faults.{fault_number, fault_text};
 
 use std::fmt;
 
-/// What is wrong with a text.
+/// What is wrong with a text. A line by itself has one of the first four; the others are of what lines mean together.
 #[derive(Clone, Copy, Debug, PartialEq, Eq)]
 pub enum AsmFault {
     /// A character that is no ASCII, or a first word that is neither a name nor a directive.
