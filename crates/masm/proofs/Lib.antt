@@ -8,7 +8,6 @@ pub mod Mirrors
 pub mod OutputImage
 pub mod OutputItems
 pub mod OutputMeans
-pub mod OutputPass
 pub mod OutputRoom
 pub mod OutputSteps
 pub mod OutputWhole

@@ -13,7 +13,7 @@ use Rattle.masm.specs.Names.{Names}
 use Rattle.masm_lines.specs.declared.fault.AsmFault.{AsmFault}
 use Rattle.masm.specs.declared.error.AsmError.{AsmError}
 use Rattle.masm.specs.declared.error.AsmError.TheVariants as error
-use Rattle.masm.proofs.OutputPass.{both_taken, given}
+use Rattle.masm.proofs.Passes.{both_taken, given}
 use Rattle.masm.proofs.OutputRoom.{taken_line, second_of, bound}
 use Rattle.masm.proofs.OutputWhole.{behind, from_lines}
 

@@ -217,14 +217,14 @@ system_named name =
 -- an instruction whose name no other shares a shape with
 unfoldable pub single_named : List ℕ → Option Instr
 single_named name =
-    if bytes_eq name (codes "syscall") then Some (instr.Syscall 0)
-    else if bytes_eq name (codes "break") then Some (instr.Break 0)
-    else if bytes_eq name (codes "sync") then Some (instr.Sync 0)
-    else if bytes_eq name (codes "jr") then Some (instr.JumpRegister 0)
-    else if bytes_eq name (codes "jalr") then Some (instr.JumpLinkRegister 0 0)
-    else if bytes_eq name (codes "lui") then Some (instr.LoadUpper 0 0)
-    else if bytes_eq name (codes "eret") then Some instr.Eret
-    else if bytes_eq name (codes "wait") then Some (instr.Wait 0)
+    if bytes_eq (codes "syscall") name then Some (instr.Syscall 0)
+    else if bytes_eq (codes "break") name then Some (instr.Break 0)
+    else if bytes_eq (codes "sync") name then Some (instr.Sync 0)
+    else if bytes_eq (codes "jr") name then Some (instr.JumpRegister 0)
+    else if bytes_eq (codes "jalr") name then Some (instr.JumpLinkRegister 0 0)
+    else if bytes_eq (codes "lui") name then Some (instr.LoadUpper 0 0)
+    else if bytes_eq (codes "eret") name then Some instr.Eret
+    else if bytes_eq (codes "wait") name then Some (instr.Wait 0)
     else None
 
 -- the instruction of a name, with all operands 0

@@ -371,40 +371,33 @@ fn system_named(name: &[u8]) -> Option<Instr>
     None
 }
 
-/// Whether a name is this word.
-fn is(name: &[u8], word: &str) -> bool
-    ensures { result ≡ bytes_eq name.now word.now }
-{
-    name == word.as_bytes()
-}
-
 /// An instruction whose name no other shares a shape with.
 #[tactic(auto, unfolding(crate::specs::Mnemonics::single_named))]
 fn single_named(name: &[u8]) -> Option<Instr>
     ensures { result ≡ spec.single_named name.now }
 {
     let zero = Reg::new(0);
-    if is(name, "syscall") {
+    if is_mnemonic("syscall", name) {
         Some(Instr::Syscall {
             code: CallCode::new(0),
         })
-    } else if is(name, "break") {
+    } else if is_mnemonic("break", name) {
         Some(Instr::Break {
             code: CallCode::new(0),
         })
-    } else if is(name, "sync") {
+    } else if is_mnemonic("sync", name) {
         Some(Instr::Sync {
             stype: SyncType::new(0),
         })
-    } else if is(name, "jr") {
+    } else if is_mnemonic("jr", name) {
         Some(Instr::JumpRegister { rs: zero })
-    } else if is(name, "jalr") {
+    } else if is_mnemonic("jalr", name) {
         Some(Instr::JumpLinkRegister { rd: zero, rs: zero })
-    } else if is(name, "lui") {
+    } else if is_mnemonic("lui", name) {
         Some(Instr::LoadUpper { rt: zero, imm: 0 })
-    } else if is(name, "eret") {
+    } else if is_mnemonic("eret", name) {
         Some(Instr::Eret)
-    } else if is(name, "wait") {
+    } else if is_mnemonic("wait", name) {
         Some(Instr::Wait {
             code: WaitCode::new(0),
         })

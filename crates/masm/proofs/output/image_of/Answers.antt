@@ -6,7 +6,7 @@ use Rattle.masm.specs.Images.{IsImageOf}
 use Rattle.masm.specs.Listings.{Output, Listing, first_output, listing_of}
 use Rattle.masm_lines.specs.Views.{text_view}
 use Rattle.masm.specs.declared.reading.Names.{Names}
-use Rattle.masm.proofs.OutputPass.{given}
+use Rattle.masm.proofs.Passes.{given}
 use Rattle.masm.proofs.OutputWhole.{behind, from_lines, from_lines_is, behind_is, error_behind, same_error}
 use Rattle.masm.proofs.output.image_of.Goals as goal
 

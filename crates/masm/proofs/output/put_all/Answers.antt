@@ -5,7 +5,7 @@ use Rattle.masm.specs.Assembly.{Reading, over_lines, first_step, first_reading, 
 use Rattle.masm.specs.Listings.{first_output}
 use Rattle.masm_lines.specs.Views.{text_view}
 use Rattle.masm.specs.declared.reading.Names.{Names}
-use Rattle.masm.proofs.OutputPass.{given, line_taken, line_refused, each_taken, error_at, next_of}
+use Rattle.masm.proofs.Passes.{given, line_taken, line_refused, each_taken, error_at, next_of}
 use Rattle.masm.proofs.OutputRoom.{first_in_step, room, both_step, small}
 use Rattle.masm.proofs.output.put_all.Goals as goal
 
