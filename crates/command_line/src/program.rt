@@ -51,7 +51,7 @@ enum Answer {
 /// Does what the words of the command line ask for, and gives the status to exit with. The name of the program is not
 /// among the words. `input` is not read yet.
 ///
-/// At least one of `out` and `err` stays as it was. Status 0: done, and what was asked for stands in `out`. 1: an input was
+/// At least one of `out` and `err` stays as it was. Status 0: done, and `out` has what the command prints. 1: an input was
 /// refused, and the line `vmhost: ` with the fault stands in `err`; or `out` or `err` could not be written. 2: the command
 /// line was refused, and `err` has the reason. 3: the machine stopped before its last step; the last line in `out` says why.
 pub fn program<R, I, O, E>(rt: &R, words: &[String], input: &mut I, out: &mut O, err: &mut E) -> u8

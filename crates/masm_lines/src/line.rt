@@ -17,6 +17,7 @@ use crate::token::is_name;
 pub struct Line<'a> {
     /// The name that is to stand for the line's address.
     pub label: Option<&'a [u8]>,
+    /// The instruction or directive, with its operands.
     pub statement: Option<Statement<'a>>,
 }
 
