@@ -1,18 +1,30 @@
 //! The command line.
 use clap::error::ErrorKind;
 use clap::{Arg, ArgAction, ArgMatches, Command, Error, value_parser};
-use commands::{Asm, Dis, Exec, Format, MachineKind};
+use commands::{Asm, ConsoleInput, Dis, Exec, Format, MachineKind, Replay};
+use hex::FromHexError;
 use std::alloc::{AllocError, Global};
 
 /// What the command line asks for.
-#[derive(Clone, Copy)]
+#[derive(Drop)]
 pub enum Order<'a> {
     /// Assemble a source into an executable.
     Asm(Asm<'a>),
     /// Print the disassembly of an executable.
     Dis(Dis<'a>),
-    /// Run an image and print the state that the machine ends in.
-    Exec(Exec<'a>),
+    /// Run an image that begins with some console input, and print the state that the machine ends in.
+    Exec(Exec<'a>, ConsoleInput),
+    /// Replay a log and print the state that the machine ends in.
+    Replay(Replay<'a>),
+}
+
+/// What the command line asks for, with console input as its text.
+#[derive(Clone, Copy)]
+enum Asked<'a> {
+    Asm(Asm<'a>),
+    Dis(Dis<'a>),
+    Exec(Exec<'a>, &'a str),
+    Replay(Replay<'a>),
 }
 
 /// What the words ask for. The name of the program is not among them.
@@ -20,23 +32,47 @@ pub enum Order<'a> {
 /// An error is a request for help, words that are refused, or want of memory: its kind says which.
 pub fn parse<'a>(alloc: Global, words: &'a [String]) -> Result<Order<'a>, Error> {
     let mut command = whole_command(alloc)?;
-    order_in(&mut command, words)
+    order_in(alloc, &mut command, words)
 }
 
-fn order_in<'a>(command: &mut Command<'a>, words: &'a [String]) -> Result<Order<'a>, Error> {
+fn order_in<'a>(
+    alloc: Global,
+    command: &mut Command<'a>,
+    words: &'a [String],
+) -> Result<Order<'a>, Error> {
     let matches = command.try_get_matches_from_mut(words)?;
-    match order_of(&matches) {
-        Some(order) => Ok(order),
+    match asked_of(&matches) {
+        Some(Asked::Asm(asm)) => Ok(Order::Asm(asm)),
+        Some(Asked::Dis(dis)) => Ok(Order::Dis(dis)),
+        Some(Asked::Replay(replay)) => Ok(Order::Replay(replay)),
+        Some(Asked::Exec(exec, digits)) => match console_input(alloc, digits)? {
+            Some(input) => Ok(Order::Exec(exec, input)),
+            None => Err(command.error(ErrorKind::ValueValidation, INPUT_REFUSED)?),
+        },
         None => Err(command.error(ErrorKind::MissingSubcommand, "no command")?),
     }
 }
 
+/// What is wrong with console input that is refused.
+const INPUT_REFUSED: &str =
+    "the value of '--in <HEX>' is no even number of hexadecimal digits, or more than 512";
+
+/// The bytes of console input in hexadecimal digits, two a byte; none where they are no such digits or more than 512.
+fn console_input(alloc: Global, digits: &str) -> Result<Option<ConsoleInput>, AllocError> {
+    match hex::decode(alloc, digits.as_bytes()) {
+        Ok(bytes) if bytes.len() <= 256 => Ok(Some(ConsoleInput::new(bytes))),
+        Err(FromHexError::OutOfMemory) => Err(AllocError),
+        _ => Ok(None),
+    }
+}
+
 /// What the matches ask for, of which one command is a part.
-fn order_of<'a>(matches: &ArgMatches<'a>) -> Option<Order<'a>> {
+fn asked_of<'a>(matches: &ArgMatches<'a>) -> Option<Asked<'a>> {
     match matches.subcommand()? {
-        (ASM, of_asm) => Some(Order::Asm(asm_of(of_asm)?)),
-        (DIS, of_dis) => Some(Order::Dis(dis_of(of_dis)?)),
-        (_, of_exec) => Some(Order::Exec(exec_of(of_exec)?)),
+        (ASM, of_asm) => Some(Asked::Asm(asm_of(of_asm)?)),
+        (DIS, of_dis) => Some(Asked::Dis(dis_of(of_dis)?)),
+        (REPLAY, of_replay) => Some(Asked::Replay(replay_of(of_replay)?)),
+        (_, of_exec) => Some(Asked::Exec(exec_of(of_exec)?, of_exec.get_str(INPUT)?)),
     }
 }
 
@@ -48,10 +84,16 @@ const DIS: &str = "dis";
 
 const EXEC: &str = "exec";
 
+const REPLAY: &str = "replay";
+
+/// The option that gives console input.
+const INPUT: &str = "in";
+
 fn whole_command<'a>(alloc: Global) -> Result<Command<'a>, AllocError> {
     let command = with_subcommand(bare_command(alloc)?, asm_command(alloc))?;
     let command = with_subcommand(command, dis_command(alloc))?;
-    with_subcommand(command, exec_command(alloc))
+    let command = with_subcommand(command, exec_command(alloc))?;
+    with_subcommand(command, replay_command(alloc))
 }
 
 /// The command without its subcommands, of which it demands one.
@@ -92,13 +134,38 @@ fn exec_command<'a>(alloc: Global) -> Result<Command<'a>, AllocError> {
     );
     let command = with_flags(alloc, command)?;
     let command = with_numbers(alloc, command)?;
+    let command = with_texts(alloc, command)?;
     command.arg(file(alloc, "image", "IMAGE").help("The file of the image"))
 }
 
+fn replay_command<'a>(alloc: Global) -> Result<Command<'a>, AllocError> {
+    Command::new(alloc, REPLAY)
+        .about("Replays a log on the table machine and prints the state that it ends in")
+        .arg(raw_flag(alloc))?
+        .arg(file(alloc, "image", "IMAGE").help("The file of the image that the log is of"))?
+        .arg(file(alloc, "log", "LOG").help("The file of the log"))
+}
+
 fn with_flags<'a>(alloc: Global, command: Command<'a>) -> Result<Command<'a>, AllocError> {
-    command
-        .arg(flag(alloc, "raw").help("Place the file's bytes at 80000000 and enter them there"))?
-        .arg(flag(alloc, "flat").help("Use the table machine, on one plain memory"))
+    command.arg(raw_flag(alloc))?.arg(flag(alloc, "flat").help(
+        "Use the table machine, on one plain memory",
+    ))
+}
+
+fn raw_flag<'a>(alloc: Global) -> Arg<'a> {
+    flag(alloc, "raw").help("Place the file's bytes at 80000000 and enter them there")
+}
+
+fn with_texts<'a>(alloc: Global, command: Command<'a>) -> Result<Command<'a>, AllocError> {
+    let input = Arg::new(alloc, INPUT)
+        .long(INPUT)
+        .value_name("HEX")
+        .default_value("")
+        .help("Console input before the first step, at most 256 bytes in hexadecimal digits");
+    let log = Arg::new(alloc, "log").long("log").value_name("FILE").help(
+        "The file that the guest's log is written to after the run",
+    );
+    command.arg(input)?.arg(log)
 }
 
 fn with_numbers<'a>(alloc: Global, command: Command<'a>) -> Result<Command<'a>, AllocError> {
@@ -142,11 +209,7 @@ fn dis_of<'a>(matches: &ArgMatches<'a>) -> Option<Dis<'a>> {
 fn exec_of<'a>(matches: &ArgMatches<'a>) -> Option<Exec<'a>> {
     Some(Exec {
         image: matches.get_str("image")?,
-        format: if matches.get_flag("raw") {
-            Format::Raw
-        } else {
-            Format::Elf
-        },
+        format: format_of(matches),
         kind: if matches.get_flag("flat") {
             MachineKind::Flat
         } else {
@@ -154,5 +217,24 @@ fn exec_of<'a>(matches: &ArgMatches<'a>) -> Option<Exec<'a>> {
         },
         pages: matches.get_one("pages")?,
         steps: matches.get_one("steps")?,
+        log: matches.get_str("log"),
     })
+}
+
+/// What the matches of `replay` ask for; its arguments are required.
+fn replay_of<'a>(matches: &ArgMatches<'a>) -> Option<Replay<'a>> {
+    Some(Replay {
+        image: matches.get_str("image")?,
+        format: format_of(matches),
+        log: matches.get_str("log")?,
+    })
+}
+
+/// How the image's file is to be read.
+fn format_of(matches: &ArgMatches<'_>) -> Format {
+    if matches.get_flag("raw") {
+        Format::Raw
+    } else {
+        Format::Elf
+    }
 }

@@ -5,7 +5,10 @@ ghost use Rattle.command_line.specs.Exit.{code_of};
 
 use crate::parsing::{Order, parse};
 use clap::Error;
-use commands::{Asm, Dis, Exec, Fault, Report, assemble_file, disassemble_file, run_image};
+use commands::{
+    Asm, ConsoleInput, Dis, Exec, Fault, Replay, Report, assemble_file, disassemble_file,
+    replay_log, run_image,
+};
 use std::io::{BufRead, ErrorKind, Write};
 use std::rt::{Env, Files};
 use std::{env, io};
@@ -99,7 +102,8 @@ fn carry_out<'a, R: Files + AllocGlobal>(rt: &R, order: Order<'a>) -> Result<Ans
     match order {
         Order::Asm(order) => assembled(rt, order),
         Order::Dis(order) => disassembled(rt, order),
-        Order::Exec(order) => executed(rt, order),
+        Order::Exec(order, input) => executed(rt, order, &input),
+        Order::Replay(order) => replayed(rt, order),
     }
 }
 
@@ -112,8 +116,16 @@ fn disassembled<'a, R: Files + AllocGlobal>(rt: &R, order: Dis<'a>) -> Result<An
     Ok(Answer::Text(disassemble_file(rt, order)?))
 }
 
-fn executed<'a, R: Files + AllocGlobal>(rt: &R, order: Exec<'a>) -> Result<Answer, Fault<'a>> {
-    Ok(Answer::Report(run_image(rt, order)?))
+fn executed<'a, R: Files + AllocGlobal>(
+    rt: &R,
+    order: Exec<'a>,
+    input: &ConsoleInput,
+) -> Result<Answer, Fault<'a>> {
+    Ok(Answer::Report(run_image(rt, order, input)?))
+}
+
+fn replayed<'a, R: Files + AllocGlobal>(rt: &R, order: Replay<'a>) -> Result<Answer, Fault<'a>> {
+    Ok(Answer::Text(replay_log(rt, order)?))
 }
 
 fn write_answer<O: Write>(answer: &Answer, out: &mut O) -> io::Result<Status>

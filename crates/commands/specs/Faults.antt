@@ -1,98 +1,131 @@
 -- Which faults a command can have.
-use Rattle.std.specs.Prelude.{◌≡◌, ◌⊎◌, ℕ, List, Some}
+use Rattle.std.specs.Prelude.{◌≡◌, ◌⊎◌, ℕ, true, is_some, List, Some}
 use Rattle.elf32.specs.Faults.{first_fault}
 use Rattle.masm.specs.Assembly as assembly
 use Rattle.masm.specs.declared.error.AsmError.{AsmError}
 use Rattle.masm.specs.declared.error.AsmError.TheVariants as asm_error
+use Rattle.logfile.specs.Faults.{number_of}
+use Rattle.logfile.specs.declared.fault.ReadError.{ReadError}
+use Rattle.logfile.specs.declared.fault.ReadError.TheVariants as read_error
 use Rattle.commands.specs.Sources.{source_text}
 use Rattle.commands.specs.declared.order.Asm.{Asm as AsmOrder}
 use Rattle.commands.specs.declared.order.Dis.{Dis}
 use Rattle.commands.specs.declared.order.Exec.{Exec}
-use Rattle.commands.specs.declared.order.Format.{Format}
+use Rattle.commands.specs.declared.order.Replay.{Replay}
 use Rattle.commands.specs.declared.order.Format.TheVariants as format
+use Rattle.commands.specs.declared.order.MachineKind.TheVariants as machine
+use Rattle.commands.specs.declared.fault.LogRefusal.{LogRefusal}
+use Rattle.commands.specs.declared.fault.LogRefusal.TheVariants as log
 use Rattle.commands.specs.declared.fault.Fault.{Fault}
-use Rattle.commands.specs.declared.fault.Fault.TheVariants.{File, Asm, Elf, Raw, Limits, Memory}
+use Rattle.commands.specs.declared.fault.Fault.TheVariants.{File, Asm, Elf, Raw, Limits, Log, Memory}
 use Rattle.commands.specs.Raw.{IsPageCount}
 
--- of a raw image: its file can't be read, the file is empty or too long, the number of pages is outside its limits, or
--- memory was wanted
+-- memory may be wanted by each command; of the other faults it has those that are named
+
+-- of a raw image: its file can't be read, the file is empty or too long, or the number of pages is outside its limits
 abbrev pub IsRawFault : Exec → Fault → Type 0
 IsRawFault order (File name) = name ≡ order.image
-IsRawFault order (Asm fault line) = ⊥
-IsRawFault order (Elf fault) = ⊥
 IsRawFault order Raw = Unit {0}
 IsRawFault order Limits = ¬ IsPageCount order.pages
 IsRawFault order Memory = Unit {0}
+IsRawFault order other = ⊥
 
--- of the image of an ELF file: its file can't be read, which is the fault `unread`, it is refused, or memory was wanted
+-- of the image of an ELF file: its file can't be read, which is the fault `unread`, or it is refused
 abbrev pub IsElfFault : Fault → Fault → Type 0
 IsElfFault unread (File name) = File name ≡ unread
-IsElfFault unread (Asm fault line) = ⊥
 IsElfFault unread (Elf fault) = Unit {0}
-IsElfFault unread Raw = ⊥
-IsElfFault unread Limits = ⊥
 IsElfFault unread Memory = Unit {0}
+IsElfFault unread other = ⊥
 
 -- what is said of a file of these bytes for so many pages: where it is refused for a fault, that is its first
 abbrev pub IsElfRefusal : List ℕ → ℕ → Fault → Type 0
 IsElfRefusal all pages (File name) = Unit {0}
-IsElfRefusal all pages (Asm fault line) = ⊥
 IsElfRefusal all pages (Elf fault) = first_fault all pages ≡ Some fault
-IsElfRefusal all pages Raw = ⊥
-IsElfRefusal all pages Limits = ⊥
 IsElfRefusal all pages Memory = Unit {0}
+IsElfRefusal all pages other = ⊥
 
--- of a run of an ELF file: one of its image, or the number of pages is outside its limits
+-- of the image that is run: one of the file, by its format, or the number of pages is outside its limits
+abbrev pub IsImageFault : Exec → Fault → Type 0
+IsImageFault order (File name) = name ≡ order.image
+IsImageFault order (Elf fault) = order.format ≡ format.Elf
+IsImageFault order Raw = order.format ≡ format.Raw
+IsImageFault order Limits = ¬ IsPageCount order.pages
+IsImageFault order Memory = Unit {0}
+IsImageFault order other = ⊥
+
+-- of the image of an ELF file that is run
 abbrev pub IsElfRunFault : Exec → Fault → Type 0
 IsElfRunFault order (File name) = name ≡ order.image
-IsElfRunFault order (Asm fault line) = ⊥
 IsElfRunFault order (Elf fault) = Unit {0}
-IsElfRunFault order Raw = ⊥
 IsElfRunFault order Limits = ¬ IsPageCount order.pages
 IsElfRunFault order Memory = Unit {0}
+IsElfRunFault order other = ⊥
 
-abbrev pub IsFaultOf : Format → Exec → Fault → Type 0
-IsFaultOf format.Raw order fault = IsRawFault order fault
-IsFaultOf format.Elf order fault = IsElfRunFault order fault
+-- of a run of an image: the file of its log can't be written
+abbrev pub IsRunFault : Exec → Fault → Type 0
+IsRunFault order (File name) = order.log ≡ Some name
+IsRunFault order Memory = Unit {0}
+IsRunFault order other = ⊥
 
--- of the disassembly of a file: it can't be read, it is refused, or memory was wanted
+-- of a run: one of its image, or of the file of its log, or it is to have a log but the machine keeps none
+abbrev pub IsExecFault : Exec → Fault → Type 0
+IsExecFault order (File name) = (name ≡ order.image) ⊎ (order.log ≡ Some name)
+IsExecFault order (Elf fault) = order.format ≡ format.Elf
+IsExecFault order Raw = order.format ≡ format.Raw
+IsExecFault order Limits = ¬ IsPageCount order.pages
+IsExecFault order (Log refusal) = (refusal ≡ log.Flat) × (order.kind ≡ machine.Flat) × (is_some order.log ≡ true)
+IsExecFault order Memory = Unit {0}
+IsExecFault order other = ⊥
+
+-- of a replay: a file can't be read, the image is refused for the pages of the log, or the log is refused
+abbrev pub IsReplayFault : Replay → Fault → Type 0
+IsReplayFault order (File name) = (name ≡ order.image) ⊎ (name ≡ order.log)
+IsReplayFault order (Elf fault) = order.format ≡ format.Elf
+IsReplayFault order Raw = order.format ≡ format.Raw
+IsReplayFault order (Log refusal) = Unit {0}
+IsReplayFault order Memory = Unit {0}
+IsReplayFault order other = ⊥
+
+-- of the disassembly of a file: it can't be read, or it is refused
 abbrev pub IsDisFault : Dis → Fault → Type 0
 IsDisFault order (File name) = name ≡ order.image
-IsDisFault order (Asm fault line) = ⊥
 IsDisFault order (Elf fault) = Unit {0}
-IsDisFault order Raw = ⊥
-IsDisFault order Limits = ⊥
 IsDisFault order Memory = Unit {0}
+IsDisFault order other = ⊥
 
 -- the assembler's error, as a command's
 abbrev pub fault_of : AsmError → Fault
 fault_of (asm_error.Fault fault line) = Asm fault line
 fault_of (asm_error.Memory a) = Memory
 
--- of the executable of a source: its file can't be read, which is the fault `unread`, the source is refused, or memory was
--- wanted
+-- what is wrong with the items of a log's file, as a command's fault
+abbrev pub log_fault_of : ReadError → Fault
+log_fault_of (read_error.Fault fault) = Log (log.File fault)
+log_fault_of read_error.Memory = Memory
+
+-- the number of a refused log: 0 where there is none, 1 to 4 for a fault of the file, 5 for an item that the machine refuses
+abbrev pub log_refusal_number : LogRefusal → ℕ
+log_refusal_number log.Flat = 0
+log_refusal_number (log.File fault) = number_of fault
+log_refusal_number log.Item = 5
+
+-- of the executable of a source: its file can't be read, which is the fault `unread`, or the source is refused
 abbrev pub IsAsmFault : Fault → Fault → Type 0
 IsAsmFault unread (File name) = File name ≡ unread
 IsAsmFault unread (Asm fault line) = Unit {0}
-IsAsmFault unread (Elf fault) = ⊥
-IsAsmFault unread Raw = ⊥
-IsAsmFault unread Limits = ⊥
 IsAsmFault unread Memory = Unit {0}
+IsAsmFault unread other = ⊥
 
 -- what is said of a source of these bytes: where it is refused for a fault, that is its first, with its line
 abbrev pub IsAsmRefusal : List ℕ → Fault → Type 0
 IsAsmRefusal all (File name) = Unit {0}
 IsAsmRefusal all (Asm fault line) = assembly.first_fault (source_text all) ≡ Some (fault, line)
-IsAsmRefusal all (Elf fault) = ⊥
-IsAsmRefusal all Raw = ⊥
-IsAsmRefusal all Limits = ⊥
 IsAsmRefusal all Memory = Unit {0}
+IsAsmRefusal all other = ⊥
 
 -- of a source that is assembled into a file: one of the executable, or of the file that it is written to
 abbrev pub IsAsmRunFault : AsmOrder → Fault → Type 0
 IsAsmRunFault order (File name) = (name ≡ order.source) ⊎ (name ≡ order.output)
 IsAsmRunFault order (Asm fault line) = Unit {0}
-IsAsmRunFault order (Elf fault) = ⊥
-IsAsmRunFault order Raw = ⊥
-IsAsmRunFault order Limits = ⊥
 IsAsmRunFault order Memory = Unit {0}
+IsAsmRunFault order other = ⊥

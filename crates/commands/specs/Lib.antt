@@ -1,5 +1,6 @@
 pub mod Disassembled
 pub mod Faults
+pub mod LogFiles
 pub mod Raw
 pub mod Runs
 pub mod Sources

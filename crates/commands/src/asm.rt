@@ -1,5 +1,5 @@
 //! The command `asm`.
-ghost use Rattle.std.specs.Prelude.{◌≡◌, IfErr, IfOk, IfSome, OnOk};
+ghost use Rattle.std.specs.Prelude.{◌≡◌, ◌⊎◌, IfErr, IfOk, IfSome, OnOk};
 ghost use Rattle.std.specs.Io.KnownBytes.{Appends};
 ghost use Rattle.masm.specs.Executables.{IsExecutableOf};
 ghost use Rattle.commands.specs.Faults.{IsAsmFault, IsAsmRefusal, IsAsmRunFault};
@@ -61,6 +61,7 @@ fn executable_in<'a>(alloc: Global, bytes: &[u8]) -> Result<Vec<u8>, Fault<'a>>
 pub fn write_file<'a, F: Write>(file: &mut F, name: &'a str, bytes: &[u8]) -> Result<(), Fault<'a>>
     ensures whole { OnOk result (Appends (F.contents file.old) (F.contents file.new) bytes.now) }
     ensures faults { IfErr result (λ fault. IsAsmFault (Fault.File name.entry) fault) }
+    ensures either { IfErr result (λ fault. (fault ≡ Fault.Memory) ⊎ (fault ≡ Fault.File name.entry)) }
 {
     of_file(name, file.write_all(bytes))
 }

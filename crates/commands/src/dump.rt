@@ -1,8 +1,7 @@
 //! The dump of a machine.
 ghost use Rattle.std.specs.Prelude.{◌+◌, ◌<◌};
 
-use crate::machine::Ran;
-use flatvm::View;
+use guest::Stop;
 use mips_instr::Reg;
 use mips_step::Cpu;
 use std::fmt;
@@ -11,22 +10,38 @@ use std::fmt;
 /// where that was before its last step.
 #[derive(Drop)]
 pub struct Dump<'a> {
-    /// The machine.
-    pub view: View<'a>,
-    /// How the run went.
-    pub ran: Ran,
+    /// The processor.
+    pub cpu: &'a Cpu,
+    /// The console's output, the oldest byte first.
+    pub output: &'a [u8],
+    /// How many steps were made.
+    pub steps: u64,
+    /// Why no more were made, where that was before the last.
+    pub stop: Option<Stop>,
 }
 
 impl fmt::Display for Dump<'_> {
     fn fmt<W: fmt::Write>(&self, f: &mut fmt::Formatter<W>) -> fmt::Result {
-        writeln!(f, "steps {}", self.ran.steps)?;
-        write_cpu(f, self.view.cpu)?;
-        writeln!(f, "out -")?;
-        match self.ran.stop {
+        writeln!(f, "steps {}", self.steps)?;
+        write_cpu(f, self.cpu)?;
+        write_output(f, self.output)?;
+        match self.stop {
             None => Ok(()),
             Some(stop) => writeln!(f, "stop {}", stop.number()),
         }
     }
+}
+
+// The console's output in hexadecimal digits, two a byte, or a dash where there is none.
+fn write_output<W: fmt::Write>(f: &mut fmt::Formatter<W>, output: &[u8]) -> fmt::Result {
+    f.write_str("out ")?;
+    if output.is_empty() {
+        f.write_str("-")?;
+    }
+    for byte in output {
+        write!(f, "{byte:02x}")?;
+    }
+    f.write_str("\n")
 }
 
 fn write_cpu<W: fmt::Write>(f: &mut fmt::Formatter<W>, cpu: &Cpu) -> fmt::Result {

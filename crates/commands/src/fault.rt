@@ -1,9 +1,10 @@
 //! Why a command is refused.
 ghost use Rattle.std.specs.Prelude.{◌≡◌, ◌≢◌, ◌⊎◌, Err, IfErr, IfOk, Ok};
 ghost use Rattle.std.specs.IoError.{error_kind};
-ghost use Rattle.commands.specs.Faults.{fault_of};
+ghost use Rattle.commands.specs.Faults.{fault_of, log_fault_of, log_refusal_number};
 ghost use Rattle.commands.specs.declared.fault.Fault.TheVariants.{Memory};
 
+use logfile::{LogFault, ReadError};
 use masm::{AsmError, AsmFault};
 use std::alloc::AllocError;
 use std::io;
@@ -28,9 +29,56 @@ pub enum Fault<'a> {
     /// The number of pages is outside its limits.
     #[error("boot 1")]
     Limits,
+    /// A log can't be written or replayed, for this reason.
+    #[error("log {number}", number = .fault.number())]
+    Log { fault: LogRefusal },
     /// A request for memory was refused.
     #[error("memory")]
     Memory,
+}
+
+/// Why a log can't be written or replayed.
+#[derive(Clone, Copy, Debug, PartialEq, Eq)]
+pub enum LogRefusal {
+    /// The table machine keeps no log.
+    Flat,
+    /// The file is refused for this fault.
+    File(LogFault),
+    /// The machine refuses an item of the log where it stands.
+    Item,
+}
+
+impl LogRefusal {
+    /// Its number: 0 where the machine keeps no log, 1 to 4 for a fault of the file, 5 for an item.
+    pub fn number(self) -> u32
+        ensures { result ≡ log_refusal_number self }
+    {
+        match self {
+            LogRefusal::Flat => 0,
+            LogRefusal::File(fault) => fault.number(),
+            LogRefusal::Item => 5,
+        }
+    }
+}
+
+impl From<ReadError> for Fault<'_> {
+    ghost from_gives = { λ error fault. fault ≡ log_fault_of error };
+
+    fn from(error: ReadError) -> Self {
+        match error {
+            ReadError::Fault(fault) => log_file_fault(fault),
+            ReadError::Memory => Fault::Memory,
+        }
+    }
+}
+
+/// The fault of a log's file.
+pub fn log_file_fault<'a>(fault: LogFault) -> Fault<'a>
+    ensures { result ≡ Fault.Log (LogRefusal.File fault) }
+{
+    Fault::Log {
+        fault: LogRefusal::File(fault),
+    }
 }
 
 impl From<AllocError> for Fault<'_> {

@@ -1,5 +1,6 @@
 //! Images in files.
-ghost use Rattle.std.specs.Prelude.{◌≡◌, ◌<◌, ◌*◌, ◌^◌, ◌↔◌, IfErr, IfOk, IfSome, IsErrOf, IsTrue, MatchOption, Some, length};
+ghost use Rattle.std.specs.Prelude.{◌≡◌, ◌⊎◌, ◌<◌, ◌*◌, ◌^◌, ◌↔◌, IfErr, IfOk, IfSome, IsErrOf, IsTrue, MatchOption, Some, length};
+ghost use Rattle.sha2.specs.Sha256.{sha256};
 ghost use Rattle.elf32.specs.Images.{FitsPages};
 ghost use Rattle.elf32.specs.Files.{StandsFor};
 ghost use Rattle.commands.specs.Faults.{IsElfFault, IsElfRefusal, IsRawFault};
@@ -8,6 +9,7 @@ ghost use Rattle.commands.specs.Raw.{IsPageCount, IsRaw, IsRawImage};
 use crate::fault::{Fault, of_file};
 use crate::order::Exec;
 use elf32::{ElfError, Image};
+use logfile::image_digest;
 use std::alloc::Global;
 use std::io;
 use std::io::Read;
@@ -24,6 +26,15 @@ pub fn is_page_count(pages: u32) -> bool
     LEAST_PAGES <= pages && pages <= MOST_PAGES
 }
 
+/// The image of a file, and the digest of the file.
+#[derive(Drop)]
+pub struct Loaded {
+    /// The image that the file stands for.
+    pub image: Image,
+    /// The SHA-256 digest of the file's bytes, by which a log names the image.
+    pub digest: [u8; 32],
+}
+
 /// The image of an ELF executable in the file of this name, for a memory of some pages, which hold it.
 ///
 /// An error is `Elf` with the file's first fault, `Memory` where a request for memory was refused, and `File` where the
@@ -33,14 +44,17 @@ pub fn elf_image<'a, F: Read + Drop>(
     file: F,
     name: &'a str,
     pages: u32,
-) -> Result<Image, Fault<'a>>
-    ensures stands { IfSome (F.remaining file) (λ all. IfOk result (StandsFor all pages)) }
-    ensures fits { IfOk result (λ image. FitsPages image pages) }
+) -> Result<Loaded, Fault<'a>>
+    ensures stands { IfSome (F.remaining file) (λ all. IfOk result (λ loaded. StandsFor all pages loaded.image)) }
+    ensures digest { IfSome (F.remaining file) (λ all. IfOk result (λ loaded. loaded.digest ≡ sha256 all)) }
+    ensures fits { IfOk result (λ loaded. FitsPages loaded.image pages) }
     ensures refused { IfSome (F.remaining file) (λ all. IfErr result (λ fault. IsElfRefusal all pages fault)) }
     ensures faults { IfErr result (λ fault. IsElfFault (Fault.File name.entry) fault) }
 {
     let bytes = of_file(name, whole_file(alloc, file))?;
-    image_in(alloc, &bytes, pages)
+    let digest = image_digest(&bytes);
+    let image = image_in(alloc, &bytes, pages)?;
+    Ok(Loaded { image, digest })
 }
 
 /// The bytes of a file.
@@ -74,10 +88,11 @@ pub fn raw_image<'a, F: Read + Drop>(
     alloc: Global,
     file: F,
     order: Exec<'a>,
-) -> Result<Image, Fault<'a>>
-    ensures fits { IfOk result (λ image. FitsPages image order.entry.pages) }
-    ensures legal { IfOk result (λ image. IsPageCount order.entry.pages) }
-    ensures image { IfSome (F.remaining file) (λ all. IfOk result (IsRawImage all)) }
+) -> Result<Loaded, Fault<'a>>
+    ensures fits { IfOk result (λ loaded. FitsPages loaded.image order.entry.pages) }
+    ensures legal { IfOk result (λ loaded. IsPageCount order.entry.pages) }
+    ensures image { IfSome (F.remaining file) (λ all. IfOk result (λ loaded. IsRawImage all loaded.image)) }
+    ensures digest { IfSome (F.remaining file) (λ all. IfOk result (λ loaded. loaded.digest ≡ sha256 all)) }
     ensures raw { IfSome (F.remaining file) (λ all. IsPageCount order.entry.pages → IsErrOf result Fault.Raw → ¬ IsRaw (order.entry.pages * 4096) (length all)) }
     ensures faults { IfErr result (λ fault. IsRawFault order.entry fault) }
 {
@@ -93,17 +108,38 @@ fn raw_image_within<'a, F: Read + Drop>(
     alloc: Global,
     file: F,
     order: Exec<'a>,
-) -> Result<Image, Fault<'a>>
+) -> Result<Loaded, Fault<'a>>
     requires { IsPageCount order.pages }
-    ensures fits { IfOk result (λ image. FitsPages image order.entry.pages) }
-    ensures image { IfSome (F.remaining file) (λ all. IfOk result (IsRawImage all)) }
+    ensures fits { IfOk result (λ loaded. FitsPages loaded.image order.entry.pages) }
+    ensures image { IfSome (F.remaining file) (λ all. IfOk result (λ loaded. IsRawImage all loaded.image)) }
+    ensures digest { IfSome (F.remaining file) (λ all. IfOk result (λ loaded. loaded.digest ≡ sha256 all)) }
     ensures raw { IfSome (F.remaining file) (λ all. IsErrOf result Fault.Raw → ¬ IsRaw (order.entry.pages * 4096) (length all)) }
     ensures faults { IfErr result (λ fault. IsRawFault order.entry fault) }
 {
     let room = u64::from(order.pages) * 4096;
     match of_file(order.image, raw_bytes(alloc, file, room))? {
-        Some(bytes) => Ok(Image::raw(alloc, bytes)?),
+        Some(bytes) => {
+            let digest = image_digest(&bytes);
+            let image = Image::raw(alloc, bytes)?;
+            Ok(Loaded { image, digest })
+        }
         None => Err(Fault::Raw),
+    }
+}
+
+/// The image of these bytes without a header, which the pages hold. An error is `Raw` where there are none or too many, and
+/// `Memory` where a request for memory was refused.
+pub fn raw_image_in<'a>(alloc: Global, bytes: Vec<u8>, pages: u32) -> Result<Image, Fault<'a>>
+    requires { IsPageCount pages }
+    ensures fits { IfOk result (λ image. FitsPages image pages) }
+    ensures image { IfOk result (IsRawImage bytes.items) }
+    ensures raw { IsErrOf result Fault.Raw → ¬ IsRaw (pages * 4096) (length bytes.items) }
+    ensures faults { IfErr result (λ fault. (fault ≡ Fault.Raw) ⊎ (fault ≡ Fault.Memory)) }
+{
+    if is_raw(bytes.len() as u64, u64::from(pages) * 4096) {
+        Ok(Image::raw(alloc, bytes)?)
+    } else {
+        Err(Fault::Raw)
     }
 }
 

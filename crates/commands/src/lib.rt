@@ -13,11 +13,14 @@ pub mod dump;
 pub mod exec;
 pub mod fault;
 pub mod image_file;
+pub mod log_file;
 pub mod machine;
 pub mod order;
+pub mod replay;
 
 pub use asm::assemble_file;
 pub use dis::disassemble_file;
 pub use exec::{Report, run_image};
 pub use fault::Fault;
-pub use order::{Asm, Dis, Exec, Format, MachineKind};
+pub use order::{Asm, ConsoleInput, Dis, Exec, Format, MachineKind, Replay};
+pub use replay::replay_log;

@@ -1,4 +1,7 @@
 //! What a command is to do.
+ghost use Rattle.std.specs.Prelude.{◌≡◌, ◌≤◌, length};
+
+use std::marker::Model;
 
 /// What `asm` assembles.
 #[derive(Clone, Copy, Debug)]
@@ -29,6 +32,53 @@ pub struct Exec<'a> {
     pub pages: u32,
     /// How many steps are to be made.
     pub steps: u32,
+    /// The name of the file that the guest's log is written to after the run, if it is; the table machine has none.
+    pub log: Option<&'a str>,
+}
+
+/// What `replay` replays.
+#[derive(Clone, Copy, Debug)]
+pub struct Replay<'a> {
+    /// The name of the image's file.
+    pub image: &'a str,
+    /// How the file holds the image.
+    pub format: Format,
+    /// The name of the log's file.
+    pub log: &'a str,
+}
+
+/// The console input that a run begins with: at most 256 bytes. In clauses it is the list of the bytes.
+#[derive(Debug, Drop)]
+pub struct ConsoleInput {
+    bytes: Vec<u8>,
+}
+
+impl Model for ConsoleInput {
+    ghost use Rattle.std.specs.Prelude.{ℕ, List, ◌≤◌, length};
+
+    ghost Value = { List ℕ };
+
+    ghost view = { λ i. i.bytes.items };
+
+    ghost invariant = { λ i. length i.bytes.items ≤ 256 };
+}
+
+impl ConsoleInput {
+    /// The input of these bytes, of which there are at most 256.
+    pub fn new(bytes: Vec<u8>) -> ConsoleInput
+        requires { length bytes.items ≤ 256 }
+        ensures { result ≡ bytes.items }
+    {
+        ConsoleInput { bytes }
+    }
+
+    /// The bytes, in order.
+    pub fn as_slice(&self) -> &[u8]
+        ensures value { result.now ≡ self.now }
+        ensures few { length self.now ≤ 256 }
+    {
+        self.bytes.as_slice()
+    }
 }
 
 /// How a file holds an image.

@@ -1,13 +1,19 @@
 -- Runs of joined items, and the items of a seat among them.
-use Rattle.std.proofs.Common.{ℕ, ◌≡◌, ◌≤◌, ◌+◌, ◌==◌, Bool, true, false, if◌then◌else◌, List, [], ◌∷◌, ◌++◌, length, refl, ap, ◌∙◌, arith, eq-eqb}
+use Rattle.std.proofs.Common.{ℕ, ◌≡◌, ◌↔◌, ◌≤◌, ◌+◌, ◌==◌, Bool, true, false, if◌then◌else◌, List, [], ◌∷◌, ◌++◌, length, refl, ap, ◌∙◌, arith, eq-eqb}
 use Rattle.mips_step.specs.Step.{Machine}
-use Rattle.flatvm.specs.declared.item.Item.{Item}
-use Rattle.flatvm.specs.Items.{after, run}
-use Rattle.flatvm.specs.Seats.{own}
+use Rattle.items.specs.declared.item.Item.{Item}
+use Rattle.items.specs.Items.{own}
+use Rattle.flatvm.specs.Items.{after, run, AllAccepted}
 
 pub run_append : (earlier later : List Item) (m : Machine) → run (earlier ++ later) m ≡ run later (run earlier m)
 run_append [] later m = refl
 run_append (i ∷ earlier) later m = run_append earlier later (after i.what m)
+
+pub accepted_append : (earlier later : List Item) (m : Machine) → AllAccepted (earlier ++ later) m ↔ (AllAccepted earlier m × AllAccepted later (run earlier m))
+accepted_append [] later m = (λ all. (tt, all), λ both. both.1)
+accepted_append (i ∷ earlier) later m =
+    let rest = accepted_append earlier later (after i.what m) in
+    (λ all. ((all.0, (rest.0 all.1).0), (rest.0 all.1).1), λ both. (both.0.0, rest.1 (both.0.1, both.1)))
 
 kept_or_not : (b : Bool) (i : Item) (xs : List Item) → length (if b then i ∷ xs else xs) ≤ length xs + 1
 kept_or_not true i xs = omega arith

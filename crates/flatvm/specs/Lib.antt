@@ -1,4 +1,4 @@
+pub mod Answers
 pub mod Boot
 pub mod Items
 pub mod Replies
-pub mod Seats

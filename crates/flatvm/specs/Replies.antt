@@ -1,6 +1,10 @@
 -- What a machine replies to a debugger.
-use Rattle.std.specs.Prelude.{ℕ, zero, suc, ◌+◌, ◌%◌, ◌^◌, nat_lt, if◌then◌else◌, List, [], ◌∷◌, ◌++◌, length, slice_index, Option, Some, None}
+use Rattle.std.specs.Prelude.{◌≡◌, ◌≢◌, ◌<◌, ℕ, zero, suc, ◌+◌, ◌%◌, ◌^◌, nat_lt, if◌then◌else◌, List, [], ◌∷◌, ◌++◌, length, slice_index, Option, Some, None}
 use Rattle.mips_tlb.specs.Translation.{probed}
+use Rattle.word32.specs.Pages.{page_number}
+use Rattle.mips_tlb.specs.declared.kind.Kind.TheVariants.{Load, Store}
+use Rattle.mips_step.specs.declared.access.Why.TheVariants.{Swapped}
+use Rattle.mips_step.specs.Bus.{Lacks}
 use Rattle.mips_step.specs.Step.{Machine}
 
 -- a physical address, where it lies in memory
@@ -32,3 +36,19 @@ with_next (Some bytes) (Some byte) = Some (bytes ++ byte ∷ [])
 abbrev pub bytes_at : Machine → ℕ → ℕ → Option (List ℕ)
 bytes_at m address zero = Some []
 bytes_at m address (suc k) = with_next (bytes_at m address k) (byte_at m ((address + k) % 2 ^ 32))
+
+-- something holds of each place that bytes from an address on have
+abbrev pub EachPlace : Machine → ℕ → ℕ → (ℕ → Type 0) → Type 0
+EachPlace m address count P = (k at : ℕ) → k < count → probe m ((address + k) % 2 ^ 32) ≡ Some at → P at
+
+-- one of the bytes from an address on lies in a page
+abbrev pub SomePlaceIn : Machine → ℕ → ℕ → ℕ → Type 0
+SomePlaceIn m address count page = (k : ℕ) × (at : ℕ) × (k < count) × (probe m ((address + k) % 2 ^ 32) ≡ Some at) × (page_number at ≡ page)
+
+-- a debugger can look at a place unless its page is swapped out
+abbrev pub CanLook : Lacks → ℕ → Type 0
+CanLook lacks at = lacks (page_number at) Load ≢ Some Swapped
+
+-- and store there where its page is there for stores
+abbrev pub CanStore : Lacks → ℕ → Type 0
+CanStore lacks at = lacks (page_number at) Store ≡ None

@@ -1,12 +1,17 @@
 //! The table machine.
-ghost use Rattle.std.specs.Prelude.{◌≡◌, ℕ, IfOk};
+ghost use Rattle.std.specs.Prelude.{◌≡◌, ◌≤◌, ◌^◌, ◌↔◌, ℕ, true, false, IfOk, OnOk, OnErr, IsErrOf};
 ghost use Rattle.elf32.specs.Images.{FitsPages};
-ghost use Rattle.mips_step.specs.Step.{Machine, step};
+ghost use Rattle.mips_step.specs.Step.{Machine, in_world, step};
+ghost use Rattle.items.specs.declared.item.What.TheVariants.{Drain};
+ghost use Rattle.flatvm.specs.Answers.{replied};
 ghost use Rattle.flatvm.specs.Boot.{boot_machine};
+ghost use Rattle.flatvm.specs.Items.{accepts, after, reply};
 ghost use Rattle.flatvm.specs.Replies.{probe};
 
-use crate::Memory;
+use crate::{FlatBus, Rejection, Reply, debug};
+use devices::Devices;
 use elf32::Image;
+use items::What;
 use mips_step::{Cpu, StepOut};
 use std::alloc::{AllocError, Global};
 use std::marker::Model;
@@ -16,51 +21,80 @@ use std::marker::Model;
 pub struct View<'a> {
     /// The processor.
     pub cpu: &'a Cpu,
+    /// The console, and the balloon with the pages that were given to it.
+    pub devices: &'a Devices,
 }
 
-/// The table machine: a processor over one plain memory. In clauses it is a `Machine`.
+/// The table machine: a processor over one plain memory with its devices. In clauses it is a `Machine`.
 #[derive(Drop)]
 pub struct Flat {
     cpu: Cpu,
-    memory: Memory,
+    bus: FlatBus,
 }
 
 impl Model for Flat {
-    ghost use Rattle.mips_step.specs.Step.{Machine};
+    ghost use Rattle.mips_step.specs.Step.{Machine, in_world};
 
     ghost Value = { Machine };
 
-    ghost view = { λ f. record { cpu = f.cpu; world = f.memory } };
+    ghost view = { λ f. in_world f.cpu f.bus };
 }
 
 impl Flat {
-    /// The machine that an image boots, with a memory of `pages` pages, which hold the image.
+    /// The machine that an image boots, with a memory of `pages` pages, at most 2^20, which hold the image.
     pub fn boot(alloc: Global, image: &Image, pages: u32) -> Result<Flat, AllocError>
-        requires { FitsPages image.now pages }
+        requires fits { FitsPages image.now pages }
+        requires few { pages ≤ 2 ^ 20 }
         ensures { IfOk result (λ f. f ≡ boot_machine image.now pages) }
     {
         Ok(Flat {
             cpu: Cpu::boot(image.entry),
-            memory: Memory::boot(alloc, image, pages)?,
+            bus: FlatBus::boot(alloc, image, pages)?,
         })
     }
 
-    /// One step.
+    /// One step. It is short enough for the loops that make steps to hold it, since it is they that are to be fast.
     #[tactic(auto, using(crate::proofs::Never::never_lacks))]
+    #[inline(always)]
     pub fn step(&mut self)
         ensures { self.new ≡ step self.old }
     {
-        match self.cpu.step(&mut self.memory) {
+        match self.cpu.step(&mut self.bus) {
             StepOut::Done => {}
             StepOut::Need(_, _) => unreachable!(),
         }
     }
 
+    /// What happens to the machine, a step too.
+    ///
+    /// It answers `Machine` exactly where the machine does not accept it, and `Memory` only where a request for memory was
+    /// refused, which a Drain makes alone. The machine is then as before.
+    pub fn input(&mut self, what: &What) -> Result<Reply, Rejection>
+        ensures after { OnOk result (self.new ≡ after what.now self.old) }
+        ensures reply { IfOk result (λ r. replied r ≡ reply what.now self.old) }
+        ensures accepted { OnOk result (accepts what.now self.old ≡ true) }
+        ensures refused { IsErrOf result Rejection.Machine ↔ (accepts what.now self.old ≡ false) }
+        ensures memory { IsErrOf result Rejection.Memory → what.now ≡ Drain }
+        ensures unchanged { OnErr result (self.new ≡ self.old) }
+    {
+        match what {
+            What::Step => {
+                self.step();
+                Ok(Reply::Done)
+            }
+            other => self.bus.input(&mut self.cpu, other),
+        }
+    }
+
     /// What is seen of the machine beside its memory.
     pub fn view(&self) -> View<'_>
-        ensures { result.cpu.now ≡ self.now.cpu }
+        ensures cpu { result.cpu.now ≡ self.now.cpu }
+        ensures devices { result.devices.now ≡ self.now.world.devices }
     {
-        View { cpu: &self.cpu }
+        View {
+            cpu: &self.cpu,
+            devices: self.bus.devices(),
+        }
     }
 
     /// The physical address in memory that a virtual address leads to, as for a load of kernel mode, whatever mode runs;
@@ -68,6 +102,6 @@ impl Flat {
     pub fn probe(&self, address: u32) -> Option<u32>
         ensures { result ≡ probe self.now address }
     {
-        self.memory.probe(&self.cpu, address)
+        debug::probe(&self.cpu, &self.bus, address)
     }
 }

@@ -1,11 +1,10 @@
--- What is seen of a guest, and what a step does to it.
-use Rattle.std.specs.Prelude.{◌≡◌, ℕ, ◌+◌, Option, None, [], ◌∷◌, ◌++◌}
-use Rattle.mips_tlb.specs.declared.kind.Kind.{Kind}
-use Rattle.mips_step.specs.declared.access.Why.{Why}
+-- What is seen of a guest, and what an item does to it.
+use Rattle.std.specs.Prelude.{◌≡◌, ◌+◌, ◌%◌, ◌^◌, true, None, List, [], ◌∷◌, ◌++◌}
+use Rattle.items.specs.declared.item.Item.{Item}
+use Rattle.mips_step.specs.Bus.{Lacks}
 use Rattle.mips_step.specs.Step.{Machine}
-use Rattle.flatvm.specs.declared.item.Item.{Item}
-use Rattle.flatvm.specs.Items.{after}
-use Rattle.guest.specs.Logs.{LogIs}
+use Rattle.flatvm.specs.Items.{accepts, after, run, AllAccepted}
+use Rattle.guest_log.specs.Logs.{LogIs}
 use Rattle.guest.specs.Seats.{SeatIs, IsLegal}
 
 pub record GuestIs : Type 0 where
@@ -14,15 +13,22 @@ pub record GuestIs : Type 0 where
   pub boot : Machine
   pub log : LogIs
 
--- why a page of a guest is lacking: all of its memory is there
-abbrev pub lacks_of : GuestIs → ℕ → Kind → Option Why
-lacks_of g page kind = None
+-- a machine is the run of a log from the boot, and accepted each of its items
+pub record IsReplay (items : List Item) (boot machine : Machine) : Type 0 where
+  pub is_run : machine ≡ run items boot
+  pub accepted : AllAccepted items boot
 
--- an item of a seat: what it does to the guest and to the seat
+-- why a page of a guest is lacking: all of its memory is there
+abbrev pub no_lack : Lacks
+no_lack page kind = None
+
+-- an item of a seat: that the machine accepts it, and what it does to the guest and to the seat
 pub record Does (g : GuestIs) (seat : SeatIs) (i : Item) (g' : GuestIs) (seat' : SeatIs) : Type 0 where
+  pub accepted : accepts i.what g.machine ≡ true
   pub machine : g'.machine ≡ after i.what g.machine
   pub boot : g'.boot ≡ g.boot
   pub items : g'.log.items ≡ g.log.items ++ i ∷ []
   pub limit : g'.log.limit ≡ g.log.limit
-  pub made : seat' ≡ record seat { made = seat.made + 1 }
-  pub legal : IsLegal seat' g'.log.items
+  pub number : seat'.number ≡ seat.number
+  pub made : seat'.made ≡ (seat.made + 1) % 2 ^ 64
+  pub legal : IsLegal seat g.log.items → IsLegal seat' g'.log.items

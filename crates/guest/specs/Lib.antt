@@ -1,5 +1,2 @@
 pub mod Guests
-pub mod Logs
 pub mod Seats
-pub mod Stored
-pub mod Stops

@@ -1,7 +1,7 @@
 -- What is seen of a seat.
 use Rattle.std.specs.Prelude.{◌≡◌, ℕ, List, length}
-use Rattle.flatvm.specs.declared.item.Item.{Item}
-use Rattle.flatvm.specs.Seats.{own}
+use Rattle.items.specs.declared.item.Item.{Item}
+use Rattle.items.specs.Items.{own}
 
 pub record SeatIs : Type 0 where
   -- the number that the seat's items have

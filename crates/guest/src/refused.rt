@@ -1,8 +1,12 @@
-//! Why a guest refuses a debugger.
+//! Why a guest refuses.
+use guest_log::Stop;
 
-/// Why a guest refuses a debugger. The guest is then as before.
+/// Why a guest refuses what it is asked. It is then as before.
 #[derive(Clone, Copy, Debug, PartialEq, Eq)]
 pub enum Refused {
-    /// The machine refuses it: a byte has no place in memory.
+    /// The machine refuses it: 256 bytes of console input wait, a write is longer than 1,024 bytes, or a byte that is to be
+    /// read or written has no place in memory.
     Machine,
+    /// The item has no room: the log is full, or a request for memory was refused.
+    Stop(Stop),
 }

@@ -1,8 +1,8 @@
 //! Seats.
-ghost use Rattle.std.specs.Prelude.{◌≡◌, ◌+◌, ◌<◌, ◌^◌};
+ghost use Rattle.std.specs.Prelude.{◌≡◌, ◌+◌, ◌%◌, ◌^◌};
 ghost use Rattle.guest.specs.Seats.{SeatIs};
 
-use flatvm::SeatNo;
+use items::SeatNo;
 use std::marker::Model;
 
 /// A seat of a guest: the number that its items have, and how many it has made. In clauses it is a record, `SeatIs`.
@@ -42,11 +42,11 @@ impl Seat {
         self.made
     }
 
-    /// Counts an item.
+    /// Counts an item. A seat that is legal for a log has never counted so far that it begins anew.
     pub(crate) fn count(&mut self)
-        requires { self.old.made < 2 ^ 62 }
-        ensures { self.new ≡ record self.old { made = self.old.made + 1 } }
+        ensures number { self.new.number ≡ self.old.number }
+        ensures made { self.new.made ≡ (self.old.made + 1) % 2 ^ 64 }
     {
-        self.made += 1;
+        self.made = self.made.wrapping_add(1);
     }
 }

@@ -1,10 +1,9 @@
 //! Texts that are booted and run, and texts that are refused, worked out by hand.
-ghost use Rattle.guest.specs.Seats.{IsLegal};
 
 use crate::{BootError, boot_text, flat_text};
 use elf32::Fault;
-use flatvm::SeatNo;
 use guest::{Guest, Seat};
+use items::SeatNo;
 use masm::AsmFault;
 use mips_instr::Reg;
 use mips_step::{Cpu, StepOut};
@@ -43,18 +42,12 @@ static BYTES_OF_TWO_SEGMENTS: [(u32, &[u8]); 7] = [
     (0x8000_fffc, &[0, 0, 0, 0]),
 ];
 
-fn step_once(rt: &impl Abort, guest: &mut Guest, seat: &mut Seat)
-    requires { IsLegal seat.old guest.old.log.items }
-    ensures { IsLegal seat.new guest.new.log.items }
-{
+fn step_once(rt: &impl Abort, guest: &mut Guest, seat: &mut Seat) {
     assert!(rt; guest.log_room().is_ok());
     assert!(rt; guest.step(seat) == StepOut::Done);
 }
 
-fn make_steps(rt: &impl Abort, guest: &mut Guest, seat: &mut Seat, count: usize)
-    requires { IsLegal seat.old guest.old.log.items }
-    ensures { IsLegal seat.new guest.new.log.items }
-{
+fn make_steps(rt: &impl Abort, guest: &mut Guest, seat: &mut Seat, count: usize) {
     for _ in 0..count {
         step_once(rt, guest, seat);
     }
@@ -190,6 +183,7 @@ const REFUSALS: [(&str, u32, BootError, &str); 6] = [
 
 /// Checks the error of booting a text on either machine, `None` where it boots.
 fn check_error<R: AllocGlobal + Abort>(rt: &R, text: &str, pages: u32, want: Option<BootError>) {
+    assert!(rt; pages <= 1 << 20);
     let guest = boot_text(rt.alloc(), text, pages, 1).err();
     let flat = flat_text(rt.alloc(), text, pages).err();
     assert_eq!(rt; (guest, flat), (want, want), "{text:?}");
@@ -224,6 +218,7 @@ fn the_last_bytes_of_memory_are_listed(rt: HostRuntime) {
 
 /// Checks that a text is refused for this error or for want of memory.
 fn check_refused<R: AllocGlobal + Abort>(rt: &R, text: &str, pages: u32, want: BootError) {
+    assert!(rt; pages <= 1 << 20);
     let found = boot_text(rt.alloc(), text, pages, 1).err();
     assert!(rt;
         found == Some(want) || found == Some(BootError::Memory),

@@ -1,6 +1,10 @@
 pub mod Agreeing
 pub mod Aligned
 pub mod Alike
+pub mod Clearing
+pub mod Given
+pub mod Giving
+pub mod Lacking
 pub mod Operations
 pub mod OtherPages
 pub mod Pages

@@ -3,8 +3,10 @@ pub mod Agreeing
 pub mod Answer
 pub mod Bus
 pub mod Effect
+pub mod Given
 pub mod Meaning
 pub mod Places
+pub mod Poking
 pub mod Processor
 pub mod Step
 pub mod World

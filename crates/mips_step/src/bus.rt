@@ -1,58 +1,93 @@
 //! The bus.
-ghost use Rattle.std.specs.Prelude.{◌≡◌, ℕ, ◌<◌, Option, Result, Ok};
+ghost use Rattle.std.specs.Prelude.{◌≡◌, ◌≢◌, ℕ, ◌<◌, ◌%◌, length, slice_index, Option, Some};
 ghost use Rattle.word32.specs.Pages.{page_number};
 ghost use Rattle.mips_tlb.specs.declared.kind.Kind.{Kind};
 ghost use Rattle.mips_step.specs.declared.access.Why.{Why};
-ghost use Rattle.mips_step.specs.World.{World, reach, value_at, touched, stored, lines_of, limit_of};
-ghost use Rattle.mips_step.specs.Bus.{ready_answer};
+ghost use Rattle.mips_step.specs.World.{World, reach, value_in, reached_value, touched, world_loaded, world_stored, lines_of, limit_of};
+ghost use Rattle.mips_step.specs.World.Reach.{InMemory};
+ghost use Rattle.mips_step.specs.Places.{alignment};
+ghost use Rattle.mips_step.specs.Bus.{readiness, IsReady};
 
 use crate::{Kind, Refusal, Size};
 
-/// What the processor reaches by physical addresses. An address of a half-word or a
-/// word is a multiple of its size.
+/// What the processor reaches by physical addresses: memory, and the registers of devices.
 ///
-/// The meaning of a bus is the `world` behind it, as if each page were there, and why it `lacks` a page, by the page's
-/// number and what the access is for. Its law is the clauses of its methods: `ready` tells whether an access is answered
-/// and changes nothing; an access is made once `ready` has answered `Ok` for it, gives and changes the world as the
-/// definitions say, and leaves what is lacking as it was.
+/// The meaning of a bus is the `world` behind it, as if each page were there; what its owner keeps behind it and no
+/// access changes (`kept`); and by that why it `lacks` a page, by the page's number and what the access is for. Behind a
+/// bus that lacks a page the world may hold anything in that page. Its law is the clauses of its methods: `ready` tells
+/// whether an access is answered and changes nothing; an access is made once `ready` has answered `Ok` for it, gives and
+/// changes the world as the definitions say, and leaves what is kept.
+///
+/// A store to the balloon may give a page away. The world shows that page as zeros from then on, while the bus may leave
+/// it to its owner to take the page away after the step; until then it is not `settled`, and the next access waits.
 pub trait PhysBus {
     /// The memory and the devices behind the bus, with each page there.
     ghost world: { Self → World };
 
+    /// What no access changes, as a type whose values clauses compare.
+    type Kept;
+
+    /// What no access changes: whatever the owner of a bus has to find again after a step.
+    ghost kept: { Self → Self.Kept };
+
     /// Why a page of this number is lacking for an access of a kind, or `None` where it is there.
-    ghost lacks: { Self → ℕ → Kind → Option Why };
+    ghost lacks: { Self.Kept → ℕ → Kind → Option Why };
+
+    /// No page that was given away waits for the owner of the bus to take it.
+    ghost settled: { Self → Type 0 };
 
     /// Whether an access would be answered, and why not.
     fn ready(&self, at: u32, size: Size, kind: Kind) -> Result<(), Refusal>
-        ensures { result ≡ ready_answer (reach (world self.now) size at) (lacks self.now (page_number at) kind) (page_number at) };
+        requires { at % alignment size ≡ 0 }
+        ensures { result ≡ readiness (world self.now) (lacks (kept self.now)) kind size at };
 
     /// The word that a fetch would give.
     fn peek(&self, at: u32) -> u32
-        requires { ready_answer (reach (world self.now) Size.Word at) (lacks self.now (page_number at) Kind.Fetch) (page_number at) ≡ Ok tt }
-        ensures { result ≡ value_at (world self.now) Size.Word at };
+        requires settled { settled self.now }
+        requires aligned { at % 4 ≡ 0 }
+        requires ready { IsReady (world self.now) (lacks (kept self.now)) Kind.Fetch Size.Word at }
+        ensures { result ≡ value_in (world self.now).memory Size.Word at };
 
     /// Fetches a word.
     fn fetch(&mut self, at: u32) -> u32
-        requires { ready_answer (reach (world self.old) Size.Word at) (lacks self.old (page_number at) Kind.Fetch) (page_number at) ≡ Ok tt }
-        ensures value { result ≡ value_at (world self.old) Size.Word at }
+        requires settled { settled self.old }
+        requires aligned { at % 4 ≡ 0 }
+        requires ready { IsReady (world self.old) (lacks (kept self.old)) Kind.Fetch Size.Word at }
+        ensures value { result ≡ value_in (world self.old).memory Size.Word at }
         ensures world { world self.new ≡ touched at (world self.old) }
-        ensures lacks { lacks self.new ≡ lacks self.old };
+        ensures kept { kept self.new ≡ kept self.old }
+        ensures settled { settled self.new };
 
     /// Loads a value, which has no more bits than the access.
     fn load(&mut self, at: u32, size: Size) -> u32
-        requires { ready_answer (reach (world self.old) size at) (lacks self.old (page_number at) Kind.Load) (page_number at) ≡ Ok tt }
-        ensures value { result ≡ value_at (world self.old) size at }
+        requires settled { settled self.old }
+        requires aligned { at % alignment size ≡ 0 }
+        requires ready { IsReady (world self.old) (lacks (kept self.old)) Kind.Load size at }
+        ensures value { result ≡ reached_value (reach (world self.old) Kind.Load size at) size at (world self.old) }
         ensures small { result < limit_of size }
-        ensures world { world self.new ≡ touched at (world self.old) }
-        ensures lacks { lacks self.new ≡ lacks self.old };
+        ensures world { world self.new ≡ world_loaded (reach (world self.old) Kind.Load size at) at (world self.old) }
+        ensures kept { kept self.new ≡ kept self.old }
+        ensures settled { settled self.new };
 
     /// The interrupt lines that are raised, bit k for IPk.
     fn lines(&self) -> u8
         ensures { result ≡ lines_of (world self.now) };
 
-    /// Stores a value.
+    /// The byte of memory at an address, as a debugger sees it: a page that was never touched or was given away is
+    /// zeros, and stays as it is.
+    fn look(&self, at: u32) -> u8
+        requires settled { settled self.now }
+        requires inside { at < length (world self.now).memory }
+        requires there { lacks (kept self.now) (page_number at) Kind.Load ≢ Some Why.Swapped }
+        ensures { result ≡ slice_index (world self.now).memory at };
+
+    /// Stores a value, of which a byte or a half-word takes the lowest bits. It may give a page away, and then may leave the
+    /// bus unsettled.
     fn store(&mut self, at: u32, size: Size, value: u32)
-        requires { ready_answer (reach (world self.old) size at) (lacks self.old (page_number at) Kind.Store) (page_number at) ≡ Ok tt }
-        ensures world { world self.new ≡ stored size value at (world self.old) }
-        ensures lacks { lacks self.new ≡ lacks self.old };
+        requires settled { settled self.old }
+        requires aligned { at % alignment size ≡ 0 }
+        requires ready { IsReady (world self.old) (lacks (kept self.old)) Kind.Store size at }
+        ensures world { world self.new ≡ world_stored (reach (world self.old) Kind.Store size at) size value at (world self.old) }
+        ensures kept { kept self.new ≡ kept self.old }
+        ensures settled { reach (world self.old) Kind.Store size at ≡ InMemory → settled self.new };
 }

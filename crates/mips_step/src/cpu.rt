@@ -1,7 +1,6 @@
 //! The state of the processor, and how control moves.
-ghost use Rattle.std.specs.Prelude.{◌≡◌, ℕ, ◌<◌, ◌^◌, ◌==◌, is_some, IfSome, Ok};
-ghost use Rattle.mips_instr.specs.Targets.{slot_address};
-ghost use Rattle.mips_step.specs.Processor.{Processor, reg, with_reg, next, jumped, skipped, linked, clocked, excepted, boot_processor};
+ghost use Rattle.std.specs.Prelude.{◌≡◌, ◌%◌, IfSome, IfOk, Ok};
+ghost use Rattle.mips_step.specs.Processor.{Processor, reg, with_reg, boot_processor};
 ghost use Rattle.mips_step.specs.Places.{alignment, place, data_address};
 
 use crate::Size;
@@ -12,6 +11,7 @@ use std::marker::Model;
 use word32::sext16;
 
 mod control;
+mod debug;
 mod system;
 
 /// The processor's registers. In clauses they are a record, `Processor`.
@@ -128,9 +128,11 @@ impl Cpu {
 
     /// The physical address of an aligned access in kseg0 or kseg1 in kernel mode; `None` of the others, which `place` tells.
     /// Most accesses are such, and come by without a call.
+    #[tactic(auto, using(crate::proofs::Aligned::place_aligned))]
     #[inline(always)]
     pub(crate) fn direct_place(&self, _kind: Kind, size: Size, address: u32) -> Option<u32>
-        ensures { IfSome result (λ at. place _kind size self.now address ≡ Ok at) }
+        ensures place { IfSome result (λ at. place _kind size self.now address ≡ Ok at) }
+        ensures aligned { IfSome result (λ at. at % alignment size ≡ 0) }
     {
         if address % alignment(size) == 0 {
             direct_address(&self.cp0, address)
@@ -140,8 +142,10 @@ impl Cpu {
     }
 
     /// The physical address of an access at a virtual address, or the exception that it raises.
+    #[tactic(auto, using(crate::proofs::Aligned::place_aligned))]
     pub(crate) fn place(&self, kind: Kind, size: Size, address: u32) -> Result<u32, Exc>
-        ensures { result ≡ place kind size self.now address }
+        ensures place { result ≡ place kind size self.now address }
+        ensures aligned { IfOk result (λ at. at % alignment size ≡ 0) }
     {
         if address % alignment(size) == 0 {
             self.tlb.translate(&self.cp0, address, kind)

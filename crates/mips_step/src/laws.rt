@@ -1,21 +1,52 @@
 //! Laws of the definitions.
-ghost use Rattle.std.specs.Prelude.{◌≡◌, ℕ, Bool, IsTrue, All, length};
+ghost use Rattle.std.specs.Prelude.{◌≡◌, ◌⊎◌, ℕ, Bool, false, IsTrue, All, length, Some, None};
+ghost use Rattle.mips_tlb.specs.declared.kind.Kind.{Kind};
 ghost use Rattle.mips_step.specs.Processor.{Processor};
-ghost use Rattle.mips_step.specs.World.{World};
-ghost use Rattle.mips_step.specs.Step.{Machine, step};
-ghost use Rattle.mips_step.specs.Accesses.{Access, accesses};
-ghost use Rattle.mips_step.specs.Agreeing.{Agree, StoresTo, page_bytes};
+ghost use Rattle.mips_step.specs.World.{World, page_bytes, is_given_page};
+ghost use Rattle.mips_step.specs.Bus.{Lacks};
+ghost use Rattle.mips_step.specs.Step.{Machine, in_world, step};
+ghost use Rattle.mips_step.specs.Accesses.{accesses, first_lack};
+ghost use Rattle.mips_step.specs.Agreeing.{Agree, Within, StoresTo, GivenAreZeros};
+ghost use Rattle.mips_step.specs.Given.{balloon_order, pages_taken, ordered, AccessesPage, TakesPage, GivesPage};
+ghost use Rattle.mips_step.specs.Given.BalloonOrder.{Give, Take};
 
 /// A law: in two worlds that agree on the pages that a step accesses in one of them, the step accesses the same pages and
 /// leads to the same processor, and the worlds after it agree on the same pages as before.
 pub fn agreeing_worlds_step_alike()
-    ensures accesses { (these : ℕ → Bool) (cpu : Processor) (a b : World) → Agree these a b → All (λ x. IsTrue (these x.page)) (accesses (record { cpu = cpu; world = a })) → accesses (record { cpu = cpu; world = b }) ≡ accesses (record { cpu = cpu; world = a }) }
-    ensures cpu { (these : ℕ → Bool) (cpu : Processor) (a b : World) → Agree these a b → All (λ x. IsTrue (these x.page)) (accesses (record { cpu = cpu; world = a })) → (step (record { cpu = cpu; world = b })).cpu ≡ (step (record { cpu = cpu; world = a })).cpu }
-    ensures world { (these : ℕ → Bool) (cpu : Processor) (a b : World) → Agree these a b → All (λ x. IsTrue (these x.page)) (accesses (record { cpu = cpu; world = a })) → Agree these (step (record { cpu = cpu; world = a })).world (step (record { cpu = cpu; world = b })).world }
+    ensures accesses { (these : ℕ → Bool) (cpu : Processor) (a b : World) → Agree these a b
+        → Within these (accesses (in_world cpu a)) → accesses (in_world cpu b) ≡ accesses (in_world cpu a) }
+    ensures cpu { (these : ℕ → Bool) (cpu : Processor) (a b : World) → Agree these a b
+        → Within these (accesses (in_world cpu a)) → (step (in_world cpu b)).cpu ≡ (step (in_world cpu a)).cpu }
+    ensures world { (these : ℕ → Bool) (cpu : Processor) (a b : World) → Agree these a b
+        → Within these (accesses (in_world cpu a)) → Agree these (step (in_world cpu a)).world (step (in_world cpu b)).world }
 {}
 
-/// A law: a step leaves each page that it does not store to, and the size of memory.
+/// A law: in two worlds that agree on the pages that are not lacking, the step lacks the same page first, or none.
+pub fn agreeing_worlds_lack_alike()
+    ensures { (these : ℕ → Bool) (lacks : Lacks) (cpu : Processor) (a b : World) → Agree these a b
+        → ((page : ℕ) (kind : Kind) → lacks page kind ≡ None → IsTrue (these page))
+        → first_lack lacks (accesses (in_world cpu b)) ≡ first_lack lacks (accesses (in_world cpu a)) }
+{}
+
+/// A law: a step leaves the bytes of each page that it does not store to and that is not given after it, the size of
+/// memory and the number of pages that can be given.
 pub fn other_pages_stay()
-    ensures bytes { (m : Machine) (page : ℕ) → All (λ x. StoresTo page x → ⊥) (accesses m) → page_bytes page (step m).world.memory ≡ page_bytes page m.world.memory }
-    ensures length { (m : Machine) → length (step m).world.memory ≡ length m.world.memory }
+    ensures bytes { (m : Machine) (page : ℕ) → All (λ x. StoresTo page x → ⊥) (accesses m) → is_given_page page (step m).world ≡ false
+        → page_bytes page (step m).world.memory ≡ page_bytes page m.world.memory }
+    ensures size { (m : Machine) → length (step m).world.memory ≡ length m.world.memory }
+    ensures pages { (m : Machine) → length (step m).world.devices.balloon.given ≡ length m.world.devices.balloon.given }
+{}
+
+/// A law: where each page that is given is zeros, it is so after a step.
+pub fn given_pages_are_zeros()
+    ensures { (m : Machine) → GivenAreZeros m.world → GivenAreZeros (step m).world }
+{}
+
+/// A law: a step takes the pages that it accesses out of the given ones and then follows its order, and changes nothing
+/// else of the balloon. So a page that a step takes is one that it accesses or the one that it orders to take, and a page
+/// that it gives is the one that it orders to give.
+pub fn given_pages_change_by_accesses_and_orders()
+    ensures balloon { (m : Machine) → (step m).world.devices.balloon ≡ ordered (balloon_order m) (pages_taken (accesses m) m.world.devices.balloon) }
+    ensures taken { (m : Machine) (page : ℕ) → TakesPage page m → AccessesPage page m ⊎ (balloon_order m ≡ Some (Take page)) }
+    ensures given { (m : Machine) (page : ℕ) → GivesPage page m → balloon_order m ≡ Some (Give page) }
 {}

@@ -1,10 +1,12 @@
 //! One step of the processor over any bus that keeps the law of `PhysBus`.
 //!
-//! The definition of a step stands in `specs/Step.antt` (and `specs/Effect.antt`), the pages that it accesses in
-//! `specs/Accesses.antt`. The crates above use `PhysBus` with its meaning (`world`, `lacks`), `Cpu` (in clauses a record,
-//! `Processor`) and `Cpu::step`: it answers `Done` where the machine has moved by the definition, `Need` exactly where the
-//! bus lacks a page that the step would access, and then nothing has changed. `Cpu::need` tells that beforehand. `laws`
-//! states that a step depends on the pages that it accesses alone.
+//! The definition of a step stands in `specs/Step.antt` (and `specs/Effect.antt`), the world behind the bus in
+//! `specs/World.antt`, the pages that a step accesses in `specs/Accesses.antt`, what it does to the given pages in
+//! `specs/Given.antt`. The crates above use `PhysBus` with its meaning (`world`, `kept`, `lacks`, `settled`), `Cpu` (in
+//! clauses a record, `Processor`) and `Cpu::step`: it answers `Done` where the machine has moved by the definition, `Need`
+//! exactly where the bus lacks a page that the step would access, and then nothing has changed. `Cpu::need` tells that
+//! beforehand, and `Cpu::poke` is a debugger's write of a register. `laws` states that a step depends on the pages that it
+//! accesses alone, which pages it leaves, and which it gives and takes.
 #![tactic(auto)]
 
 pub mod access;

@@ -1,7 +1,9 @@
 //! The tests of the crates that the processor is made of, each by its public calls.
 mod alu;
 mod cp0;
+mod debug;
 mod isa;
+mod sparse;
 mod step;
 mod tlb;
 

@@ -2,6 +2,7 @@
 mod elf_files;
 mod examples;
 mod failures;
+mod logs;
 mod refusals;
 mod runs;
 mod sources;
@@ -52,6 +53,8 @@ enum Step {
     Refuses(&'static str, &'static str),
     /// The file holds these bytes.
     Holds(&'static [u8]),
+    /// The source holds these bytes.
+    SourceHolds(&'static [u8]),
 }
 
 /// Makes the steps of a test on the file of this name, and removes its files.
@@ -71,6 +74,7 @@ fn make<R: Files + AllocGlobal + Abort>(rt: &R, file: &str, step: Step) -> Resul
         Step::Prints(line, out) => prints(rt, file, line, out),
         Step::Refuses(line, err) => refuses(rt, file, line, err),
         Step::Holds(bytes) => holds(rt, file, bytes),
+        Step::SourceHolds(bytes) => holds(rt, source_of(rt.alloc(), file)?.as_str(), bytes),
     }
 }
 

@@ -1,13 +1,12 @@
 //! The guest's own calls: its steps, its log and its seats, and reads of its memory.
 ghost use Rattle.std.specs.Prelude.{◌≡◌, ◌<◌, [], IfOk};
-ghost use Rattle.guest.specs.Seats.{IsLegal};
 
 use super::code::Code;
 use super::code::Code::*;
 use super::expect;
 use super::run::{boot_guest, make_steps, raw_image};
-use flatvm::SeatNo;
 use guest::{Guest, Log, Refused, Seat, Stop};
+use items::SeatNo;
 use mips_instr::Reg;
 use std::process::Abort;
 use std::test::Fail;
@@ -54,9 +53,7 @@ fn check_steps(
 }
 
 /// Checks the guest at boot, after three steps, and after a fourth that is an exception.
-fn check_exception(rt: &impl Abort, guest: &mut Guest, seat: &mut Seat)
-    requires { IsLegal seat.old guest.old.log.items }
-{
+fn check_exception(rt: &impl Abort, guest: &mut Guest, seat: &mut Seat) {
     check_steps(rt, guest, seat, (0x8000_0000, 0), (0, 0));
     make_steps(rt, guest, seat, 3);
     check_steps(rt, guest, seat, (0x8000_000c, 3), (3, 1));

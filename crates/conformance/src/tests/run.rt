@@ -1,16 +1,19 @@
 //! A run of an image on both machines, and the state that it has to end in.
 ghost use Rattle.std.specs.Prelude.{◌≡◌, [], IfOk};
-ghost use Rattle.guest.specs.Seats.{IsLegal};
 
 use super::code::{Code, image_of};
 use super::expect;
 use elf32::Image;
-use flatvm::{Flat, SeatNo};
-use guest::{Guest, Seat};
+use flatvm::Flat;
+use guest::{Guest, Seat, share_image};
+use items::SeatNo;
 use mips_instr::Reg;
 use mips_step::{Cpu, StepOut};
 use std::process::Abort;
 use std::test::Fail;
+
+/// The most pages that a physical address reaches.
+const MOST_PAGES: u32 = 1 << 20;
 
 /// A run of a raw image, and what its machine has at the end.
 #[derive(Clone, Copy)]
@@ -78,7 +81,7 @@ pub fn boot_table_machine<R: AllocGlobal + Abort>(
     image: &Image,
     pages: u32,
 ) -> Result<Flat, Fail> {
-    assert!(rt; image.fits(pages), "{name}");
+    assert!(rt; image.fits(pages) && pages <= MOST_PAGES, "{name}");
     Ok(Flat::boot(rt.alloc(), image, pages)?)
 }
 
@@ -92,7 +95,8 @@ pub fn boot_guest<R: AllocGlobal + Abort>(
 ) -> Result<Guest, Fail>
     ensures { IfOk result (λ guest. guest.log.items ≡ []) }
 {
-    assert!(rt; image.fits(pages), "{name}");
+    assert!(rt; image.fits(pages) && pages <= MOST_PAGES, "{name}");
+    let image = share_image(rt.alloc(), image)?;
     Ok(Guest::boot(rt.alloc(), image, pages, log_runs)?)
 }
 
@@ -103,10 +107,7 @@ pub fn step_table_machine(flat: &mut Flat, count: usize) {
 }
 
 /// Makes so many steps, which a guest of the whole memory never has to wait for.
-pub fn make_steps(rt: &impl Abort, guest: &mut Guest, seat: &mut Seat, count: usize)
-    requires { IsLegal seat.old guest.old.log.items }
-    ensures { IsLegal seat.new guest.new.log.items }
-{
+pub fn make_steps(rt: &impl Abort, guest: &mut Guest, seat: &mut Seat, count: usize) {
     for _ in 0..count {
         assert!(rt; guest.log_room().is_ok());
         assert!(rt; guest.need().is_none());

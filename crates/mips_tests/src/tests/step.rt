@@ -1,102 +1,11 @@
-//! A bus that lacks pages: what a step needs is answered, and nothing has changed.
-ghost use Rattle.std.specs.Prelude.{◌≡◌, ◌==◌, if◌then◌else◌, Some, None};
-ghost use Rattle.mips_step.specs.World.{with_memory};
-ghost use Rattle.mips_step.specs.declared.access.Why.TheVariants.{First};
-
+//! Steps over a bus that may lack a page: what a step needs is answered, and nothing has changed; and steps at a register.
 use super::expect;
-use mips_alu::{store_left, store_right};
+use super::sparse::Sparse;
 use mips_cp0::Register;
 use mips_isa::Reg;
-use mips_step::{Cpu, Kind, PhysBus, Ppn, Refusal, Size, StepOut, Why};
+use mips_step::{Cpu, Ppn, StepOut, Why};
 use std::process::Abort;
 use std::test::Fail;
-use word32::{half_at, page_of, put_half, put_word, word_at};
-
-/// Two pages of memory, of which one may be absent.
-#[derive(Drop)]
-struct Sparse {
-    bytes: Vec<u8>,
-    absent: u32,
-}
-
-impl PhysBus for Sparse {
-    ghost world = { λ s. with_memory s.bytes.items };
-
-    ghost lacks = { λ s page kind. if page == s.absent then Some First else None };
-
-    fn ready(&self, at: u32, size: Size, _kind: Kind) -> Result<(), Refusal> {
-        let (first, count) = match size {
-            Size::Byte => (at, 1),
-            Size::Half => (at, 2),
-            Size::Word => (at, 4),
-            Size::Left | Size::Right => (at / 4 * 4, 4),
-        };
-        let page = page_of(at);
-        if first as usize + count > self.bytes.len() {
-            Err(Refusal::Bus)
-        } else if page.number() == self.absent {
-            Err(Refusal::Need(page, Why::First))
-        } else {
-            Ok(())
-        }
-    }
-
-    fn peek(&self, at: u32) -> u32 {
-        word_at(&self.bytes, at as usize)
-    }
-
-    fn fetch(&mut self, at: u32) -> u32 {
-        word_at(&self.bytes, at as usize)
-    }
-
-    fn load(&mut self, at: u32, size: Size) -> u32 {
-        match size {
-            Size::Byte => u32::from(self.bytes[at as usize]),
-            Size::Half => u32::from(half_at(&self.bytes, at as usize)),
-            Size::Word => word_at(&self.bytes, at as usize),
-            Size::Left | Size::Right => word_at(&self.bytes, (at / 4 * 4) as usize),
-        }
-    }
-
-    fn lines(&self) -> u8 {
-        0
-    }
-
-    fn store(&mut self, at: u32, size: Size, value: u32) {
-        match size {
-            Size::Byte => self.bytes[at as usize] = (value % 0x100) as u8,
-            Size::Half => put_half(&mut self.bytes, at as usize, (value % 0x1_0000) as u16),
-            Size::Word => put_word(&mut self.bytes, at as usize, value),
-            Size::Left => {
-                let first = (at / 4 * 4) as usize;
-                let word = store_left(word_at(&self.bytes, first), value, at % 4);
-                put_word(&mut self.bytes, first, word);
-            }
-            Size::Right => {
-                let first = (at / 4 * 4) as usize;
-                let word = store_right(word_at(&self.bytes, first), value, at % 4);
-                put_word(&mut self.bytes, first, word);
-            }
-        }
-    }
-}
-
-/// Puts words at addresses.
-fn put_words(bytes: &mut [u8], words: &[(u32, u32)]) {
-    for row in words {
-        let (at, word) = *row;
-        if at as usize + 4 <= bytes.len() {
-            put_word(bytes, at as usize, word);
-        }
-    }
-}
-
-/// A bus of two pages, with words at physical addresses.
-fn bus_with(rt: &impl AllocGlobal, words: &[(u32, u32)], absent: u32) -> Result<Sparse, Fail> {
-    let mut bytes = vec![in rt.alloc(); 0; 8192]?;
-    put_words(&mut bytes, words);
-    Ok(Sparse { bytes, absent })
-}
 
 /// `lw $2,0($1)` and `sw $2,4($1)` behind `lui $1,0x8000` and `ori $1,$1,0x1000`: code in page 0, data in page 1.
 static WORDS: [(u32, u32); 5] = [
@@ -107,19 +16,14 @@ static WORDS: [(u32, u32); 5] = [
     (0x1000, 0x1234_5678),
 ];
 
-/// PC, register 2 and the word at 1004, if memory is as long as it was.
+/// PC, register 2 and the word at 1004.
 fn state(cpu: &Cpu, bus: &Sparse) -> (u32, u32, Option<u32>) {
-    let word = if bus.bytes.len() == 8192 {
-        Some(word_at(&bus.bytes, 0x1004))
-    } else {
-        None
-    };
-    (cpu.pc(), cpu.reg(Reg::new(2)), word)
+    (cpu.pc(), cpu.reg(Reg::new(2)), bus.word(0x1004))
 }
 
 /// The step with this page absent stops for want of it, and leaves the state as it was.
 fn stops(rt: &impl Abort, step: u32, cpu: &mut Cpu, bus: &mut Sparse, page: Ppn) {
-    bus.absent = page.number();
+    bus.leave_out(page.number());
     let (pc, two, _) = state(cpu, bus);
     let got = (cpu.need(bus), cpu.step(bus), state(cpu, bus));
     let need = (page, Why::First);
@@ -139,10 +43,10 @@ fn is_made(rt: &impl Abort, step: u32, cpu: &mut Cpu, bus: &mut Sparse) {
 fn steps_stop(rt: &impl Abort, cpu: &mut Cpu, bus: &mut Sparse) {
     for step in 0..4 {
         stops(rt, step, cpu, bus, Ppn::new(0));
-        bus.absent = 1;
+        bus.leave_out(1);
         if step >= 2 {
             stops(rt, step, cpu, bus, Ppn::new(1));
-            bus.absent = 2;
+            bus.leave_out(2);
         }
         is_made(rt, step, cpu, bus);
     }
@@ -150,7 +54,7 @@ fn steps_stop(rt: &impl Abort, cpu: &mut Cpu, bus: &mut Sparse) {
 
 #[test]
 fn a_lacking_page_stops_a_step_before_anything_changes(rt: HostRuntime) -> Result<(), Fail> {
-    let mut bus = bus_with(&rt, &WORDS, 0)?;
+    let mut bus = Sparse::new(&rt, &WORDS)?;
     let mut cpu = Cpu::boot(0x8000_0000);
     steps_stop(&rt, &mut cpu, &mut bus);
     let after = (0x8000_0010, 0x1234_5678, Some(0x1234_5678));
@@ -175,10 +79,10 @@ fn past_memory(rt: &impl Abort, bus: &mut Sparse) {
 /// An address that is not aligned, before its page is asked for.
 fn not_aligned(rt: &impl Abort, bus: &mut Sparse) {
     let mut cpu = Cpu::boot(0x8000_0000);
-    bus.absent = 0;
+    bus.leave_out(0);
     let need = Some((Ppn::new(0), Why::First));
     expect(rt, "the fetch's page", cpu.need(bus), need);
-    bus.absent = 2;
+    bus.leave_out(2);
     let got = (cpu.step(bus), exception(&cpu));
     let registers = [0x8000_0180, 0x8000_0000, 4 << 2, 2];
     expect(rt, "not aligned", got, (StepOut::Done, registers));
@@ -186,7 +90,7 @@ fn not_aligned(rt: &impl Abort, bus: &mut Sparse) {
 
 #[test]
 fn an_exception_comes_where_no_page_is_needed(rt: HostRuntime) -> Result<(), Fail> {
-    let mut bus = bus_with(&rt, &[(0, 0x8c01_0002)], 2)?;
+    let mut bus = Sparse::new(&rt, &[(0, 0x8c01_0002)])?;
     past_memory(&rt, &mut bus);
     not_aligned(&rt, &mut bus);
     Ok(())
@@ -203,7 +107,7 @@ fn counters(cpu: &Cpu) -> (Option<u32>, u32, u32) {
 
 /// With the fetch's page absent, nothing that a step counts has changed.
 fn slot_stays(rt: &impl Abort, cpu: &mut Cpu, bus: &mut Sparse) {
-    bus.absent = 0;
+    bus.leave_out(0);
     let before = counters(cpu);
     let got = (cpu.step(bus), counters(cpu));
     let need = StepOut::Need(Ppn::new(0), Why::First);
@@ -212,7 +116,7 @@ fn slot_stays(rt: &impl Abort, cpu: &mut Cpu, bus: &mut Sparse) {
 
 /// The load is at 1000 by way of register 1, which is 0: it is mapped, and no entry is valid.
 fn slot_is_left(rt: &impl Abort, cpu: &mut Cpu, bus: &mut Sparse) {
-    bus.absent = 2;
+    bus.leave_out(2);
     let (_, count, _) = counters(cpu);
     let stepped = (cpu.step(bus), cpu.slot());
     expect(rt, "the slot", stepped, (StepOut::Done, None));
@@ -224,12 +128,39 @@ fn slot_is_left(rt: &impl Abort, cpu: &mut Cpu, bus: &mut Sparse) {
 
 #[test]
 fn a_lacking_page_leaves_the_delay_slot_and_count(rt: HostRuntime) -> Result<(), Fail> {
-    let mut bus = bus_with(&rt, &SLOT_WORDS, 2)?;
+    let mut bus = Sparse::new(&rt, &SLOT_WORDS)?;
     let mut cpu = Cpu::boot(0x8000_0000);
     let branched = (cpu.step(&mut bus), cpu.slot(), cpu.need(&bus));
     let slot = Some(0x8000_0008);
     expect(&rt, "the branch", branched, (StepOut::Done, slot, None));
     slot_stays(&rt, &mut cpu, &mut bus);
     slot_is_left(&rt, &mut cpu, &mut bus);
+    Ok(())
+}
+
+/// At the devices' registers by way of kseg1: page 1 is given to the balloon, the given pages are counted before and after
+/// a load from that page, whose word was 12345678.
+static GIVING_WORDS: [(u32, u32); 8] = [
+    (0x0000, 0x3c01_bf00),
+    (0x0004, 0x3402_0001),
+    (0x0008, 0xac22_0018),
+    (0x000c, 0x8c23_0014),
+    (0x0010, 0x3c04_8000),
+    (0x0014, 0x8c85_1000),
+    (0x0018, 0x8c26_0014),
+    (0x1000, 0x1234_5678),
+];
+
+#[test]
+fn a_page_is_given_by_a_store_and_taken_by_a_load(rt: HostRuntime) -> Result<(), Fail> {
+    let mut bus = Sparse::new(&rt, &GIVING_WORDS)?;
+    let mut cpu = Cpu::boot(0x8000_0000);
+    for step in 0..7 {
+        expect(&rt, step, cpu.step(&mut bus), StepOut::Done);
+    }
+    let counts = (cpu.reg(Reg::new(3)), cpu.reg(Reg::new(6)));
+    let words = (cpu.reg(Reg::new(5)), bus.word(0x1000));
+    expect(&rt, "given pages", counts, (1, 0));
+    expect(&rt, "the page's word", words, (0, Some(0)));
     Ok(())
 }

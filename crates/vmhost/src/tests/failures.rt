@@ -62,6 +62,7 @@ fn a_read_that_fails_is_no_shorter_file(rt: HostRuntime) -> Result<(), Fail> {
             kind: MachineKind::Guest,
             pages,
             steps: 1,
+            log: None,
         };
         for left in [0, 1, 4, 4096] {
             for (kind, want) in &KINDS {

@@ -5,7 +5,7 @@ use std::rt::Files;
 use std::test::Fail;
 
 /// Command lines that are refused.
-static USAGE: [&str; 30] = [
+static USAGE: [&str; 38] = [
     "",
     "FILE",
     "run FILE",
@@ -36,10 +36,18 @@ static USAGE: [&str; 30] = [
     "exec --raw --pages  FILE",
     "exec --raw --pages 4294967296 FILE",
     "exec --raw --pages 2 --pages 2 FILE",
+    "exec --raw --in 6 FILE",
+    "exec --raw --in 6g FILE",
+    "exec --raw --in FILE",
+    "exec --raw --log FILE",
+    "replay",
+    "replay FILE",
+    "replay --flat FILE FILE",
+    "replay FILE FILE FILE",
 ];
 
 /// Command lines that ask for help.
-static HELP: [&str; 9] = [
+static HELP: [&str; 10] = [
     "--help",
     "-h",
     "--help exec",
@@ -49,6 +57,7 @@ static HELP: [&str; 9] = [
     "exec --help",
     "exec -h",
     "exec --raw --help FILE",
+    "replay --help",
 ];
 
 fn check_usage<R: Files + AllocGlobal + Abort>(rt: &R, line: &str) -> Result<(), Fail> {

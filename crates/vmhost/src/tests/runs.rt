@@ -145,27 +145,27 @@ static RUNS: [Run; 29] = [
     Run {
         name: "a store to an address without memory",
         source: "
-            lui $1,0xbf00
+            lui $1,0xbfc0
             sw $2,0($1)
         ",
         command: "exec",
         steps: "2",
         pc: 0x8000_0180,
         hi_lo: [0, 0],
-        regs: &[(1, 0xbf00_0000)],
+        regs: &[(1, 0xbfc0_0000)],
         system: [2, 0x0000_001c, 0x8000_0004, 0],
     },
     Run {
         name: "a load from an address without memory",
         source: "
-            lui $1,0xbf00
+            lui $1,0xbfc0
             lw $2,0($1)
         ",
         command: "exec",
         steps: "2",
         pc: 0x8000_0180,
         hi_lo: [0, 0],
-        regs: &[(1, 0xbf00_0000)],
+        regs: &[(1, 0xbfc0_0000)],
         system: [2, 0x0000_001c, 0x8000_0004, 0],
     },
     Run {

@@ -6,10 +6,10 @@ use std::process::Abort;
 use std::rt::Files;
 use std::test::Fail;
 
-/// A source and the dump that its run of some steps ends with.
+/// A source, the options of its run, and the dump that this ends with.
 pub struct Program {
     pub source: &'static [&'static str],
-    pub steps: &'static str,
+    pub options: &'static str,
     pub dump: &'static [&'static str],
 }
 
@@ -26,7 +26,8 @@ fn text_of(alloc: Global, lines: &[&str]) -> Result<String, AllocError> {
 /// What assembles a source.
 const ASM: &str = "asm FILE.s FILE";
 
-/// Assembles a program and runs it on a guest and on the table machine.
+/// Assembles a program, runs it on a guest and on the table machine, and replays the guest's log, which is written over the
+/// source.
 pub fn check_program<R: Files + AllocGlobal + Abort>(
     rt: &R,
     file: &str,
@@ -45,11 +46,11 @@ fn check_dumps<R: Files + AllocGlobal + Abort>(
     program: &Program,
 ) -> Result<(), Fail> {
     let dump = text_of(rt.alloc(), program.dump)?;
-    for end in ["FILE", "--flat FILE"] {
-        let line = format!(in rt.alloc(); "exec --steps {} {end}", program.steps)?;
+    for end in ["--log FILE.s FILE", "--flat FILE"] {
+        let line = format!(in rt.alloc(); "exec {} {end}", program.options)?;
         prints(rt, file, &line, &dump)?;
     }
-    Ok(())
+    prints(rt, file, "replay FILE FILE.s", &dump)
 }
 
 /// Sources and the disassembly of what they are assembled to.

@@ -1,0 +1,161 @@
+//! The command `replay`.
+ghost use Rattle.std.specs.Prelude.{◌≡◌, ◌≤◌, length, IfErr, OnOk, IsErrOf};
+ghost use Rattle.items.specs.Items.{is_step};
+ghost use Rattle.items.specs.Entries.{steps_of, items_in, items_of};
+ghost use Rattle.flatvm.specs.Items.{run, AllAccepted};
+ghost use Rattle.commands.specs.Faults.{IsReplayFault};
+ghost use Rattle.commands.specs.Raw.{IsPageCount};
+
+use crate::dump::Dump;
+use crate::fault::{Fault, LogRefusal, log_file_fault, of_file};
+use crate::image_file::{image_in, raw_image_in, whole_file};
+use crate::order::{Format, Replay};
+use flatvm::{Flat, Rejection};
+use items::{Entry, SeatNo, What};
+use logfile::{check_header, image_digest, read_entries};
+use std::alloc::{AllocError, Global};
+use std::fs::File;
+use std::rt::Files;
+
+/// Why a replay ends before the log's last item.
+#[derive(Clone, Copy, Debug, PartialEq, Eq)]
+pub enum Halt {
+    /// The machine refuses an item where it stands.
+    Item,
+    /// A request for memory was refused.
+    Memory,
+}
+
+/// Replays a log on the table machine that boots its image, and gives the dump of the machine after the log's last item;
+/// its steps are those of the log.
+///
+/// An error is `File` where a file can't be read, the image's before the log's; `Log` with the first fault of the log's
+/// header; `Elf` or `Raw` where the image is refused for the log's pages; `Log` with the first fault of the log's items, of
+/// which that of an item that the machine refuses is the last; `Memory` where a request for memory was refused.
+pub fn replay_log<'a, R: Files + AllocGlobal>(
+    rt: &R,
+    order: Replay<'a>,
+) -> Result<String, Fault<'a>>
+    ensures { IfErr result (λ fault. IsReplayFault order.entry fault) }
+{
+    let image = of_file(order.image, File::open(rt, order.image))?;
+    let image = of_file(order.image, whole_file(rt.alloc(), image))?;
+    let log = of_file(order.log, File::open(rt, order.log))?;
+    let log = of_file(order.log, whole_file(rt.alloc(), log))?;
+    replay_bytes(rt.alloc(), image, &log, order)
+}
+
+fn replay_bytes<'a>(
+    alloc: Global,
+    image: Vec<u8>,
+    log: &[u8],
+    order: Replay<'a>,
+) -> Result<String, Fault<'a>>
+    ensures { IfErr result (λ fault. IsReplayFault order.entry fault) }
+{
+    let digest = image_digest(&image);
+    match check_header(log, &digest) {
+        Err(fault) => Err(log_file_fault(fault)),
+        Ok(pages) => replay_on(alloc, image, log, order, pages),
+    }
+}
+
+/// Replays the items of a log whose header names these pages and the image's digest.
+fn replay_on<'a>(
+    alloc: Global,
+    image: Vec<u8>,
+    log: &[u8],
+    order: Replay<'a>,
+    pages: u32,
+) -> Result<String, Fault<'a>>
+    requires pages { IsPageCount pages }
+    requires header { 40 ≤ length log.now }
+    ensures { IfErr result (λ fault. IsReplayFault order.entry fault) }
+{
+    let image = match order.format {
+        Format::Raw => raw_image_in(alloc, image, pages)?,
+        Format::Elf => image_in(alloc, &image, pages)?,
+    };
+    let entries = read_entries(alloc, log)?;
+    let mut flat = Flat::boot(alloc, &image, pages)?;
+    match replay_entries(&mut flat, &entries) {
+        Ok(steps) => Ok(dump_of(alloc, &flat, steps)?),
+        Err(Halt::Item) => Err(Fault::Log {
+            fault: LogRefusal::Item,
+        }),
+        Err(Halt::Memory) => Err(Fault::Memory),
+    }
+}
+
+/// What is printed of a machine after a log of so many steps.
+fn dump_of(alloc: Global, flat: &Flat, steps: u64) -> Result<String, AllocError> {
+    let view = flat.view();
+    let output = view.devices.copy_output()?;
+    let dump = Dump {
+        cpu: view.cpu,
+        output: &output,
+        steps,
+        stop: None,
+    };
+    format!(in alloc; "{dump}")
+}
+
+/// Replays the items that entries keep, in order, and tells how many of them are steps (modulo 2^64).
+///
+/// It answers `Item` where the machine does not accept an item where it stands, and `Memory` only where a request for memory
+/// was refused; the machine is then as after the items before.
+pub fn replay_entries(flat: &mut Flat, entries: &[Entry]) -> Result<u64, Halt>
+    ensures run { OnOk result (flat.new ≡ run (items_of entries.now) flat.old) }
+    ensures accepted { OnOk result (AllAccepted (items_of entries.now) flat.old) }
+    ensures refused { IsErrOf result Halt.Item → ¬ AllAccepted (items_of entries.now) flat.old }
+{
+    let mut steps: u64 = 0;
+    for entry in entries {
+        match replay_entry(flat, entry) {
+            Ok(count) => steps = steps.wrapping_add(count),
+            Err(halt) => return Err(halt),
+        }
+    }
+    Ok(steps)
+}
+
+/// Replays the items that an entry keeps, and tells how many of them are steps.
+fn replay_entry(flat: &mut Flat, entry: &Entry) -> Result<u64, Halt>
+    ensures run { OnOk result (flat.new ≡ run (items_in entry.now) flat.old) }
+    ensures accepted { OnOk result (AllAccepted (items_in entry.now) flat.old) }
+    ensures refused { IsErrOf result Halt.Item → ¬ AllAccepted (items_in entry.now) flat.old }
+{
+    match entry {
+        Entry::Steps { seat, count } => {
+            replay_steps(flat, *seat, *count);
+            Ok(*count)
+        }
+        Entry::One(item) => match flat.input(&item.what) {
+            Ok(_) => Ok(if is_step(&item.what) { 1 } else { 0 }),
+            Err(Rejection::Machine) => Err(Halt::Item),
+            Err(Rejection::Memory) => Err(Halt::Memory),
+        },
+    }
+}
+
+/// Whether something that happens is a step.
+fn is_step(what: &What) -> bool
+    ensures { result ≡ is_step what.now }
+{
+    match what {
+        What::Step => true,
+        What::In(_) | What::Drain | What::Target(_) | What::Poke { .. } | What::Write { .. } =>
+            false,
+    }
+}
+
+/// Makes the steps of a seat.
+fn replay_steps(flat: &mut Flat, seat: SeatNo, count: u64)
+    ensures run { flat.new ≡ run (steps_of seat count) flat.old }
+    ensures accepted { AllAccepted (steps_of seat count) flat.old }
+{
+    for made in 0..count {
+        let _made = made;
+        flat.step();
+    }
+}

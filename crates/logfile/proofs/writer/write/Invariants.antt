@@ -1,0 +1,8 @@
+use Rattle.std.proofs.Common.{take}
+use Rattle.logfile.specs.Files.{StandsFor}
+use Rattle.logfile.specs.Runs.{file_entries}
+use Rattle.logfile.proofs.writer.write.Given as goal
+
+-- the file so far stands for the entries so far
+abbrev pub invariant-loop-entry : goal.invariant-loop-entry
+invariant-loop-entry l = StandsFor l.file.items l.pages l.digest (file_entries (take l.entry-index l.entries))

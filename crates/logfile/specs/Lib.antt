@@ -1,0 +1,5 @@
+pub mod FileItems
+pub mod Files
+pub mod Faults
+pub mod Runs
+pub mod Reading

@@ -1,0 +1,28 @@
+//! What a debugger does to the registers.
+ghost use Rattle.std.specs.Prelude.{◌≡◌};
+ghost use Rattle.mips_step.specs.Poking.{poked};
+
+use super::Cpu;
+use items::DebugRegister;
+use mips_cp0::Register;
+
+impl Cpu {
+    /// A debugger's write of a register. Register 0 and BadVAddr stay; of Status and Cause the bits are written that MTC0
+    /// writes; a write of PC also leaves the delay slot.
+    pub fn poke(&mut self, register: DebugRegister, value: u32)
+        ensures { self.new ≡ poked register value self.old }
+    {
+        match register.number() {
+            0 | 35 => {}
+            32 => self.cp0.set_value(Register::Status, value),
+            33 => self.lo = value,
+            34 => self.hi = value,
+            36 => self.cp0.set_value(Register::Cause, value),
+            37 => {
+                self.pc = value;
+                self.slot = None;
+            }
+            number => self.regs[number as usize] = value,
+        }
+    }
+}
