@@ -1,0 +1,7 @@
+pub mod Failures
+pub mod Faults
+pub mod Files
+pub mod Holding
+pub mod Memories
+pub mod Places
+pub mod Slots

@@ -1,0 +1,101 @@
+//! A store in a file.
+ghost use Rattle.std.specs.Prelude.{◌≡◌, ◌*◌, Some, is_ok};
+ghost use Rattle.swapstore.specs.Failures.{counted, one_more};
+ghost use Rattle.swapstore.specs.Places.{page_in};
+ghost use Rattle.swapstore.specs.Files.{medium_of, slots_of, failures_of};
+
+use crate::{Failed, Medium, SwapStore};
+use std::io;
+
+/// A store in a file, or in another medium. The first byte of a slot is that of place `4096 * slot`.
+///
+/// It is honest where its medium keeps what is written: of a `File` that is a premise that nothing proves.
+#[derive(Drop)]
+pub struct FileStore<M> {
+    medium: M,
+    slots: u32,
+    failures: u64,
+}
+
+impl<M: Medium> FileStore<M> {
+    /// A store over a medium, which need not be of full length: a slot that was never written can't be read past its end.
+    pub fn new(medium: M, slots: u32) -> FileStore<M>
+        ensures medium { medium_of result ≡ medium }
+        ensures slots { slots_of result ≡ slots }
+        ensures failures { failures_of result ≡ 0 }
+    {
+        FileStore {
+            medium,
+            slots,
+            failures: 0,
+        }
+    }
+
+    /// The medium, with what was written.
+    pub fn into_medium(self) -> M
+        ensures { result ≡ medium_of self }
+    {
+        let FileStore {
+            medium,
+            slots: _,
+            failures: _,
+        } = self;
+        medium
+    }
+
+    // What a call answers, whose failure is counted.
+    fn counted(&mut self, answer: io::Result<()>) -> Result<(), Failed>
+        ensures answer { is_ok result ≡ is_ok answer }
+        ensures medium { medium_of self.new ≡ medium_of self.old }
+        ensures slots { slots_of self.new ≡ slots_of self.old }
+        ensures failures { failures_of self.new ≡ counted (is_ok answer) (failures_of self.old) }
+    {
+        match answer {
+            Ok(()) => Ok(()),
+            Err(_) => {
+                self.failures = self.failures.saturating_add(1);
+                Err(Failed)
+            }
+        }
+    }
+}
+
+// The place of a slot's first byte.
+fn first_place(slot: u32) -> u64
+    ensures { result ≡ 4096 * slot }
+{
+    4096 * u64::from(slot)
+}
+
+#[tactic(auto, using(crate::proofs::Pages::bytes_read, crate::proofs::Pages::same_bytes, crate::proofs::Pages::other_slot_stays))]
+impl<M: Medium> SwapStore for FileStore<M> {
+    ghost held = { λ s slot. Some (page_in (M.byte_at s.medium) slot) };
+
+    ghost honest = { λ s. M.keeps s.medium };
+
+    ghost true_to_digests = { λ s. M.keeps s.medium };
+
+    ghost slots = { λ s. s.slots };
+
+    ghost failed = { λ s. s.failures };
+
+    ghost honest_is_true = { λ s keeps. keeps };
+
+    fn slot_count(&self) -> u32 {
+        self.slots
+    }
+
+    fn failures(&self) -> u64 {
+        self.failures
+    }
+
+    fn write(&mut self, slot: u32, bytes: &[u8]) -> Result<(), Failed> {
+        let answer = self.medium.write_from(first_place(slot), bytes);
+        self.counted(answer)
+    }
+
+    fn read(&mut self, slot: u32, bytes: &mut [u8]) -> Result<(), Failed> {
+        let answer = self.medium.read_from(first_place(slot), bytes);
+        self.counted(answer)
+    }
+}

@@ -1,0 +1,11 @@
+pub mod Allotments
+pub mod Drawn
+pub mod Draws
+pub mod Existence
+pub mod Firsts
+pub mod Fractions
+pub mod Leasts
+pub mod Positive
+pub mod Reclaiming
+pub mod Taxed
+pub mod Victims

@@ -1,0 +1,5 @@
+pub mod Ratio
+pub mod Sample
+pub mod Targets
+pub mod Victim
+pub mod Worked
