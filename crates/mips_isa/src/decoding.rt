@@ -19,6 +19,7 @@ use crate::{
 
 /// The instruction that a word encodes: `Some` exactly where one row of the table fits the word, `None` exactly where
 /// no row does. It is a match over the fields, with no loop and no table search.
+#[inline(never)]
 pub fn decode(word: u32) -> Option<Instr>
     ensures { readings word ≡ option_to_list result }
 {
@@ -31,6 +32,7 @@ pub fn decode(word: u32) -> Option<Instr>
 
 /// The instruction that a word of an opcode below 0x20 encodes, as `decode` answers it. It touches no memory.
 #[tactic(auto, using(crate::proofs::Operations::reads_operation))]
+#[inline(always)]
 pub fn decode_operation(word: u32) -> Option<Instr>
     requires { word < 2 ^ 31 }
     ensures value { readings word ≡ option_to_list result }
@@ -41,6 +43,7 @@ pub fn decode_operation(word: u32) -> Option<Instr>
 
 /// The instruction that a word of an opcode from 0x20 on encodes, as `decode` answers it: loads, stores and the like.
 #[tactic(auto, using(crate::proofs::Groups::memory_at))]
+#[inline(always)]
 pub fn decode_access(word: u32) -> Option<Instr>
     requires { 2 ^ 31 ≤ word }
     ensures { readings word ≡ option_to_list result }
@@ -49,6 +52,7 @@ pub fn decode_access(word: u32) -> Option<Instr>
 }
 
 #[tactic(auto, using(crate::proofs::Groups::special_at, crate::proofs::Groups::regimm_at, crate::proofs::Groups::special2_at, crate::proofs::Groups::cop0_at, crate::proofs::Groups::opcode_at))]
+#[inline(always)]
 fn below_memory(word: u32) -> Option<Instr>
     requires { word < 2 ^ 31 }
     ensures { readings word ≡ option_to_list result }
@@ -70,6 +74,7 @@ pub fn fits_one_row_at_most(word: u32)
 }
 
 #[tactic(auto, unfolding(crate::specs::Table::special_readings))]
+#[inline(always)]
 fn special(word: u32) -> Option<Instr>
     requires { word / 2 ^ 26 ≡ 0 }
     ensures { special_readings (fields word) ≡ option_to_list result }
@@ -204,6 +209,7 @@ fn cop0_function(word: u32) -> Option<Instr>
 }
 
 #[tactic(auto, unfolding(crate::specs::Table::opcode_readings))]
+#[inline(always)]
 fn by_opcode(word: u32) -> Option<Instr>
     requires { word / 2 ^ 26 < 0x20 }
     ensures { opcode_readings (fields word) ≡ option_to_list result }
@@ -234,6 +240,7 @@ fn by_opcode(word: u32) -> Option<Instr>
 }
 
 #[tactic(auto, unfolding(crate::specs::Table::memory_readings))]
+#[inline(always)]
 fn memory(word: u32) -> Option<Instr>
     requires { 0x20 ≤ word / 2 ^ 26 }
     ensures { memory_readings (fields word) ≡ option_to_list result }
