@@ -1,2 +1,4 @@
+mod Feeding
 mod Reading
 mod Replaying
+mod Reports

@@ -1,4 +1,5 @@
 pub mod Disassembled
+pub mod Dumps
 pub mod Faults
 pub mod LogFiles
 pub mod Raw

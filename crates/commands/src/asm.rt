@@ -1,5 +1,5 @@
 //! The command `asm`.
-ghost use Rattle.std.specs.Prelude.{◌≡◌, ◌⊎◌, IfErr, IfOk, IfSome, OnOk};
+ghost use Rattle.std.specs.Prelude.{◌≡◌, ◌≢◌, ◌⊎◌, IfErr, IfOk, IfSome, OnOk};
 ghost use Rattle.std.specs.Io.KnownBytes.{Appends};
 ghost use Rattle.masm.specs.Executables.{IsExecutableOf};
 ghost use Rattle.commands.specs.Faults.{IsAsmFault, IsAsmRefusal, IsAsmRunFault};
@@ -18,10 +18,15 @@ use std::rt::Files;
 /// assembled: where that is refused, the file is as before.
 ///
 /// An error is `Asm` with the source's first fault and its line; `File` where the source can't be read or the executable
-/// can't be written, and then the file may have a beginning of it; `Memory` where a request for memory was refused.
+/// can't be written, and then the file may have a beginning of it, and where both are one, which is found before it is read;
+/// `Memory` where a request for memory was refused.
 pub fn assemble_file<'a, R: Files + AllocGlobal>(rt: &R, order: Asm<'a>) -> Result<(), Fault<'a>>
-    ensures { IfErr result (λ fault. IsAsmRunFault order.entry fault) }
+    ensures apart { OnOk result (order.entry.source ≢ order.entry.output) }
+    ensures faults { IfErr result (λ fault. IsAsmRunFault order.entry fault) }
 {
+    if order.source == order.output {
+        return Err(Fault::File { name: order.output });
+    }
     let source = of_file(order.source, File::open(rt, order.source))?;
     let executable = executable_of(rt.alloc(), source, order.source)?;
     let mut output = of_file(order.output, File::create(rt, order.output))?;

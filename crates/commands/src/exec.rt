@@ -1,19 +1,22 @@
 //! The command `exec`.
-ghost use Rattle.std.specs.Prelude.{◌≡◌, [], None, IfErr, IfOk};
+ghost use Rattle.std.specs.Prelude.{◌≡◌, ◌≢◌, [], None, Some, IfErr, IfOk, IfSome, OnOk, string_bytes};
+ghost use Rattle.sha2.specs.Sha256.{sha256};
+ghost use Rattle.elf32.specs.declared.image.Image.{Image};
+ghost use Rattle.elf32.specs.Files.{StandsFor};
 ghost use Rattle.elf32.specs.Images.{FitsPages};
+ghost use Rattle.flatvm.specs.Boot.{boot_machine};
+ghost use Rattle.commands.specs.Dumps.{dump_text};
 ghost use Rattle.commands.specs.Faults.{IsElfRunFault, IsExecFault, IsImageFault, IsRunFault};
 ghost use Rattle.commands.specs.Raw.{IsPageCount};
-ghost use Rattle.commands.specs.Runs.{IsCountFed};
+ghost use Rattle.commands.specs.Runs.{after_run, IsImageOf, IsReport, IsReportOf};
 
-use crate::dump::Dump;
+use crate::dump::dump;
 use crate::fault::{Fault, LogRefusal, of_file};
 use crate::image_file::{Loaded, elf_image, is_page_count, raw_image};
 use crate::log_file::write_log;
-use crate::machine::{Machine, Ran, Runner, feed_all, run};
+use crate::machine::{Machine, Ran, Runner, run};
 use crate::order::{ConsoleInput, Exec, Format, MachineKind};
-use elf32::Image;
 use flatvm::Flat;
-use guest::Log;
 use std::alloc::{AllocError, Global};
 use std::fs::File;
 use std::io::Read;
@@ -28,124 +31,175 @@ pub struct Report {
     pub ran: Ran,
 }
 
+/// A run of the image in a file.
+#[derive(Drop)]
+pub struct Done {
+    /// What it prints, and how it went.
+    pub report: Report,
+    /// The guest, which has the log; none where the table machine ran.
+    pub runner: Option<Runner>,
+    /// The SHA-256 digest of the file's bytes, by which a log names the image.
+    pub digest: [u8; 32],
+}
+
 /// Runs the image of a file, which begins with this console input. A fault of the file comes before one of the boot; where
-/// a log is asked of the table machine, that comes before any file is read. The log is written after the run.
+/// a log is asked of the table machine, or is to be written over the image, that comes before any file is read. The log is
+/// written after the run.
 ///
 /// An error is `Log` where the table machine is asked for a log; `File` where the image's file can't be read or the log's
-/// written; `Elf` with the first fault of a file that is no executable for so many pages; `Raw` where a raw image is empty
-/// or longer than the pages; `Limits` where the number of pages is outside its limits; `Memory` where a request for memory
-/// was refused.
+/// written, and where both are one; `Elf` with the first fault of a file that is no executable for so many pages; `Raw`
+/// where a raw image is empty or longer than the pages; `Limits` where the number of pages is outside its limits; `Memory`
+/// where a request for memory was refused.
 pub fn run_image<'a, R: Files + AllocGlobal>(
     rt: &R,
     order: Exec<'a>,
     input: &ConsoleInput,
 ) -> Result<Report, Fault<'a>>
-    ensures count { IfOk result (λ r. IsCountFed order.entry.steps r.ran) }
+    ensures report { IfOk result (λ r. (image : Image) × IsReport (boot_machine image order.entry.pages) input.now order.entry.steps r) }
     ensures legal { IfOk result (λ r. IsPageCount order.entry.pages) }
     ensures log { IfOk result (λ r. order.entry.kind ≡ MachineKind.Flat → order.entry.log ≡ None) }
+    ensures apart { IfOk result (λ r. order.entry.log ≢ Some order.entry.image) }
     ensures faults { IfErr result (λ fault. IsExecFault order.entry fault) }
 {
-    match order.kind {
-        MachineKind::Guest => run_guest(rt, load(rt, order)?, order, input),
-        MachineKind::Flat => {
-            if order.log.is_some() {
-                return Err(Fault::Log {
-                    fault: LogRefusal::Flat,
-                });
-            }
-            let loaded = load(rt, order)?;
-            Ok(run_flat(rt.alloc(), &loaded.image, order, input)?)
-        }
-    }
+    log_can_be_kept(order)?;
+    let file = of_file(order.image, File::open(rt, order.image))?;
+    let done = run_file(rt.alloc(), file, order, input)?;
+    write_order(rt, order, &done)?;
+    Ok(done.report)
 }
 
-fn run_guest<'a, R: Files + AllocGlobal>(
-    rt: &R,
-    loaded: Loaded,
+/// Whether the log that the order asks for, if it does, can be kept, and is not to be written over the image.
+fn log_can_be_kept<'a>(order: Exec<'a>) -> Result<(), Fault<'a>>
+    ensures log { OnOk result (order.entry.kind ≡ MachineKind.Flat → order.entry.log ≡ None) }
+    ensures apart { OnOk result (order.entry.log ≢ Some order.entry.image) }
+    ensures faults { IfErr result (λ fault. IsExecFault order.entry fault) }
+{
+    let Some(log) = order.log else {
+        return Ok(());
+    };
+    if order.kind == MachineKind::Flat {
+        return Err(Fault::Log {
+            fault: LogRefusal::Flat,
+        });
+    }
+    if log == order.image {
+        return Err(Fault::File { name: log });
+    }
+    Ok(())
+}
+
+/// Runs the image in a file from its boot, on the machine that the order names. Where it succeeds, the report is of a run of
+/// the image that the file's bytes stand for, by their format: of the machine that it boots, after the input that was taken
+/// and the steps that were made.
+///
+/// An error is one of `run_image`, but that no log is written here.
+pub fn run_file<'a, F: Read + Drop>(
+    alloc: Global,
+    file: F,
     order: Exec<'a>,
     input: &ConsoleInput,
-) -> Result<Report, Fault<'a>>
-    requires fits { FitsPages loaded.image order.pages }
-    requires legal { IsPageCount order.pages }
-    ensures count { IfOk result (λ r. IsCountFed order.entry.steps r.ran) }
-    ensures faults { IfErr result (λ fault. IsRunFault order.entry fault) }
+) -> Result<Done, Fault<'a>>
+    ensures report { IfSome (F.remaining file) (λ all. IfOk result (λ done. IsReportOf all order.entry input.now done.report)) }
+    ensures digest { IfSome (F.remaining file) (λ all. IfOk result (λ done. done.digest ≡ sha256 all)) }
+    ensures some_image { IfOk result (λ done. (image : Image) × IsReport (boot_machine image order.entry.pages) input.now order.entry.steps done.report) }
+    ensures guest { IfOk result (λ done. order.entry.kind ≡ MachineKind.Guest → done.runner ≢ None) }
+    ensures flat_never_stops { IfOk result (λ done. order.entry.kind ≡ MachineKind.Flat → done.report.ran.stop ≡ None) }
+    ensures legal { IfOk result (λ done. IsPageCount order.entry.pages) }
+    ensures faults { IfErr result (λ fault. IsImageFault order.entry fault) }
 {
-    let mut runner = Runner::boot(rt.alloc(), loaded.image, order.pages)?;
-    let ran = run_fed(&mut runner, input, order.steps);
-    write_order(rt, order, runner.log(), &loaded.digest)?;
-    Ok(report_of(rt.alloc(), &runner, ran)?)
+    let loaded = load(alloc, file, order)?;
+    match order.kind {
+        MachineKind::Guest => Ok(run_guest(alloc, loaded, order, input)?),
+        MachineKind::Flat => Ok(run_flat(alloc, loaded, order, input)?),
+    }
 }
 
-/// Writes the log into the file that the order names, if it names one.
-fn write_order<'a, R: Files + AllocGlobal>(
-    rt: &R,
-    order: Exec<'a>,
-    log: &Log,
-    digest: &[u8; 32],
-) -> Result<(), Fault<'a>>
-    ensures { IfErr result (λ fault. IsRunFault order.entry fault) }
+fn run_guest(
+    alloc: Global,
+    loaded: Loaded,
+    order: Exec<'_>,
+    input: &ConsoleInput,
+) -> Result<Done, AllocError>
+    requires fits { FitsPages loaded.image order.pages }
+    requires legal { IsPageCount order.pages }
+    ensures report { IfOk result (λ done. IsReport (boot_machine loaded.image order.entry.pages) input.now order.entry.steps done.report) }
+    ensures digest { IfOk result (λ done. done.digest ≡ loaded.digest) }
+    ensures guest { IfOk result (λ done. IfSome done.runner (λ r. r.machine ≡ after_run done.report.ran input.now (boot_machine loaded.image order.entry.pages))) }
+    ensures runner { IfOk result (λ done. done.runner ≢ None) }
 {
-    match order.log {
-        None => Ok(()),
-        Some(name) => write_log(rt, name, log, order.pages, digest),
-    }
+    let Loaded { image, digest } = loaded;
+    let mut runner = Runner::boot(alloc, image, order.pages)?;
+    let ran = run(&mut runner, input.as_slice(), order.steps);
+    let report = report_of(alloc, &runner, ran)?;
+    Ok(Done {
+        report,
+        runner: Some(runner),
+        digest,
+    })
 }
 
 fn run_flat(
     alloc: Global,
-    image: &Image,
+    loaded: Loaded,
     order: Exec<'_>,
     input: &ConsoleInput,
-) -> Result<Report, AllocError>
-    requires fits { FitsPages image.now order.pages }
+) -> Result<Done, AllocError>
+    requires fits { FitsPages loaded.image order.pages }
     requires legal { IsPageCount order.pages }
-    ensures { IfOk result (λ r. IsCountFed order.entry.steps r.ran) }
+    ensures report { IfOk result (λ done. IsReport (boot_machine loaded.image order.entry.pages) input.now order.entry.steps done.report) }
+    ensures digest { IfOk result (λ done. done.digest ≡ loaded.digest) }
+    ensures never_stops { IfOk result (λ done. done.report.ran.stop ≡ None) }
 {
-    let mut machine = Flat::boot(alloc, image, order.pages)?;
-    let ran = run_fed(&mut machine, input, order.steps);
-    report_of(alloc, &machine, ran)
-}
-
-/// Feeds the input and makes the steps.
-fn run_fed<M: Machine>(machine: &mut M, input: &ConsoleInput, steps: u32) -> Ran
-    requires { (M.state machine.old).world.devices.console.input ≡ [] }
-    ensures { IsCountFed steps result }
-{
-    match feed_all(machine, input.as_slice()) {
-        Ok(()) => run(machine, steps),
-        Err(stop) => Ran {
-            steps: 0,
-            stop: Some(stop),
-        },
-    }
+    let mut machine = Flat::boot(alloc, &loaded.image, order.pages)?;
+    let ran = run(&mut machine, input.as_slice(), order.steps);
+    let report = report_of(alloc, &machine, ran)?;
+    Ok(Done {
+        report,
+        runner: None,
+        digest: loaded.digest,
+    })
 }
 
 /// What is printed of a machine after a run.
 fn report_of<M: Machine>(alloc: Global, machine: &M, ran: Ran) -> Result<Report, AllocError>
-    ensures { IfOk result (λ r. r.ran ≡ ran) }
+    ensures ran { IfOk result (λ r. r.ran ≡ ran) }
+    ensures text { IfOk result (λ r. string_bytes r.text ≡ dump_text (M.state machine.now) ran.steps ran.stop) }
 {
-    let view = machine.view();
-    let output = view.devices.copy_output()?;
-    let dump = Dump {
-        cpu: view.cpu,
-        output: &output,
-        steps: u64::from(ran.steps),
-        stop: ran.stop,
-    };
-    let text = format!(in alloc; "{dump}")?;
+    let text = dump(alloc, machine.view(), u64::from(ran.steps), ran.stop)?;
     Ok(Report { text, ran })
 }
 
-/// The image of the file, which the pages hold.
-fn load<'a, R: Files + AllocGlobal>(rt: &R, order: Exec<'a>) -> Result<Loaded, Fault<'a>>
+/// Writes the log of the run into the file that the order names, if it names one.
+fn write_order<'a, R: Files + AllocGlobal>(
+    rt: &R,
+    order: Exec<'a>,
+    done: &Done,
+) -> Result<(), Fault<'a>>
+    ensures { IfErr result (λ fault. IsRunFault order.entry fault) }
+{
+    match (order.log, &done.runner) {
+        (Some(name), Some(runner)) => {
+            write_log(rt, name, runner.log(), order.pages, &done.digest)
+        }
+        _ => Ok(()),
+    }
+}
+
+/// The image that a file holds, which the pages hold too.
+fn load<'a, F: Read + Drop>(
+    alloc: Global,
+    file: F,
+    order: Exec<'a>,
+) -> Result<Loaded, Fault<'a>>
+    ensures stands { IfSome (F.remaining file) (λ all. IfOk result (λ loaded. IsImageOf order.entry.format order.entry.pages all loaded.image)) }
+    ensures digest { IfSome (F.remaining file) (λ all. IfOk result (λ loaded. loaded.digest ≡ sha256 all)) }
     ensures fits { IfOk result (λ loaded. FitsPages loaded.image order.entry.pages) }
     ensures legal { IfOk result (λ loaded. IsPageCount order.entry.pages) }
     ensures faults { IfErr result (λ fault. IsImageFault order.entry fault) }
 {
-    let file = of_file(order.image, File::open(rt, order.image))?;
     match order.format {
-        Format::Raw => raw_image(rt.alloc(), file, order),
-        Format::Elf => load_elf(rt.alloc(), file, order),
+        Format::Raw => raw_image(alloc, file, order),
+        Format::Elf => load_elf(alloc, file, order),
     }
 }
 
@@ -154,6 +208,8 @@ fn load_elf<'a, F: Read + Drop>(
     file: F,
     order: Exec<'a>,
 ) -> Result<Loaded, Fault<'a>>
+    ensures stands { IfSome (F.remaining file) (λ all. IfOk result (λ loaded. StandsFor all order.entry.pages loaded.image)) }
+    ensures digest { IfSome (F.remaining file) (λ all. IfOk result (λ loaded. loaded.digest ≡ sha256 all)) }
     ensures fits { IfOk result (λ loaded. FitsPages loaded.image order.entry.pages) }
     ensures legal { IfOk result (λ loaded. IsPageCount order.entry.pages) }
     ensures faults { IfErr result (λ fault. IsElfRunFault order.entry fault) }

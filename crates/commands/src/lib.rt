@@ -1,10 +1,12 @@
 //! The commands of the program `vmhost`: `asm` assembles a source, `dis` prints an executable's instructions, `exec` runs an
 //! image and prints the state that its machine ends in.
 //!
-//! `assemble_file`, `disassemble_file` and `run_image` do what an order says, over any files. `machine::run` makes the steps
-//! of a machine: its contract says which state the machine is in afterwards, how many steps were made and why it ended before
-//! the last. `asm::executable_of` is the executable that a source means, `dis::disassembly` the lines of the image that a file
-//! stands for. What no contract says, the texts that are printed and the order of what fails, the tests of `vmhost` try.
+//! `assemble_file`, `disassemble_file`, `run_image` and `replay_log` do what an order says, over any files. `run_file` joins a
+//! file, a machine and a text: what it reports is the dump (`dump`) of the machine that the image boots for which the file's
+//! bytes stand, after the input that was taken and the steps that were made. `machine::run` says how far a run goes and why it
+//! ends before its last step. `asm::executable_of` is the executable that a source means, `dis::disassembly` the lines of the
+//! image that a file stands for. What no contract says, the order of what fails and what stands in the files that are opened
+//! by their names, the cases of `vmhost` try.
 #![tactic(auto)]
 
 pub mod asm;
@@ -20,7 +22,7 @@ pub mod replay;
 
 pub use asm::assemble_file;
 pub use dis::disassemble_file;
-pub use exec::{Report, run_image};
+pub use exec::{Done, Report, run_file, run_image};
 pub use fault::Fault;
 pub use order::{Asm, ConsoleInput, Dis, Exec, Format, MachineKind, Replay};
 pub use replay::replay_log;

@@ -1,12 +1,13 @@
 //! Machines and their runs.
-ghost use Rattle.std.specs.Prelude.{◌≡◌, ◌+◌, ◌<◌, ◌≤◌, ◌^◌, ◌↔◌, [], length, IfOk, OnOk, OnErr, IsOk, IsErrOf};
+ghost use Rattle.std.specs.Prelude.{◌≡◌, ◌+◌, ◌<◌, ◌≤◌, ◌^◌, ◌↔◌, [], None, length, take, IfOk, IfErr, IfSome, OnOk, OnErr, IsOk, IsErrOf};
 ghost use Rattle.elf32.specs.Images.{FitsPages};
 ghost use Rattle.items.specs.declared.item.What.TheVariants.{In};
 ghost use Rattle.mips_step.specs.Step.{Machine as State, step};
 ghost use Rattle.flatvm.specs.Boot.{boot_machine};
 ghost use Rattle.flatvm.specs.Items.{after};
 ghost use Rattle.guest_log.specs.Logs.{IsFull};
-ghost use Rattle.commands.specs.Runs.{after_steps, fed, IsCount};
+ghost use Rattle.guest_log.specs.declared.stop.Stop.{Stop};
+ghost use Rattle.commands.specs.Runs.{after_run, after_steps, fed, IsCount, MayStop};
 
 use elf32::Image;
 use flatvm::{Flat, Rejection, View};
@@ -21,16 +22,21 @@ pub trait Machine {
     /// Its processor and its memory.
     ghost state: { Self → State };
 
+    /// For which reason it may stop.
+    ghost may_stop: { Self → Stop → Type 0 };
+
     /// Makes one step, or says why it stops; then the state is as before.
     fn step(&mut self) -> Result<(), Stop>
         ensures made { OnOk result (state self.new ≡ step (state self.old)) }
-        ensures stopped { OnErr result (state self.new ≡ state self.old) };
+        ensures stopped { OnErr result (state self.new ≡ state self.old) }
+        ensures reason { IfErr result (may_stop self.new) };
 
     /// Takes a byte of console input, for which the console has room, or says why it stops; then the state is as before.
     fn feed(&mut self, byte: u8) -> Result<(), Stop>
         requires { length (state self.old).world.devices.console.input < 256 }
         ensures fed { OnOk result (state self.new ≡ after (In byte) (state self.old)) }
-        ensures stopped { OnErr result (state self.new ≡ state self.old) };
+        ensures stopped { OnErr result (state self.new ≡ state self.old) }
+        ensures reason { IfErr result (may_stop self.new) };
 
     /// What is seen of it beside its memory.
     fn view(&self) -> View<'_>
@@ -38,8 +44,11 @@ pub trait Machine {
         ensures devices { result.devices.now ≡ (state self.now).world.devices };
 }
 
+/// The table machine never stops.
 impl Machine for Flat {
     ghost state = { λ f. f };
+
+    ghost may_stop = { λ f stop. ⊥ };
 
     fn step(&mut self) -> Result<(), Stop>
         ensures made { self.new ≡ step self.old }
@@ -54,7 +63,7 @@ impl Machine for Flat {
             Ok(_) => Ok(()),
             Err(rejection) => match rejection {
                 Rejection::Machine => unreachable!(),
-                Rejection::Memory => Err(Stop::Memory),
+                Rejection::Memory => unreachable!(),
             },
         }
     }
@@ -108,13 +117,19 @@ impl Runner {
     }
 }
 
+/// A guest stops where its log is full, or where a request for memory was refused.
 impl Machine for Runner {
+    ghost use Rattle.commands.specs.Runs.{MayStop};
+
     ghost state = { λ r. r.machine };
+
+    ghost may_stop = { λ r stop. MayStop r.log stop };
 
     #[tactic(auto, using(flatvm::proofs::Never::never_lacks))]
     fn step(&mut self) -> Result<(), Stop>
         ensures made { OnOk result (self.new.machine ≡ step self.old.machine) }
         ensures stopped { OnErr result (self.new.machine ≡ self.old.machine) }
+        ensures reason { IfErr result (MayStop self.new.log) }
         ensures full { IsErrOf result Stop.LogFull ↔ IsFull self.old.log }
     {
         self.guest.log_room()?;
@@ -146,36 +161,65 @@ impl Machine for Runner {
 /// How a run went.
 #[derive(Clone, Copy, Debug, PartialEq, Eq)]
 pub struct Ran {
+    /// How many bytes of console input were taken before the first step.
+    pub taken: usize,
     /// How many steps were made.
     pub steps: u32,
     /// Why no more were made, where that was before the last.
     pub stop: Option<Stop>,
 }
 
-/// Takes the bytes as console input, one after another, or says why the machine stops before the last; it is then as after
-/// those that it took.
-pub fn feed_all<M: Machine>(machine: &mut M, bytes: &[u8]) -> Result<(), Stop>
+/// Takes the bytes as console input, one after another, and tells how many it took; and why the machine stops, where that is
+/// before the last.
+fn feed_all<M: Machine>(machine: &mut M, bytes: &[u8]) -> (usize, Option<Stop>)
     requires { length (M.state machine.old).world.devices.console.input + length bytes.now ≤ 256 }
-    ensures { OnOk result (M.state machine.new ≡ fed bytes.now (M.state machine.old)) }
+    ensures few { result.0 ≤ length bytes.now }
+    ensures all { result.1 ≡ None → result.0 ≡ length bytes.now }
+    ensures state { M.state machine.new ≡ fed (take result.0 bytes.now) (M.state machine.old) }
+    ensures reason { IfSome result.1 (M.may_stop machine.new) }
 {
+    let mut taken = 0;
     for byte in bytes {
-        machine.feed(*byte)?;
+        if let Err(stop) = machine.feed(*byte) {
+            return (taken, Some(stop));
+        }
+        taken += 1;
     }
-    Ok(())
+    (taken, None)
 }
 
 /// Makes `steps` steps, or fewer where the machine stops before.
-pub fn run<M: Machine>(machine: &mut M, steps: u32) -> Ran
-    ensures count { IsCount steps result }
-    ensures state { M.state machine.new ≡ after_steps result.steps (M.state machine.old) }
+fn step_all<M: Machine>(machine: &mut M, steps: u32) -> (u32, Option<Stop>)
+    ensures few { result.0 ≤ steps }
+    ensures all { result.1 ≡ None → result.0 ≡ steps }
+    ensures fewer { IfSome result.1 (λ stop. result.0 < steps) }
+    ensures state { M.state machine.new ≡ after_steps result.0 (M.state machine.old) }
+    ensures reason { IfSome result.1 (M.may_stop machine.new) }
 {
     for made in 0..steps {
         if let Err(stop) = machine.step() {
-            return Ran {
-                steps: made,
-                stop: Some(stop),
-            };
+            return (made, Some(stop));
         }
     }
-    Ran { steps, stop: None }
+    (steps, None)
+}
+
+/// Takes the console input, and makes `steps` steps, or fewer where the machine stops before.
+pub fn run<M: Machine>(machine: &mut M, input: &[u8], steps: u32) -> Ran
+    requires { length (M.state machine.old).world.devices.console.input + length input.now ≤ 256 }
+    ensures count { IsCount input.now steps result }
+    ensures state { M.state machine.new ≡ after_run result input.now (M.state machine.old) }
+    ensures reason { IfSome result.stop (M.may_stop machine.new) }
+{
+    match feed_all(machine, input) {
+        (taken, Some(stop)) => Ran {
+            taken,
+            steps: 0,
+            stop: Some(stop),
+        },
+        (taken, None) => {
+            let (steps, stop) = step_all(machine, steps);
+            Ran { taken, steps, stop }
+        }
+    }
 }

@@ -6,14 +6,14 @@ ghost use Rattle.flatvm.specs.Items.{run, AllAccepted};
 ghost use Rattle.commands.specs.Faults.{IsReplayFault};
 ghost use Rattle.commands.specs.Raw.{IsPageCount};
 
-use crate::dump::Dump;
+use crate::dump::dump;
 use crate::fault::{Fault, LogRefusal, log_file_fault, of_file};
 use crate::image_file::{image_in, raw_image_in, whole_file};
 use crate::order::{Format, Replay};
 use flatvm::{Flat, Rejection};
 use items::{Entry, SeatNo, What};
 use logfile::{check_header, image_digest, read_entries};
-use std::alloc::{AllocError, Global};
+use std::alloc::Global;
 use std::fs::File;
 use std::rt::Files;
 
@@ -79,25 +79,12 @@ fn replay_on<'a>(
     let entries = read_entries(alloc, log)?;
     let mut flat = Flat::boot(alloc, &image, pages)?;
     match replay_entries(&mut flat, &entries) {
-        Ok(steps) => Ok(dump_of(alloc, &flat, steps)?),
+        Ok(steps) => Ok(dump(alloc, flat.view(), steps, None)?),
         Err(Halt::Item) => Err(Fault::Log {
             fault: LogRefusal::Item,
         }),
         Err(Halt::Memory) => Err(Fault::Memory),
     }
-}
-
-/// What is printed of a machine after a log of so many steps.
-fn dump_of(alloc: Global, flat: &Flat, steps: u64) -> Result<String, AllocError> {
-    let view = flat.view();
-    let output = view.devices.copy_output()?;
-    let dump = Dump {
-        cpu: view.cpu,
-        output: &output,
-        steps,
-        stop: None,
-    };
-    format!(in alloc; "{dump}")
 }
 
 /// Replays the items that entries keep, in order, and tells how many of them are steps (modulo 2^64).

@@ -17,9 +17,9 @@ use std::fmt;
 
 /// A word that is written as its eight hexadecimal digits.
 #[derive(Clone, Copy)]
-struct Digits(u32);
+pub struct HexWord(pub u32);
 
-impl fmt::Display for Digits {
+impl fmt::Display for HexWord {
     ghost output = { λ digits. Some (spec.hex_word digits.0) };
 
     #[tactic(auto, using(crate::proofs::DisassemblyLines::two_digits))]
@@ -33,9 +33,9 @@ impl fmt::Display for Digits {
 
 /// A byte that is written as its two hexadecimal digits.
 #[derive(Clone, Copy)]
-struct ByteDigits(u8);
+pub struct HexByte(pub u8);
 
-impl fmt::Display for ByteDigits {
+impl fmt::Display for HexByte {
     ghost output = { λ digits. Some (hex_byte digits.0) };
 
     #[tactic(auto, using(crate::proofs::DisassemblyLines::two_digits))]
@@ -51,7 +51,7 @@ impl fmt::Display for ByteDigits {
 fn push_word(alloc: Global, out: &mut String, address: u32, word: u32) -> Result<(), AllocError>
     ensures { OnOk result (string_bytes out.new ≡ string_bytes out.old ++ spec.word_line address word) }
 {
-    let (place, digits) = (Digits(address), Digits(word));
+    let (place, digits) = (HexWord(address), HexWord(word));
     match decode(word) {
         Some(instr) => {
             let line = text(alloc, instr, address)?;
@@ -66,7 +66,7 @@ fn push_word(alloc: Global, out: &mut String, address: u32, word: u32) -> Result
 fn push_byte(out: &mut String, address: u32, byte: u8) -> Result<(), AllocError>
     ensures { OnOk result (string_bytes out.new ≡ string_bytes out.old ++ spec.byte_line address byte) }
 {
-    let (place, digits) = (Digits(address), ByteDigits(byte));
+    let (place, digits) = (HexWord(address), HexByte(byte));
     writeln!(out, "{place} {digits} .byte 0x{digits}")
 }
 

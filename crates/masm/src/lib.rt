@@ -17,6 +17,6 @@ mod reading;
 mod target;
 
 pub use assembly::{assemble, assemble_image};
-pub use disassembly::{disassembly_of, listing};
+pub use disassembly::{HexByte, HexWord, disassembly_of, listing};
 pub use error::AsmError;
 pub use masm_lines::AsmFault;
