@@ -5,5 +5,6 @@
 //! says, the texts that are printed, the tests of `vmhost` try.
 #![tactic(auto)]
 
+mod help;
 mod parsing;
 pub mod program;

@@ -1,4 +1,5 @@
 //! The command line.
+use crate::help::{DUMP, REFUSALS};
 use clap::error::ErrorKind;
 use clap::{Arg, ArgAction, ArgMatches, Command, Error, value_parser};
 use commands::{Asm, ConsoleInput, Dis, Exec, Format, MachineKind, Replay};
@@ -103,7 +104,7 @@ fn bare_command<'a>(alloc: Global) -> Result<Command<'a>, AllocError> {
         .about("Assembles, disassembles and runs MIPS32 machine code in a virtual machine")
         .no_binary_name(true)
         .subcommand_required(true)
-        .disable_help_subcommand(true);
+        .after_help(REFUSALS);
     Ok(command)
 }
 
@@ -129,9 +130,9 @@ fn dis_command<'a>(alloc: Global) -> Result<Command<'a>, AllocError> {
 }
 
 fn exec_command<'a>(alloc: Global) -> Result<Command<'a>, AllocError> {
-    let command = Command::new(alloc, EXEC).about(
-        "Runs an image and prints the state that the machine ends in",
-    );
+    let command = Command::new(alloc, EXEC)
+        .about("Runs an image and prints the state that the machine ends in")
+        .after_help(DUMP);
     let command = with_flags(alloc, command)?;
     let command = with_numbers(alloc, command)?;
     let command = with_texts(alloc, command)?;
@@ -141,6 +142,7 @@ fn exec_command<'a>(alloc: Global) -> Result<Command<'a>, AllocError> {
 fn replay_command<'a>(alloc: Global) -> Result<Command<'a>, AllocError> {
     Command::new(alloc, REPLAY)
         .about("Replays a log on the table machine and prints the state that it ends in")
+        .after_help(DUMP)
         .arg(raw_flag(alloc))?
         .arg(file(alloc, "image", "IMAGE").help("The file of the image that the log is of"))?
         .arg(file(alloc, "log", "LOG").help("The file of the log"))
@@ -148,12 +150,14 @@ fn replay_command<'a>(alloc: Global) -> Result<Command<'a>, AllocError> {
 
 fn with_flags<'a>(alloc: Global, command: Command<'a>) -> Result<Command<'a>, AllocError> {
     command.arg(raw_flag(alloc))?.arg(flag(alloc, "flat").help(
-        "Use the table machine, on one plain memory",
+        "Use the table machine, which keeps no log, in place of a guest",
     ))
 }
 
 fn raw_flag<'a>(alloc: Global) -> Arg<'a> {
-    flag(alloc, "raw").help("Place the file's bytes at 80000000 and enter them there")
+    flag(alloc, "raw").help(
+        "The image is no executable but plain bytes, which are placed and entered at 80000000",
+    )
 }
 
 fn with_texts<'a>(alloc: Global, command: Command<'a>) -> Result<Command<'a>, AllocError> {
@@ -161,7 +165,7 @@ fn with_texts<'a>(alloc: Global, command: Command<'a>) -> Result<Command<'a>, Al
         .long(INPUT)
         .value_name("HEX")
         .default_value("")
-        .help("Console input before the first step, at most 256 bytes in hexadecimal digits");
+        .help("Console input before the first step: at most 256 bytes, two hexadecimal digits each");
     let log = Arg::new(alloc, "log").long("log").value_name("FILE").help(
         "The file that the guest's log is written to after the run",
     );
@@ -170,8 +174,8 @@ fn with_texts<'a>(alloc: Global, command: Command<'a>) -> Result<Command<'a>, Al
 
 fn with_numbers<'a>(alloc: Global, command: Command<'a>) -> Result<Command<'a>, AllocError> {
     command
-        .arg(number(alloc, "pages", "16").help("How many pages of memory the machine has"))?
-        .arg(number(alloc, "steps", "1000").help("How many steps are made"))
+        .arg(number(alloc, "pages", "P", "16").help("Pages of memory, of 4,096 bytes each: 2 to 16384"))?
+        .arg(number(alloc, "steps", "N", "1000").help("Steps to make, an instruction or an exception each: 0 to 4294967295"))
 }
 
 fn file<'a>(alloc: Global, name: &'a str, value: &'a str) -> Arg<'a> {
@@ -182,10 +186,10 @@ fn flag<'a>(alloc: Global, name: &'a str) -> Arg<'a> {
     Arg::new(alloc, name).long(name).action(ArgAction::SetTrue)
 }
 
-fn number<'a>(alloc: Global, name: &'a str, default: &'a str) -> Arg<'a> {
+fn number<'a>(alloc: Global, name: &'a str, value: &'a str, default: &'a str) -> Arg<'a> {
     Arg::new(alloc, name)
         .long(name)
-        .value_name("N")
+        .value_name(value)
         .value_parser(value_parser!(u32))
         .default_value(default)
 }
