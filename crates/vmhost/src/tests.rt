@@ -1,10 +1,7 @@
-//! Tests of the program on files, with the exact bytes that it writes.
-mod elf_files;
-mod examples;
+//! Tests of the program's calls, with files and streams that fail among them. What the built program prints and answers is held
+//! in the cases of the folder `cases`.
 mod failures;
 mod logs;
-mod refusals;
-mod runs;
 mod sources;
 
 use command_line::program::program;
@@ -22,19 +19,6 @@ struct Said {
     err: String,
 }
 
-/// The lines of a dump behind the first four registers, where all that they show is 0.
-const ZEROS: &str = "\
-r04 00000000 00000000 00000000 00000000
-r08 00000000 00000000 00000000 00000000
-r12 00000000 00000000 00000000 00000000
-r16 00000000 00000000 00000000 00000000
-r20 00000000 00000000 00000000 00000000
-r24 00000000 00000000 00000000 00000000
-r28 00000000 00000000 00000000 00000000
-sr 00000000 cause 00000000 epc 00000000 badva 00000000
-out -
-";
-
 /// A step of a test on a file. In command lines and in what is written to `err`, `FILE` stands for its name; `FILE.s` is a
 /// second file, for a source.
 #[derive(Clone, Copy)]
@@ -43,8 +27,6 @@ enum Step {
     Source(&'static [u8]),
     /// The file gets these bytes.
     File(&'static [u8]),
-    /// The file gets so many zeros.
-    Zeros(usize),
     /// The file is removed.
     Remove,
     /// The command line is answered by this alone, with status 0.
@@ -69,7 +51,6 @@ fn make<R: Files + AllocGlobal + Abort>(rt: &R, file: &str, step: Step) -> Resul
     match step {
         Step::Source(bytes) => write_source(rt, file, bytes),
         Step::File(bytes) => write(rt, file, bytes),
-        Step::Zeros(length) => write(rt, file, vec![in rt.alloc(); 0u8; length]?.as_slice()),
         Step::Remove => remove(rt, file),
         Step::Prints(line, out) => prints(rt, file, line, out),
         Step::Refuses(line, err) => refuses(rt, file, line, err),

@@ -1,0 +1,10 @@
+.entry a
+.org 0x80000102
+.byte 1
+.byte 2
+.byte 3
+.byte 4
+.byte 5
+.org 0x80000010
+a: eret
+.word a

@@ -1,0 +1,2 @@
+.org 0x9ffffffc
+eret

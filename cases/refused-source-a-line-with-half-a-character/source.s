@@ -1,0 +1,3 @@
+eret
+Ã
+eret

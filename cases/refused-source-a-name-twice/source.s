@@ -1,0 +1,2 @@
+x: eret
+x: eret

@@ -1,0 +1,2 @@
+eret
+end: .entry end

@@ -1,0 +1,2 @@
+j nowhere
+ÿ

@@ -1,0 +1,4 @@
+addiu $1,$0,7
+.byte 0x80
+.byte 0x10
+.byte 0x1

@@ -1,0 +1,2 @@
+loop: beq $0,$0,loop
+addiu $1,$1,1

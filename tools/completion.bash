@@ -1,0 +1,23 @@
+# Completion of vmhost's commands and options in bash: source tools/completion.bash
+_vmhost() {
+    local word=${COMP_WORDS[COMP_CWORD]} before=${COMP_WORDS[COMP_CWORD - 1]} words
+    if [ "$COMP_CWORD" = 1 ]; then
+        words='asm dis exec replay help --help'
+    else
+        case $before in
+            --pages | --steps | --in) return ;;
+        esac
+        case ${COMP_WORDS[1]} in
+            exec) words='--raw --flat --pages --steps --in --log --help' ;;
+            replay) words='--raw --help' ;;
+            asm | dis) words='--help' ;;
+            help) words='asm dis exec replay' ;;
+        esac
+    fi
+    if [ "$COMP_CWORD" = 1 ] || [ "${COMP_WORDS[1]}" = help ] || [ "${word#-}" != "$word" ]; then
+        mapfile -t COMPREPLY < <(compgen -W "$words" -- "$word")
+    else
+        mapfile -t COMPREPLY < <(compgen -f -- "$word")
+    fi
+}
+complete -o filenames -F _vmhost vmhost
