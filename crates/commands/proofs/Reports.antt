@@ -1,12 +1,39 @@
--- Reports of runs of the image in a file.
-use Rattle.std.proofs.Common.{ℕ, List, Option, Some, None, IfSome}
+-- Reports of runs of the image in a file, and what replays print.
+use Rattle.std.proofs.Common.{ℕ, ◌≡◌, ◌%◌, ◌^◌, ◌∙◌, ap, subst, List, Option, Some, None, IfSome}
+use Rattle.sha2.specs.Sha256.{sha256}
 use Rattle.elf32.specs.declared.image.Image.{Image}
+use Rattle.items.specs.declared.entry.Entry.{Entry}
+use Rattle.items.specs.Entries.{items_of}
+use Rattle.mips_step.specs.Step.{Machine}
 use Rattle.flatvm.specs.Boot.{boot_machine}
+use Rattle.flatvm.specs.Items.{run, AllAccepted}
+use Rattle.logfile.specs.Files.{HasHeader, HasEntries}
 use Rattle.commands.specs.declared.exec.Report.{Report}
 use Rattle.commands.specs.declared.order.Exec.{Exec}
+use Rattle.commands.specs.declared.order.Replay.{Replay}
+use Rattle.commands.specs.Dumps.{dump_text}
+use Rattle.commands.specs.Replays.{IsReplay, step_count}
 use Rattle.commands.specs.Runs.{IsImageOf, IsReport, IsReportOf}
 
 -- a report of a run of the image that was loaded, whether or not the file's bytes are known
 pub report_of_file : (file : Option (List ℕ)) (order : Exec) (input : List ℕ) (image : Image) (report : Report) → IfSome file (λ all. IsImageOf order.format order.pages all image) → IsReport (boot_machine image order.pages) input order.steps report → IfSome file (λ all. IsReportOf all order input report)
 report_of_file None order input image report stands ran = tt
 report_of_file (Some all) order input image report stands ran = record { image = image; stands = stands; ran = ran }
+
+-- what a replay prints, by its steps: the header, the image, the entries, the boot, their run, and the dump
+pub replay_of_files : (all log : List ℕ) (order : Replay) (pages : ℕ) (image : Image) (entries : List Entry) (flat after : Machine) (steps : ℕ) (text : List ℕ)
+    → HasHeader log (sha256 all) pages → IsImageOf order.format pages all image → HasEntries log entries → flat ≡ boot_machine image pages
+    → after ≡ run (items_of entries) flat → AllAccepted (items_of entries) flat → steps ≡ step_count (items_of entries) % 2 ^ 64
+    → text ≡ dump_text after steps None → IsReplay all log order text
+replay_of_files all log order pages image entries flat after steps text header stands has booted ran accepted counted printed = record {
+  pages = pages;
+  image = image;
+  entries = entries;
+  header = header;
+  stands = stands;
+  has = has;
+  accepted = subst (AllAccepted (items_of entries)) booted accepted;
+  dump =
+      printed ∙ ap (λ (m : Machine). dump_text m steps None) (ran ∙ ap (run (items_of entries)) booted)
+      ∙ ap (λ (n : ℕ). dump_text (run (items_of entries) (boot_machine image pages)) n None) counted;
+}

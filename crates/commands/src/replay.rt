@@ -1,15 +1,21 @@
 //! The command `replay`.
-ghost use Rattle.std.specs.Prelude.{◌≡◌, ◌≤◌, length, IfErr, OnOk, IsErrOf};
+ghost use Rattle.std.specs.Prelude.{◌≡◌, ◌≤◌, ◌%◌, ◌^◌, length, IfErr, IfOk, OnOk, IsErrOf, string_bytes};
+ghost use Rattle.sha2.specs.Sha256.{sha256};
+ghost use Rattle.elf32.specs.Images.{FitsPages};
 ghost use Rattle.items.specs.Items.{is_step};
 ghost use Rattle.items.specs.Entries.{steps_of, items_in, items_of};
 ghost use Rattle.flatvm.specs.Items.{run, AllAccepted};
+ghost use Rattle.logfile.specs.Files.{HasHeader};
 ghost use Rattle.commands.specs.Faults.{IsReplayFault};
 ghost use Rattle.commands.specs.Raw.{IsPageCount};
+ghost use Rattle.commands.specs.Replays.{IsReplay, step_count};
+ghost use Rattle.commands.specs.Runs.{IsImageOf};
 
 use crate::dump::dump;
 use crate::fault::{Fault, LogRefusal, log_file_fault, of_file};
 use crate::image_file::{image_in, raw_image_in, whole_file};
 use crate::order::{Format, Replay};
+use elf32::Image;
 use flatvm::{Flat, Rejection};
 use items::{Entry, SeatNo, What};
 use logfile::{check_header, image_digest, read_entries};
@@ -45,13 +51,16 @@ pub fn replay_log<'a, R: Files + AllocGlobal>(
     replay_bytes(rt.alloc(), image, &log, order)
 }
 
-fn replay_bytes<'a>(
+/// What `replay` prints for the image and the log in files of these bytes, with the errors of `replay_log` but for files that
+/// can't be read.
+pub fn replay_bytes<'a>(
     alloc: Global,
     image: Vec<u8>,
     log: &[u8],
     order: Replay<'a>,
 ) -> Result<String, Fault<'a>>
-    ensures { IfErr result (λ fault. IsReplayFault order.entry fault) }
+    ensures replay { IfOk result (λ text. IsReplay image.items log.now order.entry (string_bytes text)) }
+    ensures faults { IfErr result (λ fault. IsReplayFault order.entry fault) }
 {
     let digest = image_digest(&image);
     match check_header(log, &digest) {
@@ -69,13 +78,12 @@ fn replay_on<'a>(
     pages: u32,
 ) -> Result<String, Fault<'a>>
     requires pages { IsPageCount pages }
-    requires header { 40 ≤ length log.now }
-    ensures { IfErr result (λ fault. IsReplayFault order.entry fault) }
+    requires long { 40 ≤ length log.now }
+    requires header { HasHeader log.now (sha256 image.items) pages }
+    ensures replay { IfOk result (λ text. IsReplay image.items log.now order.entry (string_bytes text)) }
+    ensures faults { IfErr result (λ fault. IsReplayFault order.entry fault) }
 {
-    let image = match order.format {
-        Format::Raw => raw_image_in(alloc, image, pages)?,
-        Format::Elf => image_in(alloc, &image, pages)?,
-    };
+    let image = image_of(alloc, image, order, pages)?;
     let entries = read_entries(alloc, log)?;
     let mut flat = Flat::boot(alloc, &image, pages)?;
     match replay_entries(&mut flat, &entries) {
@@ -87,6 +95,24 @@ fn replay_on<'a>(
     }
 }
 
+/// The image that a file of these bytes holds, by its format, for so many pages.
+fn image_of<'a>(
+    alloc: Global,
+    bytes: Vec<u8>,
+    order: Replay<'a>,
+    pages: u32,
+) -> Result<Image, Fault<'a>>
+    requires { IsPageCount pages }
+    ensures stands { IfOk result (IsImageOf order.entry.format pages bytes.items) }
+    ensures fits { IfOk result (λ image. FitsPages image pages) }
+    ensures faults { IfErr result (λ fault. IsReplayFault order.entry fault) }
+{
+    match order.format {
+        Format::Raw => raw_image_in(alloc, bytes, pages),
+        Format::Elf => image_in(alloc, &bytes, pages),
+    }
+}
+
 /// Replays the items that entries keep, in order, and tells how many of them are steps (modulo 2^64).
 ///
 /// It answers `Item` where the machine does not accept an item where it stands, and `Memory` only where a request for memory
@@ -95,6 +121,7 @@ pub fn replay_entries(flat: &mut Flat, entries: &[Entry]) -> Result<u64, Halt>
     ensures run { OnOk result (flat.new ≡ run (items_of entries.now) flat.old) }
     ensures accepted { OnOk result (AllAccepted (items_of entries.now) flat.old) }
     ensures refused { IsErrOf result Halt.Item → ¬ AllAccepted (items_of entries.now) flat.old }
+    ensures count { IfOk result (λ steps. steps ≡ step_count (items_of entries.now) % 2 ^ 64) }
 {
     let mut steps: u64 = 0;
     for entry in entries {
@@ -107,10 +134,12 @@ pub fn replay_entries(flat: &mut Flat, entries: &[Entry]) -> Result<u64, Halt>
 }
 
 /// Replays the items that an entry keeps, and tells how many of them are steps.
+#[tactic(auto, using(crate::proofs::Replaying::steps_counted))]
 fn replay_entry(flat: &mut Flat, entry: &Entry) -> Result<u64, Halt>
     ensures run { OnOk result (flat.new ≡ run (items_in entry.now) flat.old) }
     ensures accepted { OnOk result (AllAccepted (items_in entry.now) flat.old) }
     ensures refused { IsErrOf result Halt.Item → ¬ AllAccepted (items_in entry.now) flat.old }
+    ensures count { IfOk result (λ steps. steps ≡ step_count (items_in entry.now) % 2 ^ 64) }
 {
     match entry {
         Entry::Steps { seat, count } => {
