@@ -5,7 +5,7 @@ ghost use Rattle.word32.specs.Zeros.{zeros};
 ghost use Rattle.frames.specs.Frames.{FrameIs, SharedIs};
 ghost use Rattle.frames.specs.contracts.frame.Frame.{the_row};
 
-use crate::{FrameNo, SharedFrame};
+use crate::{FrameNo, SharePage, ShareTicket, SharedFrame};
 use std::alloc::{AllocError, Global};
 use std::marker::Model;
 
@@ -84,16 +84,19 @@ impl Frame {
         no
     }
 
-    /// Makes the frame one that several pages read; no ticket of it is out. Where memory is refused, the frame comes back.
-    pub fn share(self, alloc: Global) -> Result<SharedFrame, Frame>
-        ensures shared { IfOk result (λ shared. shared ≡ record { number = self.number; bytes = self.bytes; tickets = 0 }) }
+    /// Makes the frame one that several pages read, with the page and the ticket of its first reader. Where memory is refused,
+    /// the frame comes back.
+    pub fn share(self, alloc: Global) -> Result<(SharedFrame, SharePage, ShareTicket), Frame>
+        ensures shared { IfOk result (λ made. made.0 ≡ record { number = self.number; bytes = self.bytes; tickets = 1 }) }
+        ensures page { IfOk result (λ made. made.1 ≡ self) }
+        ensures ticket { IfOk result (λ made. made.2 ≡ self.number) }
         ensures back { IfErr result (λ back. back ≡ self) }
     {
         let Frame { no, bytes } = self;
         match SharedFrame::new(alloc, no, &bytes) {
-            Ok(shared) => {
+            Ok(made) => {
                 drop(bytes);
-                Ok(shared)
+                Ok(made)
             }
             Err(no) => Err(Frame { no, bytes }),
         }

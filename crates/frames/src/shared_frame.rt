@@ -24,22 +24,43 @@ impl Model for SharedFrame {
     ghost invariant = { λ f. f.page.number ≡ f.no };
 }
 
+// A page with these bytes, of the frame of a number, for the frame and for its first reader.
+fn two_pages(
+    alloc: Global,
+    number: u32,
+    bytes: &[u8; 4096],
+) -> Result<(SharePage, SharePage), AllocError>
+    ensures one { IfOk result (λ pages. pages.0 ≡ record { number = number; bytes = bytes.now }) }
+    ensures other { IfOk result (λ pages. pages.1 ≡ record { number = number; bytes = bytes.now }) }
+{
+    let page = SharePage::new(alloc, number, bytes)?;
+    let first = page.clone()?;
+    Ok((page, first))
+}
+
 impl SharedFrame {
-    // A shared frame with the bytes of a page; no ticket is out. Where memory is refused, the number comes back.
+    // A shared frame with the bytes of a page, and the page and the ticket of its first reader. Where memory is refused, the
+    // number comes back.
     pub(crate) fn new(
         alloc: Global,
         no: FrameNo,
         bytes: &[u8; 4096],
-    ) -> Result<SharedFrame, FrameNo>
-        ensures shared { IfOk result (λ shared. shared ≡ record { number = no; bytes = bytes.now; tickets = 0 }) }
+    ) -> Result<(SharedFrame, SharePage, ShareTicket), FrameNo>
+        ensures shared { IfOk result (λ made. made.0 ≡ record { number = no; bytes = bytes.now; tickets = 1 }) }
+        ensures page { IfOk result (λ made. made.1 ≡ record { number = no; bytes = bytes.now }) }
+        ensures ticket { IfOk result (λ made. made.2 ≡ no) }
         ensures back { IfErr result (λ back. back ≡ no) }
     {
-        match SharePage::new(alloc, no.number(), bytes) {
-            Ok(page) => Ok(SharedFrame {
-                no,
-                page,
-                tickets: 0,
-            }),
+        match two_pages(alloc, no.number(), bytes) {
+            Ok((page, first)) => {
+                let ticket = ShareTicket::of(no.number());
+                let shared = SharedFrame {
+                    no,
+                    page,
+                    tickets: 1,
+                };
+                Ok((shared, first, ticket))
+            }
             Err(_) => Err(no),
         }
     }

@@ -33,11 +33,16 @@ fn zeroed(rt: &impl Abort, alloc: Global, no: FrameNo) -> Frame {
     }
 }
 
-fn shared(rt: &impl Abort, alloc: Global, frame: Frame) -> SharedFrame
-    ensures { result.tickets ≡ 0 }
+fn shared(
+    rt: &impl Abort,
+    alloc: Global,
+    frame: Frame,
+) -> (SharedFrame, SharePage, ShareTicket)
+    ensures tickets { result.0.tickets ≡ 1 }
+    ensures ticket { result.2 ≡ result.0.number }
 {
     match frame.share(alloc) {
-        Ok(shared) => shared,
+        Ok(made) => made,
         Err(frame) => panic!(rt; "no memory to share frame {}", frame.close()),
     }
 }
@@ -97,10 +102,9 @@ fn a_shared_frame_counts_its_tickets(rt: HostRuntime) {
     ended(&rt, numbers);
     let mut frame = zeroed(&rt, rt.alloc(), no);
     frame.bytes_mut()[5] = 1;
-    let mut shared = shared(&rt, rt.alloc(), frame);
-    expect(&rt, "no ticket", shared.tickets(), 0);
+    let (mut shared, page, ticket) = shared(&rt, rt.alloc(), frame);
+    expect(&rt, "one ticket", shared.tickets(), 1);
     expect(&rt, "its bytes", shared.bytes()[5], 1);
-    let (page, ticket) = joined(&rt, &mut shared);
     let (other, second) = joined(&rt, &mut shared);
     expect(&rt, "two tickets", shared.tickets(), 2);
     expect(&rt, "the byte of a reader", page.bytes()[5], 1);
