@@ -165,7 +165,9 @@ fn with_texts<'a>(alloc: Global, command: Command<'a>) -> Result<Command<'a>, Al
         .long(INPUT)
         .value_name("HEX")
         .default_value("")
-        .help("Console input before the first step: at most 256 bytes, two hexadecimal digits each");
+        .help(
+            "Console input before the first step: at most 256 bytes, two hexadecimal digits each",
+        );
     let log = Arg::new(alloc, "log").long("log").value_name("FILE").help(
         "The file that the guest's log is written to after the run",
     );
@@ -174,8 +176,12 @@ fn with_texts<'a>(alloc: Global, command: Command<'a>) -> Result<Command<'a>, Al
 
 fn with_numbers<'a>(alloc: Global, command: Command<'a>) -> Result<Command<'a>, AllocError> {
     command
-        .arg(number(alloc, "pages", "P", "16").help("Pages of memory, of 4,096 bytes each: 2 to 16384"))?
-        .arg(number(alloc, "steps", "N", "1000").help("Steps to make, an instruction or an exception each: 0 to 4294967295"))
+        .arg(number(alloc, "pages", "P", "16").help(
+            "Pages of memory, of 4,096 bytes each: 2 to 16384",
+        ))?
+        .arg(number(alloc, "steps", "N", "1000").help(
+            "Steps to make, an instruction or an exception each: 0 to 4294967295",
+        ))
 }
 
 fn file<'a>(alloc: Global, name: &'a str, value: &'a str) -> Arg<'a> {

@@ -80,7 +80,11 @@ fn push_registers(out: &mut String, label: &str, cpu: &Cpu, first: u32) -> Resul
 {
     out.push_str(label)?;
     push_pair(out, cpu.reg(Reg::new(first)), cpu.reg(Reg::new(first + 1)))?;
-    push_pair(out, cpu.reg(Reg::new(first + 2)), cpu.reg(Reg::new(first + 3)))?;
+    push_pair(
+        out,
+        cpu.reg(Reg::new(first + 2)),
+        cpu.reg(Reg::new(first + 3)),
+    )?;
     out.push_str("\n")
 }
 

@@ -186,11 +186,7 @@ fn write_order<'a, R: Files + AllocGlobal>(
 }
 
 /// The image that a file holds, which the pages hold too.
-fn load<'a, F: Read + Drop>(
-    alloc: Global,
-    file: F,
-    order: Exec<'a>,
-) -> Result<Loaded, Fault<'a>>
+fn load<'a, F: Read + Drop>(alloc: Global, file: F, order: Exec<'a>) -> Result<Loaded, Fault<'a>>
     ensures stands { IfSome (F.remaining file) (λ all. IfOk result (λ loaded. IsImageOf order.entry.format order.entry.pages all loaded.image)) }
     ensures digest { IfSome (F.remaining file) (λ all. IfOk result (λ loaded. loaded.digest ≡ sha256 all)) }
     ensures fits { IfOk result (λ loaded. FitsPages loaded.image order.entry.pages) }

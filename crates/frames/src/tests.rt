@@ -33,11 +33,7 @@ fn zeroed(rt: &impl Abort, alloc: Global, no: FrameNo) -> Frame {
     }
 }
 
-fn shared(
-    rt: &impl Abort,
-    alloc: Global,
-    frame: Frame,
-) -> (SharedFrame, SharePage, ShareTicket)
+fn shared(rt: &impl Abort, alloc: Global, frame: Frame) -> (SharedFrame, SharePage, ShareTicket)
     ensures tickets { result.0.tickets ≡ 1 }
     ensures ticket { result.2 ≡ result.0.number }
 {

@@ -1,0 +1,9 @@
+pub mod Accesses
+pub mod Bytes
+pub mod Holdings
+pub mod Memory
+pub mod OtherPages
+pub mod Outlines
+pub mod Parts
+pub mod Replacing
+pub mod Same

@@ -1,0 +1,3 @@
+pub mod Holdings
+pub mod Outline
+pub mod Pages

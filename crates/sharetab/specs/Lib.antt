@@ -1,0 +1,5 @@
+pub mod Maps
+pub mod Hints
+pub mod Entries
+pub mod Books
+pub mod Shares
