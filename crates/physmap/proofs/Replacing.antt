@@ -1,5 +1,5 @@
 -- A page is replaced by another one.
-use Rattle.std.proofs.Common.{ℕ, ◌≡◌, ◌*◌, ◌<◌, ◌⊎◌, inl, inr, List, ◌++◌, length, set, take, drop, replicate, refl, sym, ap, subst, ◌∙◌}
+use Rattle.std.proofs.Common.{ℕ, zero, suc, ◌≡◌, ◌*◌, ◌<◌, ◌⊎◌, inl, inr, List, [], ◌∷◌, ◌++◌, arith, length, set, take, drop, replicate, refl, sym, ap, subst, ◌∙◌}
 use Rattle.std.specs.List.{All}
 use Rattle.std.proofs.lemmas.Bool.{cases_lt}
 use Rattle.std.proofs.lemmas.List.{get_or_past, get_or-set_same, get_or-set_other, map-set}
@@ -79,3 +79,16 @@ kinds_set pages p page = map-set kind_of pages p page
 
 pub outline_set : (pages : List Page) (p : ℕ) (page : Page) → outline (set pages p page) ≡ set (outline pages) p (outlined page)
 outline_set pages p page = map-set outlined pages p page
+
+-- ---- a page that is replaced twice
+
+pub set_twice : (pages : List Page) (p : ℕ) (page other : Page) → set (set pages p page) p other ≡ set pages p other
+set_twice [] p page other = refl
+set_twice (x ∷ xs) zero page other = refl
+set_twice (x ∷ xs) (suc p) page other = ap (λ (more : List Page). x ∷ more) (set_twice xs p page other)
+
+-- the page itself is put back
+pub set_back : (pages : List Page) (p : ℕ) (page : Page) → p < length pages → page_at pages p ≡ page → set pages p page ≡ pages
+set_back [] p page h e = absurd (omega (arith, h))
+set_back (x ∷ xs) zero page h e = ap (λ (y : Page). y ∷ xs) (sym e)
+set_back (x ∷ xs) (suc p) page h e = ap (λ (more : List Page). x ∷ more) (set_back xs p page (omega (arith, h)) e)

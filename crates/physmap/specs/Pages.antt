@@ -2,6 +2,7 @@
 use Rattle.std.specs.Prelude.{◌≡◌, ℕ, ◌*◌, Bool, true, false, List, [], length, map, take, drop, slice_index_or}
 use Rattle.std.specs.List.{flat_map, All}
 use Rattle.word32.specs.Zeros.{zeros}
+use Rattle.frames.specs.Frames.{FrameIs}
 use Rattle.physmap.specs.declared.page.Page.{Page}
 use Rattle.physmap.specs.declared.page.Page.TheVariants as page
 use Rattle.physmap.specs.declared.page.PageKind.{PageKind}
@@ -54,6 +55,15 @@ AreWhole pages = All (λ page. length (shown page) ≡ 4096) pages
 abbrev pub HasOwnTicket : Page → Type 0
 HasOwnTicket (page.Shared share ticket) = ticket ≡ share.number
 HasOwnTicket _ = Unit {0}
+
+-- the frame that a page has for its own
+abbrev pub own_frame : Page → FrameIs
+own_frame (page.Private frame) = frame
+own_frame _ = record { number = 0; bytes = [] }
+
+-- a page that reads a shared frame by a ticket
+abbrev pub page_of_entry : FrameIs → Page
+page_of_entry frame = page.Shared frame frame.number
 
 -- the number of a shared page's ticket
 abbrev pub ticket_of : Page → ℕ

@@ -5,9 +5,9 @@
 //! and slots a map holds; `specs/Outline.antt` what no access changes. Laws of them are in `laws`.
 //!
 //! The crates above use the remaps, each one equation `slice_set` of the list of pages with what comes back (`supply_zero`,
-//! `supply_copy`, `supply_swapped`, `swap_out`, `share`, `give`), and the accesses (`read_word`, `write_word` and the like),
+//! `supply_copy`, `supply_swapped`, `swap_out`, `share`, `admit`, `give`), and the accesses (`read_word`, `write_word` and the like),
 //! whose clauses are those of one plain memory. A read needs no condition on the page's kind: what it gives are the bytes
-//! that `memory_of` shows, zeros where the page has none. No call but `new` takes memory.
+//! that `memory_of` shows, zeros where the page has none. No call but `new` and `admit` takes memory.
 #![tactic(auto)]
 
 pub mod access;

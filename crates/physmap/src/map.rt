@@ -1,7 +1,7 @@
 //! The pages of a guest by their numbers.
 ghost use Rattle.std.specs.Prelude.{◌≡◌, ℕ, ◌+◌, ◌*◌, ◌<◌, ◌≤◌, ◌↔◌, IsTrue, IfOk, IfSome, IsSome, length, replicate, slice_set};
 ghost use Rattle.word32.specs.Words.{patched};
-ghost use Rattle.physmap.specs.Pages.{page_at, kind_at, is_resident, shown, memory_of, HasOwnTicket, slot_of, digest_of, ticket_of};
+ghost use Rattle.physmap.specs.Pages.{page_at, kind_at, is_resident, shown, memory_of, HasOwnTicket, own_frame, slot_of, digest_of, ticket_of};
 ghost use Rattle.physmap.specs.Holdings.{private_pages, shared_pages, swapped_pages, resident_pages};
 
 use crate::counts::Counts;
@@ -87,6 +87,18 @@ impl PhysMap {
     {
         match &self.pages[p.number() as usize] {
             Page::Swapped(slot, digest) => (slot.number(), *digest),
+            _other => unreachable!(),
+        }
+    }
+
+    /// The number of the frame that a page has for its own.
+    pub fn own_frame(&self, p: Ppn) -> u32
+        requires there { p < length self.now }
+        requires private { kind_at self.now p ≡ PageKind.Private }
+        ensures { result ≡ (own_frame (page_at self.now p)).number }
+    {
+        match &self.pages[p.number() as usize] {
+            Page::Private(frame) => frame.number(),
             _other => unreachable!(),
         }
     }

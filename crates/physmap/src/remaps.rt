@@ -1,14 +1,18 @@
 //! How a page leaves its place for another one: each call replaces one page and leaves all others.
-ghost use Rattle.std.specs.Prelude.{◌≡◌, ◌*◌, ◌<◌, ◌⊎◌, IsTrue, length, slice_set};
+ghost use Rattle.std.specs.Prelude.{◌≡◌, ◌*◌, ◌<◌, ◌⊎◌, IsTrue, None, OnErr, OnOk, length, slice_set};
 ghost use Rattle.word32.specs.Words.{patched};
 ghost use Rattle.word32.specs.Zeros.{zeros};
 ghost use Rattle.frames.specs.Frames.{FrameIs};
 ghost use Rattle.sha2.specs.Sha256.{sha256};
+ghost use Rattle.sharetab.specs.Books.{Admits};
+ghost use Rattle.sharetab.specs.Entries.{entry_at, HasDigest};
 ghost use Rattle.physmap.specs.declared.page.PageKind.{PageKind};
-ghost use Rattle.physmap.specs.Pages.{page_at, kind_at, is_resident, shown, memory_of, slot_of, digest_of, ticket_of, handed_back};
+ghost use Rattle.physmap.specs.Pages.{page_at, kind_at, is_resident, shown, memory_of, slot_of, digest_of, ticket_of, handed_back, own_frame, page_of_entry, HasOwnTicket};
 
 use crate::{Page, PhysMap, Returned};
 use frames::{Frame, SharePage, ShareTicket, SlotTicket};
+use sharetab::Shares;
+use std::alloc::AllocError;
 use word32::Ppn;
 
 impl PhysMap {
@@ -90,6 +94,61 @@ impl PhysMap {
         match self.replace(p, Page::Shared(share, ticket)) {
             Page::Private(frame) => frame,
             _other => unreachable!(),
+        }
+    }
+
+    // A page leaves its own frame, which comes back, and is as if it was never touched.
+    fn take_frame(&mut self, p: Ppn) -> Frame
+        requires there { p < length self.old }
+        requires kind { kind_at self.old p ≡ PageKind.Private }
+        ensures pages { self.new ≡ slice_set self.old p Page.Zero }
+        ensures frame { page_at self.old p ≡ Page.Private result }
+    {
+        match self.replace(p, Page::Zero) {
+            Page::Private(own) => own,
+            _other => unreachable!(),
+        }
+    }
+
+    // A page that was never touched becomes another.
+    fn put_page(&mut self, p: Ppn, page: Page)
+        requires there { p < length self.old }
+        requires kind { kind_at self.old p ≡ PageKind.Zero }
+        requires ticket { HasOwnTicket page }
+        ensures pages { self.new ≡ slice_set self.old p page }
+    {
+        match self.replace(p, page) {
+            Page::Zero => {}
+            _other => unreachable!(),
+        }
+    }
+
+    /// A page's own frame becomes a shared one, and the page reads it with the one ticket that is out. `AllocError` where
+    /// memory is refused, or no more tickets can be counted: pages and shares are as before then.
+    #[tactic(auto, using(crate::proofs::Replacing::memory_same, crate::proofs::Replacing::new_page, crate::proofs::Replacing::set_twice, crate::proofs::Replacing::set_back))]
+    pub fn admit(&mut self, p: Ppn, shares: &mut Shares) -> Result<(), AllocError>
+        requires there { p < length self.old }
+        requires kind { kind_at self.old p ≡ PageKind.Private }
+        requires place { (own_frame (page_at self.old p)).number < length shares.old.entries }
+        requires vacant { entry_at shares.old.entries (own_frame (page_at self.old p)).number ≡ None }
+        requires first { HasDigest shares.old.entries (sha256 (shown (page_at self.old p))) → ⊥ }
+        ensures pages { OnOk result (self.new ≡ slice_set self.old p (page_of_entry (own_frame (page_at self.old p)))) }
+        ensures memory { memory_of self.new ≡ memory_of self.old }
+        ensures entries { OnOk result (Admits shares.old.entries (own_frame (page_at self.old p)) shares.new.entries) }
+        ensures hints { shares.new.hints ≡ shares.old.hints }
+        ensures unchanged { OnErr result (self.new ≡ self.old) }
+        ensures shares_unchanged { OnErr result (shares.new ≡ shares.old) }
+    {
+        let frame = self.take_frame(p);
+        match shares.admit(frame) {
+            Ok((share, ticket)) => {
+                self.put_page(p, Page::Shared(share, ticket));
+                Ok(())
+            }
+            Err(frame) => {
+                self.put_page(p, Page::Private(frame));
+                Err(AllocError)
+            }
         }
     }
 

@@ -5,7 +5,8 @@ ghost use Rattle.word32.specs.Zeros.{zeros};
 use crate::{PageKind, PhysMap, Returned};
 use frames::{Frame, FrameNo, Numbers, ShareTicket, SharedFrame, SlotTicket};
 use sha2::{Digest, Sha256};
-use std::alloc::Global;
+use sharetab::{GuestNo, GuestPage, Offer, Shares};
+use std::alloc::{AllocError, Global};
 use std::fmt::Debug;
 use std::process::Abort;
 use std::test::Fail;
@@ -140,6 +141,36 @@ fn share(rt: &impl Abort, map: &mut PhysMap, number: u32, shared: &mut SharedFra
     }
 }
 
+/// The frame of a page becomes a shared one, once the table has no entry of its digest.
+fn admit(
+    rt: &impl Abort,
+    map: &mut PhysMap,
+    number: u32,
+    shares: &mut Shares,
+) -> Result<(), AllocError> {
+    let p = page(rt, map, number);
+    match map.kind(p) {
+        PageKind::Private => {
+            let digest = match map.peek(p) {
+                Some(bytes) => Sha256::digest(bytes),
+                None => panic!(rt; "page {number} is in no frame"),
+            };
+            let noted = GuestPage {
+                guest: GuestNo::new(0),
+                page: p,
+            };
+            if shares.offer(&digest, noted)? == Offer::Taken {
+                panic!(rt; "page {number} has the bytes of an entry");
+            }
+            if !shares.is_vacant(map.own_frame(p)) {
+                panic!(rt; "the frame of page {number} is shared");
+            }
+            map.admit(p, shares)
+        }
+        other => panic!(rt; "page {number} is {other:?}"),
+    }
+}
+
 fn returned_frame(rt: &impl Abort, returned: Returned) -> Frame {
     match returned {
         Returned::Frame(frame) => frame,
@@ -212,6 +243,14 @@ fn away(rt: &impl Abort, map: &PhysMap, number: u32) -> (u32, [u8; 32]) {
     let p = page(rt, map, number);
     match map.kind(p) {
         PageKind::Swapped => map.away(p),
+        other => panic!(rt; "page {number} is {other:?}"),
+    }
+}
+
+fn own_number(rt: &impl Abort, map: &PhysMap, number: u32) -> u32 {
+    let p = page(rt, map, number);
+    match map.kind(p) {
+        PageKind::Private => map.own_frame(p),
         other => panic!(rt; "page {number} is {other:?}"),
     }
 }
@@ -463,5 +502,32 @@ fn accesses_at_the_ends_of_the_first_and_the_last_page(rt: HostRuntime) -> Resul
     expect(&rt, "after", get_word(&rt, &map, 3 * 4096 - 4), 0);
     map.close();
     ended(&rt, numbers);
+    Ok(())
+}
+
+#[test]
+fn a_page_of_its_own_is_admitted(rt: HostRuntime) -> Result<(), Fail> {
+    let mut shares = Shares::new(rt.alloc(), 1)?;
+    let mut map = match PhysMap::new(rt.alloc(), 4) {
+        Ok(map) => map,
+        Err(refused) => {
+            shares.close();
+            return Err(refused.into());
+        }
+    };
+    let mut numbers = Numbers::below(1);
+    supply_zero(&rt, &mut map, 1, zeroed(&rt, rt.alloc(), &mut numbers));
+    ended(&rt, numbers);
+    put_byte(&rt, &mut map, 4096, 7);
+    expect(&rt, "its frame", own_number(&rt, &map, 1), 0);
+    let admitted = admit(&rt, &mut map, 1, &mut shares);
+    expect(&rt, "admitted", admitted.is_ok(), true);
+    expect(&rt, "shared", kinds(&rt, &map)[1], PageKind::Shared);
+    expect(&rt, "whose frame", shared_number(&rt, &map, 1), 0);
+    expect(&rt, "its byte", get_byte(&rt, &map, 4096), 7);
+    expect(&rt, "how many", counts(&map), [0, 1, 0, 1]);
+    expect(&rt, "entries", (shares.shared(), shares.tickets()), (1, 1));
+    map.close();
+    shares.close();
     Ok(())
 }
