@@ -162,6 +162,7 @@ impl Console {
         ensures input_bytes { All (λ byte. byte < 2 ^ 8) self.now.input }
         ensures output_bytes { All (λ byte. byte < 2 ^ 8) self.now.output }
     {
+        // A ring that is asked for its length says that it is within its room.
         let _waiting = (self.input.len(), self.output.len());
         holds_bytes(&self.input);
         holds_bytes(&self.output);
@@ -180,5 +181,6 @@ fn holds_bytes(buffer: &HeapCircularBuffer<u8>)
 fn are_bytes(bytes: &[u8])
     ensures { All (λ byte. byte < 2 ^ 8) bytes.now }
 {
+    // Who reads a slice of bytes knows that each is one.
     let _length = bytes.len();
 }

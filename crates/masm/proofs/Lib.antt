@@ -4,7 +4,9 @@ pub mod DecodedFields
 pub mod DisassemblyLines
 pub mod Keys
 pub mod Loadable
+pub mod MeansWhole
 pub mod Mirrors
+pub mod OneImage
 pub mod OutputImage
 pub mod OutputItems
 pub mod OutputMeans

@@ -9,7 +9,7 @@ use Rattle.masm_lines.specs.Statements.{Statement, Instruction, Transfer, Word, 
 use Rattle.masm.specs.Names.{Names, known_address, value_address}
 use Rattle.masm.specs.Places.{Layout, segment_at, spans, after_statement}
 use Rattle.masm_lines.specs.Statements.{size_of}
-use Rattle.masm.specs.Meanings.{Item, Code, Bytes, item_size, item_of, aimed}
+use Rattle.masm.specs.Meanings.{Content, Code, Bytes, item_size, item_of, aimed}
 use Rattle.masm.specs.Listings.{Part, Output, part_size, part_at, parts_of, next_place, with_item, with_statement}
 use Rattle.masm.specs.Assembly.{Puts, ArePlaced}
 use Rattle.masm_lines.specs.Steps.{◌>>=◌}
@@ -32,7 +32,7 @@ pub mirror_parts : (o : Output) → map span_of (parts_of o) ≡ spans (mirror o
 mirror_parts o = map_cond (part_size o.current == 0) o.earlier o.current
 
 -- an item has as many bytes as the statement's place
-item_sized : (names : Names) (address : ℕ) (s : Statement) (item : Item) → item_of names address s ≡ Ok item → item_size item ≡ size_of s
+item_sized : (names : Names) (address : ℕ) (s : Statement) (item : Content) → item_of names address s ≡ Ok item → item_size item ≡ size_of s
 unfolding item_of zeros
 item_sized names address (Instruction i) item h = let e : Code i ≡ item = cc in ap item_size (sym e)
 item_sized names address (Transfer i value) item h =

@@ -3,7 +3,7 @@ use Rattle.std.proofs.Common.{◌≡◌, ℕ, ◌<◌, List, [], ◌∷◌, ◌+
 use Rattle.std.proofs.lemmas.List.{length-append}
 use Rattle.std.proofs.lemmas.List.Sums.{sum_by-cons}
 use Rattle.elf32.specs.declared.image.Segment.{Segment}
-use Rattle.masm.specs.Meanings.{Item, Code, Bytes, item_size, item_of}
+use Rattle.masm.specs.Meanings.{Content, Code, Bytes, item_size, item_of}
 use Rattle.masm.specs.Images.{StandFor, AreBytesOf, IsSegmentOf, AreSegmentsOf}
 use Rattle.masm.specs.Listings.{Part, Output, with_statement, with_item, next_place, part_size, parts_of}
 use Rattle.masm.specs.declared.output.Output.{Output as OutputCode}
@@ -14,21 +14,21 @@ use Rattle.masm_lines.specs.Steps.{◌>>=◌}
 use Rattle.masm_lines.specs.Statements.{Statement, Instruction, Transfer, Word, AddressOf, Byte, Space, Org, Entry}
 
 -- the bytes of an item are as many as its size
-stand_size : (bs : List ℕ) (i : Item) → StandFor bs i → length bs ≡ item_size i
+stand_size : (bs : List ℕ) (i : Content) → StandFor bs i → length bs ≡ item_size i
 stand_size bs (Code i) h = ap length h.1
 stand_size bs (Bytes cs) h = ap length h
 
-pub bytes_size : (bs : List ℕ) (items : List Item) → AreBytesOf bs items → length bs ≡ sum_by item_size items
+pub bytes_size : (bs : List ℕ) (items : List Content) → AreBytesOf bs items → length bs ≡ sum_by item_size items
 bytes_size bs [] h = ap length h
 bytes_size bs (i ∷ is) h = ap length h.2 ∙ length-append h.0 h.1 ∙ (let a = stand_size h.0 i h.3 in let b = bytes_size h.1 is h.4 in omega (arith, sum_by-cons item_size i is))
 
 -- one item more
-pub bytes_push : (bs cs : List ℕ) (items : List Item) (i : Item) → AreBytesOf bs items → StandFor cs i → AreBytesOf (bs ++ cs) (items ++ i ∷ [])
+pub bytes_push : (bs cs : List ℕ) (items : List Content) (i : Content) → AreBytesOf bs items → StandFor cs i → AreBytesOf (bs ++ cs) (items ++ i ∷ [])
 bytes_push bs cs [] i h s = (cs, [], rw h (sym (append-nil cs)), s, refl)
 bytes_push bs cs (j ∷ js) i h s = (h.0, h.1 ++ cs, ap (λ (x : List ℕ). x ++ cs) h.2 ∙ append_assoc h.0 h.1 cs, h.3, bytes_push h.1 cs js i h.4 s)
 
 -- the output with one item more
-pub item_pushed : (code : OutputCode) (bytes : Vec ℕ Global) (output : Output) (cs : List ℕ) (item : Item) → bytes.items ≡ code.bytes.items ++ cs → IsOutput code output → StandFor cs item → IsOutput (record code { bytes = bytes }) (with_item output item)
+pub item_pushed : (code : OutputCode) (bytes : Vec ℕ Global) (output : Output) (cs : List ℕ) (item : Content) → bytes.items ≡ code.bytes.items ++ cs → IsOutput code output → StandFor cs item → IsOutput (record code { bytes = bytes }) (with_item output item)
 item_pushed code bytes output cs item e is s = record {
   earlier = is.earlier;
   address = is.address;
@@ -37,7 +37,7 @@ item_pushed code bytes output cs item e is s = record {
 }
 
 -- the same, unless memory was refused
-pub bytes_pushed : {A E : Type 0} (r : Result A E) (code : OutputCode) (bytes : Vec ℕ Global) (output : Output) (cs others : List ℕ) (item : Item) → bytes.items ≡ (if is_ok r then code.bytes.items ++ cs else others) → IsOutput code output → StandFor cs item → OnOk r (IsOutput (record code { bytes = bytes }) (with_item output item))
+pub bytes_pushed : {A E : Type 0} (r : Result A E) (code : OutputCode) (bytes : Vec ℕ Global) (output : Output) (cs others : List ℕ) (item : Content) → bytes.items ≡ (if is_ok r then code.bytes.items ++ cs else others) → IsOutput code output → StandFor cs item → OnOk r (IsOutput (record code { bytes = bytes }) (with_item output item))
 bytes_pushed (Ok a) code bytes output cs others item e is s = item_pushed code bytes output cs item e is s
 bytes_pushed (Err a) code bytes output cs others item e is s = tt
 

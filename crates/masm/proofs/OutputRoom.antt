@@ -10,7 +10,7 @@ use Rattle.masm.specs.Answers.{IsOutput, HasRoom, HasRoomFor, HasRoomForLine}
 use Rattle.masm.specs.Assembly.{Reading, first_step, first_reading, placed, after_line, second_step}
 use Rattle.masm_lines.specs.Grammar.{Line, line_of}
 use Rattle.masm.specs.Listings.{Output, first_output, with_statement, with_item, part_size, part_at, parts_of, next_place}
-use Rattle.masm.specs.Meanings.{Item, Code, Bytes, item_size, item_of, aimed}
+use Rattle.masm.specs.Meanings.{Content, Code, Bytes, item_size, item_of, aimed}
 use Rattle.masm.specs.Names.{Names, known_address, value_address, is_double}
 use Rattle.masm.specs.Places.{Layout, next_address, after_statement, is_misplaced, has_misplaced, is_outside, overlaps, is_one_too_many}
 use Rattle.masm_lines.specs.Statements.{alignment_of, size_of}
@@ -60,10 +60,10 @@ pub bound : {A B E : Type 0} (r : Result A E) (k : A → Result B E) (b : B) →
 bound (Ok a) k b h = (a, refl, h)
 bound (Err e) k b h = absurd (cc)
 
-sized : (i item : Item) → ◌≡◌ {A = Result Item AsmFault} (Ok i) (Ok item) → item_size item ≡ item_size i
+sized : (i item : Content) → ◌≡◌ {A = Result Content AsmFault} (Ok i) (Ok item) → item_size item ≡ item_size i
 sized i item h = let same : i ≡ item = cc in sym (ap item_size same)
 
-item_sized : (known : Names) (address : ℕ) (s : Statement) (item : Item) → item_of known address s ≡ Ok item → item_size item ≡ size_of s
+item_sized : (known : Names) (address : ℕ) (s : Statement) (item : Content) → item_of known address s ≡ Ok item → item_size item ≡ size_of s
 unfolding item_of zeros
 item_sized known address (Instruction i) item h = sized (Code i) item h
 item_sized known address (Transfer i v) item h =
@@ -105,7 +105,7 @@ small layout output code is step =
 abbrev longer : Layout → ℕ → Layout
 longer layout n = record layout { current = record layout.current { size = layout.current.size + n } }
 
-item_in_step : (layout : Layout) (output : Output) (s : Statement) (item : Item) → InStep layout output → is_misplaced layout s ≡ false → item_size item ≡ size_of s → InStep (longer layout (size_of s)) (with_item output item)
+item_in_step : (layout : Layout) (output : Output) (s : Statement) (item : Content) → InStep layout output → is_misplaced layout s ≡ false → item_size item ≡ size_of s → InStep (longer layout (size_of s)) (with_item output item)
 item_in_step layout output s item is h e =
     let low : 0 < size_of s → 0x80000000 ≤ layout.current.start + layout.current.size = λ n. (has_place layout s h n).0 in
     let high : 0 < size_of s → layout.current.start + layout.current.size + size_of s ≤ 0xa0000000 = λ n. (has_place layout s h n).1 in
@@ -121,7 +121,7 @@ item_in_step layout output s item is h e =
 
 put_in_step : (known : Names) (layout : Layout) (output next : Output) (s : Statement) → InStep layout output → is_misplaced layout s ≡ false → (item_of known (next_place output) s >>= λ item. Ok (with_item output item)) ≡ Ok next → InStep (longer layout (size_of s)) next
 put_in_step known layout output next s is h e =
-    let item = bound (item_of known (next_place output) s) (λ (item : Item). Ok (with_item output item)) next e in
+    let item = bound (item_of known (next_place output) s) (λ (item : Content). Ok (with_item output item)) next e in
     let same : with_item output item.0 ≡ next = cc (item.2) in
     subst (InStep (longer layout (size_of s))) same (item_in_step layout output s item.0 is h (item_sized known (next_place output) s item.0 item.1))
 

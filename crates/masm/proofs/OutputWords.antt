@@ -4,7 +4,7 @@ use Rattle.std.specs.Int.{to_le_bytes, w32}
 use Rattle.std.proofs.lemmas.List.{take_all}
 use Rattle.mips_isa.specs.Table.{readings}
 use Rattle.mips_instr.specs.declared.instr.Instr.{Instr}
-use Rattle.masm.specs.Meanings.{Item, Code, Bytes, item_of, aimed}
+use Rattle.masm.specs.Meanings.{Content, Code, Bytes, item_of, aimed}
 use Rattle.masm.specs.Images.{StandFor}
 use Rattle.masm.specs.Answers.{IsOutput}
 use Rattle.masm.specs.Listings.{Output, next_place}
@@ -27,7 +27,7 @@ place_is code output is = let a = is.address in let b = bytes_size code.bytes.it
 
 -- the word stands for the item of the statement
 abbrev pub IsWordOf : Names → ℕ → Statement → ℕ → Type 0
-IsWordOf known address s word = (item : Item) × (item_of known address s ≡ Ok item) × StandFor (to_le_bytes w32 word) item
+IsWordOf known address s word = (item : Content) × (item_of known address s ≡ Ok item) × StandFor (to_le_bytes w32 word) item
 
 pub instruction_word : (known : Names) (address : ℕ) (s : Statement) (i : Instr) (word : ℕ) → s ≡ Instruction i → readings word ≡ i ∷ [] → IsWordOf known address s word
 unfolding item_of

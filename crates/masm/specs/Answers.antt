@@ -55,7 +55,9 @@ fault_in (error.Memory a) = None
 
 -- what is put so far lies below 2^32, and a statement may stand behind it as the first pass has found
 abbrev pub HasRoomFor : Output → Statement → Type 0
-HasRoomFor code s = (length code.bytes.items < 2 ^ 32) × (0 < size_of s → (0x80000000 ≤ code.address) × (code.address + length code.bytes.items + size_of s ≤ 0xa0000000))
+HasRoomFor code s =
+    (length code.bytes.items < 2 ^ 32)
+    × (0 < size_of s → (0x80000000 ≤ code.address) × (code.address + length code.bytes.items + size_of s ≤ 0xa0000000))
 
 -- the same of a line
 abbrev pub HasRoomForLine : Output → Result Line AsmFault → Type 0

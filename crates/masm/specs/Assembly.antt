@@ -76,7 +76,9 @@ labels_from layout names (line ∷ more) = labels_from (after_statement layout l
 -- no label is an earlier line's
 abbrev pub AreApart : Layout → Names → List Line → Type 0
 AreApart layout names [] = Unit {0}
-AreApart layout names (line ∷ more) = (is_double names line.label ≡ false) × AreApart (after_statement layout line.statement) (with_label names line.label (next_address layout)) more
+AreApart layout names (line ∷ more) =
+    (is_double names line.label ≡ false)
+    × AreApart (after_statement layout line.statement) (with_label names line.label (next_address layout)) more
 
 -- each statement may stand at its place
 abbrev pub ArePlaced : Layout → List Line → Type 0

@@ -1,11 +1,16 @@
--- Segments as lines of assembly language.
-use Rattle.std.specs.Prelude.{ℕ, ◌+◌, ◌/◌, ◌%◌, ◌^◌, List, [], ◌∷◌, ◌++◌, codes, flat_map}
+-- Segments as lines of assembly language: those of an image, of a file, and of a text.
+use Rattle.std.specs.Prelude.{◌≡◌, ℕ, ◌+◌, ◌/◌, ◌%◌, ◌^◌, List, [], ◌∷◌, ◌++◌, codes, flat_map}
 use Rattle.std.specs.Int.{from_le_bytes, w32}
 use Rattle.mips_isa.specs.Table.{readings}
 use Rattle.mips_instr.specs.Operands.{hex_byte}
 use Rattle.mips_instr.specs.Text.{instr_text}
 use Rattle.mips_instr.specs.declared.instr.Instr.{Instr}
+use Rattle.elf32.specs.Files.{StandsFor}
+use Rattle.elf32.specs.declared.image.Image.{Image}
 use Rattle.elf32.specs.declared.image.Segment.{Segment}
+use Rattle.masm.specs.Assembly.{Means}
+use Rattle.masm.specs.Images.{IsImageOf}
+use Rattle.masm.specs.Listings.{Listing}
 
 -- the eight digits of a word
 abbrev pub hex_word : ℕ → List ℕ
@@ -33,3 +38,17 @@ segment_lines s = lines_at s.address s.bytes.items
 
 abbrev pub image_lines : List Segment → List ℕ
 image_lines segments = flat_map segment_lines segments
+
+-- the lines are those of the image that a file stands for, for the 131072 pages that kseg0 reaches
+pub record IsDisassemblyOf (file lines : List ℕ) : Type 0 where
+  pub image : Image
+  pub stands : StandsFor file 131072 image
+  pub whole : lines ≡ image_lines image.segments.items
+
+-- the lines are those of an image of the listing that a text means
+pub record IsListingOf (text lines : List ℕ) : Type 0 where
+  pub listing : Listing
+  pub image : Image
+  pub means : Means text listing
+  pub assembled : IsImageOf listing image
+  pub whole : lines ≡ image_lines image.segments.items

@@ -4,16 +4,16 @@ use Rattle.std.specs.Int.{to_le_bytes, w32}
 use Rattle.mips_isa.specs.Table.{readings}
 use Rattle.elf32.specs.declared.image.Segment.{Segment}
 use Rattle.elf32.specs.declared.image.Image.{Image}
-use Rattle.masm.specs.Meanings.{Item, Code, Bytes}
+use Rattle.masm.specs.Meanings.{Content, Code, Bytes}
 use Rattle.masm.specs.Listings.{Part, Listing}
 
 -- the bytes of an item: those of a word that decodes to the instruction, or the bytes themselves
-abbrev pub StandFor : List ℕ → Item → Type 0
+abbrev pub StandFor : List ℕ → Content → Type 0
 StandFor bytes (Code i) = (w : ℕ) × (bytes ≡ to_le_bytes w32 w) × (readings w ≡ i ∷ [])
 StandFor bytes (Bytes written) = bytes ≡ written
 
 -- the bytes of items, one after the other
-abbrev pub AreBytesOf : List ℕ → List Item → Type 0
+abbrev pub AreBytesOf : List ℕ → List Content → Type 0
 AreBytesOf bytes [] = bytes ≡ []
 AreBytesOf bytes (item ∷ items) = (first : List ℕ) × (more : List ℕ) × (bytes ≡ first ++ more) × StandFor first item × AreBytesOf more items
 

@@ -5,7 +5,7 @@ use Rattle.mips_instr.specs.Coprocessor.{coprocessor_word}
 use Rattle.mips_instr.specs.declared.instr.Instr.{Instr}
 use Rattle.mips_instr.specs.declared.instr.Instr.TheVariants as instr
 use Rattle.masm_lines.specs.Grammar.{line_of}
-use Rattle.masm.specs.Meanings.{Item, Code, Bytes, item_of}
+use Rattle.masm.specs.Meanings.{Content, Code, Bytes, item_of}
 use Rattle.masm.specs.Names.{Names}
 use Rattle.masm_lines.specs.Statements.{Statement}
 
@@ -42,10 +42,11 @@ HasFields (instr.Wait code) = code < 2 ^ 19
 HasFields (instr.Coprocessor op code) = code < 2 ^ 26
 
 -- what a printed line puts: its instruction, and the word of an instruction of coprocessor 1 or 2
-abbrev pub item_printed : Instr → Item
+abbrev pub item_printed : Instr → Content
 item_printed (instr.Coprocessor op code) = Bytes (to_le_bytes w32 (coprocessor_word op code))
 item_printed i = Code i
 
 -- a text is a line without a label whose statement puts an item at an address, whatever names there are
-abbrev pub LinePuts : List ℕ → ℕ → Item → Type 0
-LinePuts text address item = (s : Statement) × (line_of text ≡ Ok (record { label = None; statement = Some s })) × ((names : Names) → item_of names address s ≡ Ok item)
+abbrev pub LinePuts : List ℕ → ℕ → Content → Type 0
+LinePuts text address item =
+    (s : Statement) × (line_of text ≡ Ok (record { label = None; statement = Some s })) × ((names : Names) → item_of names address s ≡ Ok item)

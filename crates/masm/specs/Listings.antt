@@ -3,7 +3,7 @@ use Rattle.std.specs.Prelude.{ℕ, ◌+◌, ◌%◌, Bool, ◌==◌, ◌&&◌, n
 use Rattle.std.specs.List.{list_any}
 use Rattle.masm_lines.specs.Statements.{Statement, Org, Entry}
 use Rattle.masm.specs.Names.{Names, known_address}
-use Rattle.masm.specs.Meanings.{Item, item_size, item_of}
+use Rattle.masm.specs.Meanings.{Content, item_size, item_of}
 use Rattle.masm_lines.specs.Steps.{◌>>=◌}
 use Rattle.masm_lines.specs.declared.fault.AsmFault.{AsmFault}
 use Rattle.masm_lines.specs.declared.fault.AsmFault.TheVariants as fault
@@ -11,7 +11,7 @@ use Rattle.masm_lines.specs.declared.fault.AsmFault.TheVariants as fault
 -- a segment: its first address, and what stands from there on, one after the other
 pub record Part : Type 0 where
   pub address : ℕ
-  pub items : List Item
+  pub items : List Content
 
 pub record Listing : Type 0 where
   pub parts : List Part
@@ -41,7 +41,7 @@ next_place o = o.current.address + part_size o.current
 abbrev pub parts_of : Output → List Part
 parts_of o = if part_size o.current == 0 then o.earlier else o.earlier ++ o.current ∷ []
 
-abbrev pub with_item : Output → Item → Output
+abbrev pub with_item : Output → Content → Output
 with_item o item = record o { current = record { address = o.current.address; items = o.current.items ++ item ∷ [] } }
 
 -- with a statement: `.org` begins a segment, the last `.entry` counts, and the others put an item

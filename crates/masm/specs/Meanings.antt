@@ -12,11 +12,11 @@ use Rattle.masm_lines.specs.declared.fault.AsmFault.{AsmFault}
 use Rattle.masm_lines.specs.declared.fault.AsmFault.TheVariants as fault
 
 -- what a listing has at an address
-pub data Item : Type 0 where
-  Code : Instr → Item
-  Bytes : List ℕ → Item
+pub data Content : Type 0 where
+  Code : Instr → Content
+  Bytes : List ℕ → Content
 
-abbrev pub item_size : Item → ℕ
+abbrev pub item_size : Content → ℕ
 item_size (Code i) = 4
 item_size (Bytes bytes) = length bytes
 
@@ -45,7 +45,7 @@ aimed (instr.Jump op _) address target = jump_index address target >>= λ index.
 aimed i address target = Ok i
 
 -- what a statement puts at its place
-unfoldable pub item_of : Names → ℕ → Statement → Result Item AsmFault
+unfoldable pub item_of : Names → ℕ → Statement → Result Content AsmFault
 item_of names address (Instruction i) = Ok (Code i)
 item_of names address (Transfer i value) = value_address names value >>= λ target. aimed i address target >>= λ whole. Ok (Code whole)
 item_of names address (Word n) = Ok (Bytes (to_le_bytes w32 n))

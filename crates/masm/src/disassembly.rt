@@ -1,11 +1,8 @@
 //! Images as lines of assembly language.
 ghost use Rattle.std.specs.Prelude.{◌≡◌, ◌++◌, ◌<◌, length, OnOk, IfOk, IfErr, IfSome, Some, string_bytes};
-ghost use Rattle.elf32.specs.declared.image.Image.{Image};
 ghost use Rattle.masm.specs.Answers.{fault_in};
-ghost use Rattle.masm.specs.Assembly.{Means, first_fault};
+ghost use Rattle.masm.specs.Assembly.{first_fault};
 ghost use Rattle.masm.specs.Disassembly as spec;
-ghost use Rattle.masm.specs.Images.{IsImageOf};
-ghost use Rattle.masm.specs.Listings.{Listing};
 ghost use Rattle.mips_instr.specs.Operands.{hex_byte};
 
 use crate::{AsmError, assemble_image};
@@ -112,11 +109,11 @@ pub fn disassembly_of(alloc: Global, image: &Image) -> Result<String, AllocError
     Ok(out)
 }
 
-/// The lines of the image that a text is assembled to, with the errors of `assemble_image`.
+/// The lines of the image that a text is assembled to, with the errors of `assemble_image`. They are what `disassembly_of`
+/// answers of the image of the text's executable, as the law `listing_is_disassembly_of_the_executable` says.
 pub fn listing(alloc: Global, text: &str) -> Result<String, AsmError>
     // The lines are those of an image that stands for the listing that the text means.
-    ensures lines { IfOk result (λ lines. (listing : Listing) × (image : Image) × Means text.now listing × IsImageOf listing image
-        × (string_bytes lines ≡ spec.image_lines image.segments.items)) }
+    ensures lines { IfOk result (λ lines. spec.IsListingOf text.now (string_bytes lines)) }
     // A refusal for another cause than memory is the text's first fault, with its line.
     ensures fault { IfErr result (λ error. IfSome (fault_in error) (λ fault. first_fault text.now ≡ Some fault)) }
 {

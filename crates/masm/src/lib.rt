@@ -4,7 +4,8 @@
 //! stands), `Names` (their addresses), `Meanings` (what a statement puts at its place), `Listings` (segments and the entry)
 //! and `Assembly` (the listing that a text means, or its first fault). The crates above use `assemble_image`, which answers
 //! the image of that listing or the first fault with its line, `assemble`, which answers that image's file, and `listing`,
-//! the text's disassembly.
+//! the text's disassembly. The laws in `laws` say that a text means just the listing that it is assembled to, that this has one
+//! image, and that the text's disassembly is its executable's.
 #![tactic(auto)]
 
 pub mod assembly;

@@ -49,7 +49,8 @@ impl Output {
     #[tactic(auto, unfolding(crate::specs::Assembly::second_step))]
     fn take(&mut self, alloc: Global, names: &Names, text: &[u8]) -> Result<(), LineError>
         requires { HasRoom self.old text.now }
-        ensures { (known : naming.Names) (output : listings.Output) → Knows names.now known → IsOutput self.old output → Follows (IsOutput self.new) result (spec.second_step known output text.now) }
+        ensures { (known : naming.Names) (output : listings.Output) → Knows names.now known → IsOutput self.old output
+            → Follows (IsOutput self.new) result (spec.second_step known output text.now) }
     {
         match line_of(text) {
             Ok(line) => match line.statement {
@@ -63,7 +64,8 @@ impl Output {
     /// Takes a statement.
     fn put(&mut self, alloc: Global, names: &Names, statement: &Statement) -> Result<(), LineError>
         requires { HasRoomFor self.old (statement_view statement.now) }
-        ensures { (known : naming.Names) (output : listings.Output) → Knows names.now known → IsOutput self.old output → Follows (IsOutput self.new) result (listings.with_statement known output (Some (statement_view statement.now))) }
+        ensures { (known : naming.Names) (output : listings.Output) → Knows names.now known → IsOutput self.old output
+            → Follows (IsOutput self.new) result (listings.with_statement known output (Some (statement_view statement.now))) }
     {
         match *statement {
             Statement::Org(start) => self.begin(alloc, start)?,
@@ -83,8 +85,12 @@ impl Output {
     fn word_of(&self, names: &Names, statement: &Statement) -> Result<u32, AsmFault>
         requires aligned { alignment_of (statement_view statement.now) ≡ 4 }
         requires room { HasRoomFor self.now (statement_view statement.now) }
-        ensures ok { (known : naming.Names) (output : listings.Output) → Knows names.now known → IsOutput self.now output → IfOk result (λ word. (item : meaning.Item) × (meaning.item_of known (listings.next_place output) (statement_view statement.now) ≡ Ok item) × StandFor (to_le_bytes w32 word) item) }
-        ensures err { (known : naming.Names) (output : listings.Output) → Knows names.now known → IsOutput self.now output → IfErr result (λ fault. meaning.item_of known (listings.next_place output) (statement_view statement.now) ≡ Err fault) }
+        ensures ok { (known : naming.Names) (output : listings.Output) → Knows names.now known → IsOutput self.now output
+            → IfOk result (λ word. (item : meaning.Content)
+            × (meaning.item_of known (listings.next_place output) (statement_view statement.now) ≡ Ok item)
+            × StandFor (to_le_bytes w32 word) item) }
+        ensures err { (known : naming.Names) (output : listings.Output) → Knows names.now known → IsOutput self.now output
+            → IfErr result (λ fault. meaning.item_of known (listings.next_place output) (statement_view statement.now) ≡ Err fault) }
     {
         match *statement {
             Statement::Instruction(instr) => Ok(encode(instr)),
@@ -113,7 +119,8 @@ impl Output {
     /// Ends the present segment, and begins one.
     fn begin(&mut self, alloc: Global, start: u32) -> Result<(), AllocError>
         requires { vec_len self.old.bytes < 2 ^ 32 }
-        ensures { (output : listings.Output) → IsOutput self.old output → OnOk result (IsOutput self.new (record { earlier = listings.parts_of output; current = listings.part_at start; entry = output.entry })) }
+        ensures { (output : listings.Output) → IsOutput self.old output
+            → OnOk result (IsOutput self.new (record { earlier = listings.parts_of output; current = listings.part_at start; entry = output.entry })) }
     {
         let bytes = std::mem::replace(&mut self.bytes, Vec::new(alloc));
         if !bytes.is_empty() {
@@ -129,13 +136,15 @@ impl Output {
     }
 
     fn put_word(&mut self, word: u32) -> Result<(), AllocError>
-        ensures { (output : listings.Output) (item : meaning.Item) → IsOutput self.old output → StandFor (to_le_bytes w32 word) item → OnOk result (IsOutput self.new (listings.with_item output item)) }
+        ensures { (output : listings.Output) (item : meaning.Content) → IsOutput self.old output → StandFor (to_le_bytes w32 word) item
+            → OnOk result (IsOutput self.new (listings.with_item output item)) }
     {
         self.bytes.extend_from_slice(&word.to_le_bytes())
     }
 
     fn put_byte(&mut self, byte: u8) -> Result<(), AllocError>
-        ensures { (output : listings.Output) → IsOutput self.old output → OnOk result (IsOutput self.new (listings.with_item output (meaning.Bytes (byte ∷ [])))) }
+        ensures { (output : listings.Output) → IsOutput self.old output
+            → OnOk result (IsOutput self.new (listings.with_item output (meaning.Bytes (byte ∷ [])))) }
     {
         self.bytes.push(byte)?;
         Ok(())
@@ -143,7 +152,8 @@ impl Output {
 
     fn put_zeros(&mut self, count: u32) -> Result<(), AllocError>
         requires { vec_len self.old.bytes + count < 2 ^ 63 }
-        ensures { (output : listings.Output) → IsOutput self.old output → OnOk result (IsOutput self.new (listings.with_item output (meaning.Bytes (zeros count)))) }
+        ensures { (output : listings.Output) → IsOutput self.old output
+            → OnOk result (IsOutput self.new (listings.with_item output (meaning.Bytes (zeros count)))) }
     {
         self.bytes.resize(self.bytes.len() + count as usize, 0)
     }
@@ -151,7 +161,8 @@ impl Output {
     /// The image of all lines.
     fn image(mut self, alloc: Global) -> Result<Image, AsmError>
         requires { vec_len self.bytes < 2 ^ 32 }
-        ensures { (output : listings.Output) → IsOutput self output → Gives (λ image listing. IsImageOf listing image) result (spec.at_line 0 (listings.listing_of output)) }
+        ensures { (output : listings.Output) → IsOutput self output
+            → Gives (λ image listing. IsImageOf listing image) result (spec.at_line 0 (listings.listing_of output)) }
     {
         self.begin(alloc, FIRST_ADDRESS)?;
         let Output {
@@ -187,8 +198,10 @@ fn is_within(segments: &[Segment], address: u32) -> bool
 
 /// What lines put that the first pass has taken, whose names are these.
 fn put_all(alloc: Global, names: &Names, lines: &[&str]) -> Result<Output, AsmError>
-    requires { Gives (λ names reading. Knows names reading.names) (Ok names.now) (spec.over_lines spec.first_step 1 spec.first_reading (map text_view lines.now)) }
-    ensures value { (reading : spec.Reading) → spec.over_lines spec.first_step 1 spec.first_reading (map text_view lines.now) ≡ Ok reading → Gives IsOutput result (spec.over_lines (spec.second_step reading.names) 1 listings.first_output (map text_view lines.now)) }
+    requires { Gives (λ names reading. Knows names reading.names) (Ok names.now)
+        (spec.over_lines spec.first_step 1 spec.first_reading (map text_view lines.now)) }
+    ensures value { (reading : spec.Reading) → spec.over_lines spec.first_step 1 spec.first_reading (map text_view lines.now) ≡ Ok reading
+        → Gives IsOutput result (spec.over_lines (spec.second_step reading.names) 1 listings.first_output (map text_view lines.now)) }
     ensures small { IfOk result (λ output. vec_len output.bytes < 2 ^ 32) }
 {
     let mut output = Output::new(alloc);

@@ -51,7 +51,8 @@ impl Names {
 
     /// Adds a line's label, if it has one, which no earlier line has.
     fn add(&mut self, alloc: Global, line: &Line, address: u32) -> Result<(), AllocError>
-        ensures { (known : naming.Names) → Knows self.old known → naming.is_double known (line_view line.now).label ≡ false → OnOk result (Knows self.new (naming.with_label known (line_view line.now).label address)) }
+        ensures { (known : naming.Names) → Knows self.old known → naming.is_double known (line_view line.now).label ≡ false
+            → OnOk result (Knows self.new (naming.with_label known (line_view line.now).label address)) }
     {
         match line.label {
             Some(name) => self.insert(alloc, name, address),
@@ -61,7 +62,8 @@ impl Names {
 
     /// Adds a name, which isn't there yet.
     fn insert(&mut self, alloc: Global, name: &[u8], address: u32) -> Result<(), AllocError>
-        ensures { (known : naming.Names) → Knows self.old known → naming.address_of known name.now ≡ None → OnOk result (Knows self.new (known ++ (name.now, address) ∷ [])) }
+        ensures { (known : naming.Names) → Knows self.old known → naming.address_of known name.now ≡ None
+            → OnOk result (Knows self.new (known ++ (name.now, address) ∷ [])) }
     {
         let key = Vec::from_slice(alloc, name)?;
         self.entries.insert(key, address)?;

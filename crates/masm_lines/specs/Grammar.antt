@@ -43,5 +43,6 @@ statement_or_nothing text = if length text == 0 then Ok None else (statement_in 
 unfoldable pub line_of : List ℕ → Result Line AsmFault
 line_of line =
     if list_all is_ascii line
-    then (statement_or_nothing (behind_label (body_of line) (label_of (body_of line))) >>= λ statement. Ok (record { label = label_of (body_of line); statement = statement }))
+    then (statement_or_nothing (behind_label (body_of line) (label_of (body_of line)))
+    >>= λ statement. Ok (record { label = label_of (body_of line); statement = statement }))
     else Err fault.Syntax

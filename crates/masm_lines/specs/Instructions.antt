@@ -10,7 +10,7 @@ use Rattle.mips_instr.specs.declared.operand.Operand.{Operand}
 use Rattle.mips_instr.specs.declared.operand.Operand.TheVariants as printed
 use Rattle.mips_instr.specs.declared.operand.Operands.{Operands}
 use Rattle.mips_instr.specs.declared.operand.Operands.TheVariants.{None as Nothing, One, Two, Three}
-use Rattle.masm_lines.specs.Operands.{Value, Number, Written, Register, Plain, Based, register_at, number_at, value_at}
+use Rattle.masm_lines.specs.Operands.{Value, Number, Written, Register, Plain, Based, register_at, number_at, value_written}
 use Rattle.masm_lines.specs.Ranges.{field_bits, signed_half_bits, half_bits}
 use Rattle.masm_lines.specs.Steps.{◌>>=◌}
 use Rattle.masm_lines.specs.declared.fault.AsmFault.{AsmFault}
@@ -71,7 +71,8 @@ with_operands (instr.Immediate op _ _ _) w = immediate_bits op w >>= λ imm. Ok 
 with_operands (instr.LoadUpper _ _) w = half_bits (number_at w 1) >>= λ imm. Ok (instr.LoadUpper (register_at w 0) imm)
 with_operands (instr.Load op _ _ _) w = signed_half_bits (number_at w 1) >>= λ offset. Ok (instr.Load op (register_at w 0) (register_at w 1) offset)
 with_operands (instr.Store op _ _ _) w = signed_half_bits (number_at w 1) >>= λ offset. Ok (instr.Store op (register_at w 0) (register_at w 1) offset)
-with_operands (instr.Cache op _ _ _) w = field_bits 31 (number_at w 0) >>= λ hint. signed_half_bits (number_at w 1) >>= λ offset. Ok (instr.Cache op hint (register_at w 1) offset)
+with_operands (instr.Cache op _ _ _) w =
+    field_bits 31 (number_at w 0) >>= λ hint. signed_half_bits (number_at w 1) >>= λ offset. Ok (instr.Cache op hint (register_at w 1) offset)
 with_operands (instr.Cp0Move op _ _ _) w = field_bits 7 (number_at w 2) >>= λ select. Ok (instr.Cp0Move op (register_at w 0) (register_at w 1) select)
 with_operands (instr.Tlb op) w = Ok (instr.Tlb op)
 with_operands instr.Eret w = Ok instr.Eret
@@ -80,7 +81,7 @@ with_operands (instr.Coprocessor op code) w = Ok (instr.Coprocessor op code)
 
 -- where a branch or a jump leads, as it is written; the other instructions have no target
 abbrev pub written_target : Instr → List Written → Option Value
-written_target (instr.Branch op rs rt offset) w = Some (value_at w 2)
-written_target (instr.BranchZero op rs offset) w = Some (value_at w 1)
-written_target (instr.Jump op target) w = Some (value_at w 0)
+written_target (instr.Branch op rs rt offset) w = Some (value_written w 2)
+written_target (instr.BranchZero op rs offset) w = Some (value_written w 1)
+written_target (instr.Jump op target) w = Some (value_written w 0)
 written_target i w = None

@@ -91,5 +91,5 @@ register_at written place = register_in (slice_get written place)
 abbrev pub number_at : List Written → ℕ → ℤ
 number_at written place = number_in (slice_get written place)
 
-abbrev pub value_at : List Written → ℕ → Value
-value_at written place = value_in (slice_get written place)
+abbrev pub value_written : List Written → ℕ → Value
+value_written written place = value_in (slice_get written place)

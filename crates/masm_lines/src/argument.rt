@@ -1,7 +1,7 @@
 //! The operands of a statement.
 ghost use Rattle.std.specs.Prelude.{◌≡◌, option_map, slice_get};
 ghost use Rattle.std.specs.Result.{result_map_both};
-ghost use Rattle.masm_lines.specs.Operands.{behind_comma, operands_in, register_at, number_at, value_at};
+ghost use Rattle.masm_lines.specs.Operands.{behind_comma, operands_in, register_at, number_at, value_written};
 ghost use Rattle.masm_lines.specs.Parts as part;
 ghost use Rattle.masm_lines.specs.Views.{arguments_view, value_view, written_view, written_behind, first_view, text_view};
 
@@ -114,7 +114,7 @@ impl<'a> Arguments<'a> {
 
     /// The number or the name that the operand at a place is; 0 where there is none.
     pub fn value(&self, place: usize) -> Value<'a>
-        ensures { value_view result ≡ value_at (arguments_view self.now) place }
+        ensures { value_view result ≡ value_written (arguments_view self.now) place }
     {
         match self.at(place) {
             Some(written) => written.value(),

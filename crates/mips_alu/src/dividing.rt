@@ -60,19 +60,22 @@ pub fn unsigned_division_multiplies_back()
 /// A law: quotient times divisor plus remainder is the dividend, for all signed values but those of -2^31 by -1.
 #[tactic(auto, using(crate::proofs::Quotients::multiplies_back))]
 pub fn signed_division_multiplies_back()
-    ensures { (a b : ℕ) → a < 2 ^ 32 → b < 2 ^ 32 → 0 < b → ¬ (Overflows a b) → ((signed_value (divide_result Signed a b).lo *ℤ signed_value b) +ℤ signed_value (divide_result Signed a b).hi) ≡ signed_value a }
+    ensures { (a b : ℕ) → a < 2 ^ 32 → b < 2 ^ 32 → 0 < b → ¬ (Overflows a b)
+        → ((signed_value (divide_result Signed a b).lo *ℤ signed_value b) +ℤ signed_value (divide_result Signed a b).hi) ≡ signed_value a }
 {}
 
 /// A law: the signed remainder is nearer to zero than the divisor.
 #[tactic(auto, using(crate::proofs::Quotients::not_both))]
 pub fn signed_remainder_is_small()
-    ensures { (a b : ℕ) → a < 2 ^ 32 → b < 2 ^ 32 → 0 < b → ¬ (Overflows a b) → unsigned_abs (signed_value (divide_result Signed a b).hi) < unsigned_abs (signed_value b) }
+    ensures { (a b : ℕ) → a < 2 ^ 32 → b < 2 ^ 32 → 0 < b → ¬ (Overflows a b)
+        → unsigned_abs (signed_value (divide_result Signed a b).hi) < unsigned_abs (signed_value b) }
 {}
 
 /// A law: the signed remainder is zero or has the sign of the dividend.
 #[tactic(auto, using(crate::proofs::Quotients::not_both))]
 pub fn signed_remainder_has_the_sign_of_the_dividend()
-    ensures { (a b : ℕ) → a < 2 ^ 32 → b < 2 ^ 32 → 0 < b → ¬ (Overflows a b) → let r = signed_value (divide_result Signed a b).hi in (pos 0 ≤ℤ signed_value a → pos 0 ≤ℤ r) × (signed_value a <ℤ pos 0 → r ≤ℤ pos 0) }
+    ensures { (a b : ℕ) → a < 2 ^ 32 → b < 2 ^ 32 → 0 < b → ¬ (Overflows a b)
+        → let r = signed_value (divide_result Signed a b).hi in (pos 0 ≤ℤ signed_value a → pos 0 ≤ℤ r) × (signed_value a <ℤ pos 0 → r ≤ℤ pos 0) }
 {}
 
 /// A choice: a division by zero gives all ones in LO and the dividend in HI.

@@ -52,14 +52,17 @@ pub fn store_right(memory: u32, register: u32, k: u32) -> u32
 /// register held. `low` and `high` are the aligned words that it lies in.
 #[tactic(auto, using(crate::proofs::Parts::loaded))]
 pub fn both_parts_load_the_word()
-    ensures { (low high register k : ℕ) → low < 2 ^ 32 → high < 2 ^ 32 → register < 2 ^ 32 → 0 < k → k < 4 → merge_left_result high (merge_right_result low register k) (k - 1) ≡ (high * 2 ^ 32 + low) / 2 ^ (8 * k) % 2 ^ 32 }
+    ensures { (low high register k : ℕ) → low < 2 ^ 32 → high < 2 ^ 32 → register < 2 ^ 32 → 0 < k → k < 4
+        → merge_left_result high (merge_right_result low register k) (k - 1) ≡ (high * 2 ^ 32 + low) / 2 ^ (8 * k) % 2 ^ 32 }
 {}
 
 /// A law: SWR at an address and SWL three bytes above store the word in the four bytes from that address on, and leave
 /// the bytes before and after. `low` and `high` are the aligned words that it lies in.
 #[tactic(auto, using(crate::proofs::Parts::stored))]
 pub fn both_parts_store_the_word()
-    ensures { (low high register k : ℕ) → low < 2 ^ 32 → high < 2 ^ 32 → register < 2 ^ 32 → 0 < k → k < 4 → store_left_result high register (k - 1) * 2 ^ 32 + store_right_result low register k ≡ high / 2 ^ (8 * k) * 2 ^ (8 * k + 32) + register * 2 ^ (8 * k) + low % 2 ^ (8 * k) }
+    ensures { (low high register k : ℕ) → low < 2 ^ 32 → high < 2 ^ 32 → register < 2 ^ 32 → 0 < k → k < 4
+        → store_left_result high register (k - 1) * 2 ^ 32 + store_right_result low register k
+        ≡ high / 2 ^ (8 * k) * 2 ^ (8 * k + 32) + register * 2 ^ (8 * k) + low % 2 ^ (8 * k) }
 {}
 
 /// A law: at an aligned address either part is the whole word.

@@ -96,7 +96,8 @@ pub fn signed_product_is_whole()
 
 /// A law: a product that is added and then subtracted leaves HI and LO as they were.
 pub fn added_product_is_taken_back()
-    ensures { (s : Signedness) (a b : ℕ) (old : HiLo) → a < 2 ^ 32 → b < 2 ^ 32 → old.hi < 2 ^ 32 → old.lo < 2 ^ 32 → multiply_result s Subtract a b (multiply_result s Add a b old) ≡ old }
+    ensures { (s : Signedness) (a b : ℕ) (old : HiLo) → a < 2 ^ 32 → b < 2 ^ 32 → old.hi < 2 ^ 32 → old.lo < 2 ^ 32
+        → multiply_result s Subtract a b (multiply_result s Add a b old) ≡ old }
 {}
 
 /// A law: the result of `Mul` is the low word of the product, signed or unsigned.

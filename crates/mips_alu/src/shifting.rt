@@ -36,6 +36,8 @@ pub fn shift(op: ShiftKind, word: u32, amount: u32) -> u32
 /// A law: the signed value after an arithmetic shift to the right is the floor of the signed value divided by 2^amount.
 #[tactic(auto, using(crate::proofs::Floors::floor_at_most, crate::proofs::Floors::next_above))]
 pub fn arithmetic_shift_is_the_floor()
-    ensures not_above { (word amount : ℕ) → word < 2 ^ 32 → amount < 32 → (signed_value (shift_result RightArithmetic word amount) *ℤ pos (2 ^ amount)) ≤ℤ signed_value word }
-    ensures next_is_above { (word amount : ℕ) → word < 2 ^ 32 → amount < 32 → signed_value word <ℤ ((signed_value (shift_result RightArithmetic word amount) +ℤ pos 1) *ℤ pos (2 ^ amount)) }
+    ensures not_above { (word amount : ℕ) → word < 2 ^ 32 → amount < 32
+        → (signed_value (shift_result RightArithmetic word amount) *ℤ pos (2 ^ amount)) ≤ℤ signed_value word }
+    ensures next_is_above { (word amount : ℕ) → word < 2 ^ 32 → amount < 32
+        → signed_value word <ℤ ((signed_value (shift_result RightArithmetic word amount) +ℤ pos 1) *ℤ pos (2 ^ amount)) }
 {}

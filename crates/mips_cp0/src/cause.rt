@@ -37,7 +37,8 @@ impl Flags for Cause {
 
     ghost exact = { ⊤ };
 
-    ghost table = { (codes "EXC_CODE", 0x7c) ∷ (codes "SOFTWARE", 0x300) ∷ (codes "LINES", 0xc00) ∷ (codes "IP7", 0x8000) ∷ (codes "IP", 0xff00) ∷ (codes "IV", 0x800000) ∷ (codes "CE", 0x30000000) ∷ (codes "BD", 0x80000000) ∷ [] };
+    ghost table = { (codes "EXC_CODE", 0x7c) ∷ (codes "SOFTWARE", 0x300) ∷ (codes "LINES", 0xc00) ∷ (codes "IP7", 0x8000) ∷ (codes "IP", 0xff00)
+        ∷ (codes "IV", 0x800000) ∷ (codes "CE", 0x30000000) ∷ (codes "BD", 0x80000000) ∷ [] };
 
     ghost set_of = { λ c. c.0 };
 

@@ -13,9 +13,12 @@ ghost use Rattle.mips_cp0.specs.declared.exception.Exc.{Exc};
 /// branch before it where it stands in a delay slot, and Status is as before.
 #[tactic(auto, using(crate::proofs::Entering::status_restored))]
 pub fn entry_then_return()
-    ensures outside_slot { (exc : Exc) (pc : ℕ) (r : SystemRegisters) → has_bits status_exl r.status ≡ false → has_bits status_erl r.status ≡ false → return_address (entered exc pc false r) ≡ pc }
-    ensures in_slot { (exc : Exc) (pc : ℕ) (r : SystemRegisters) → has_bits status_exl r.status ≡ false → has_bits status_erl r.status ≡ false → return_address (entered exc pc true r) ≡ (pc + (2 ^ 32 - 4)) % 2 ^ 32 }
-    ensures status { (exc : Exc) (pc : ℕ) (in_slot : Bool) (r : SystemRegisters) → r.status < 2 ^ 32 → has_bits status_exl r.status ≡ false → has_bits status_erl r.status ≡ false → (returned (entered exc pc in_slot r)).status ≡ r.status }
+    ensures outside_slot { (exc : Exc) (pc : ℕ) (r : SystemRegisters) → has_bits status_exl r.status ≡ false → has_bits status_erl r.status ≡ false
+        → return_address (entered exc pc false r) ≡ pc }
+    ensures in_slot { (exc : Exc) (pc : ℕ) (r : SystemRegisters) → has_bits status_exl r.status ≡ false → has_bits status_erl r.status ≡ false
+        → return_address (entered exc pc true r) ≡ (pc + (2 ^ 32 - 4)) % 2 ^ 32 }
+    ensures status { (exc : Exc) (pc : ℕ) (in_slot : Bool) (r : SystemRegisters) → r.status < 2 ^ 32 → has_bits status_exl r.status ≡ false
+        → has_bits status_erl r.status ≡ false → (returned (entered exc pc in_slot r)).status ≡ r.status }
 {}
 
 /// A law: after the entry of an exception EXL is set, and Cause shows its code, in bits 6 to 2, the coprocessor that may
@@ -25,10 +28,14 @@ pub fn entry_then_return()
 pub fn entry_is_recorded()
     ensures level { (exc : Exc) (pc : ℕ) (in_slot : Bool) (r : SystemRegisters) → has_bits status_exl (entered exc pc in_slot r).status ≡ true }
     ensures code { (exc : Exc) (pc : ℕ) (in_slot : Bool) (r : SystemRegisters) → bit_and (entered exc pc in_slot r).cause 0x0000007c ≡ exc_code exc * 2 ^ 2 }
-    ensures coprocessor { (exc : Exc) (pc : ℕ) (in_slot : Bool) (r : SystemRegisters) → bit_and (entered exc pc in_slot r).cause 0x30000000 ≡ coprocessor_error exc * 2 ^ 28 }
-    ensures delay { (exc : Exc) (pc : ℕ) (in_slot : Bool) (r : SystemRegisters) → has_bits status_exl r.status ≡ false → has_bits cause_bd (entered exc pc in_slot r).cause ≡ in_slot }
-    ensures nested_epc { (exc : Exc) (pc : ℕ) (in_slot : Bool) (r : SystemRegisters) → has_bits status_exl r.status ≡ true → (entered exc pc in_slot r).epc ≡ r.epc }
-    ensures nested_delay { (exc : Exc) (pc : ℕ) (in_slot : Bool) (r : SystemRegisters) → has_bits status_exl r.status ≡ true → has_bits cause_bd (entered exc pc in_slot r).cause ≡ has_bits cause_bd r.cause }
+    ensures coprocessor { (exc : Exc) (pc : ℕ) (in_slot : Bool) (r : SystemRegisters)
+        → bit_and (entered exc pc in_slot r).cause 0x30000000 ≡ coprocessor_error exc * 2 ^ 28 }
+    ensures delay { (exc : Exc) (pc : ℕ) (in_slot : Bool) (r : SystemRegisters) → has_bits status_exl r.status ≡ false
+        → has_bits cause_bd (entered exc pc in_slot r).cause ≡ in_slot }
+    ensures nested_epc { (exc : Exc) (pc : ℕ) (in_slot : Bool) (r : SystemRegisters) → has_bits status_exl r.status ≡ true
+        → (entered exc pc in_slot r).epc ≡ r.epc }
+    ensures nested_delay { (exc : Exc) (pc : ℕ) (in_slot : Bool) (r : SystemRegisters) → has_bits status_exl r.status ≡ true
+        → has_bits cause_bd (entered exc pc in_slot r).cause ≡ has_bits cause_bd r.cause }
 {}
 
 /// A law: Random, once it is from Wired to the last TLB entry, stays so.
@@ -42,5 +49,6 @@ pub fn random_stays_above_wired()
 #[tactic(auto, using(crate::proofs::Replaced::replaced_taken, crate::proofs::Replaced::replaced_kept))]
 pub fn replaced_bits_are_exact()
     ensures taken { (mask part bits word : ℕ) → mask < 2 ^ 32 → bit_and mask part ≡ part → bit_and (replaced_bits mask bits word) part ≡ bit_and bits part }
-    ensures kept { (mask other bits word : ℕ) → mask < 2 ^ 32 → other < 2 ^ 32 → bit_and mask other ≡ 0 → bit_and (replaced_bits mask bits word) other ≡ bit_and word other }
+    ensures kept { (mask other bits word : ℕ) → mask < 2 ^ 32 → other < 2 ^ 32 → bit_and mask other ≡ 0
+        → bit_and (replaced_bits mask bits word) other ≡ bit_and word other }
 {}

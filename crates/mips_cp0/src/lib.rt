@@ -18,5 +18,5 @@ pub mod status;
 pub use cause::Cause;
 pub use cp0::{Cp0, TLB_ENTRIES};
 pub use exception::{Coprocessor, Exc};
-pub use register::Register;
+pub use register::SystemRegister;
 pub use status::Status;

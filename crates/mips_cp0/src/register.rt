@@ -4,7 +4,7 @@ ghost use Rattle.mips_cp0.specs.Access.{register_at};
 
 /// A system register (volume III, CP0 registers).
 #[derive(Clone, Copy, Debug, PartialEq, Eq)]
-pub enum Register {
+pub enum SystemRegister {
     Index,
     Random,
     EntryLo0,
@@ -25,30 +25,30 @@ pub enum Register {
     ErrorEpc,
 }
 
-impl Register {
+impl SystemRegister {
     /// The register of a number and a select, as MFC0 and MTC0 give them; None where there is none.
-    pub fn at(number: u32, select: u32) -> Option<Register>
+    pub fn at(number: u32, select: u32) -> Option<SystemRegister>
         ensures { result ≡ register_at number select }
     {
         match (number, select) {
-            (0, 0) => Some(Register::Index),
-            (1, 0) => Some(Register::Random),
-            (2, 0) => Some(Register::EntryLo0),
-            (3, 0) => Some(Register::EntryLo1),
-            (4, 0) => Some(Register::Context),
-            (5, 0) => Some(Register::PageMask),
-            (6, 0) => Some(Register::Wired),
-            (8, 0) => Some(Register::BadVAddr),
-            (9, 0) => Some(Register::Count),
-            (10, 0) => Some(Register::EntryHi),
-            (11, 0) => Some(Register::Compare),
-            (12, 0) => Some(Register::Status),
-            (13, 0) => Some(Register::Cause),
-            (14, 0) => Some(Register::Epc),
-            (15, 0) => Some(Register::PrId),
-            (16, 0) => Some(Register::Config),
-            (16, 1) => Some(Register::Config1),
-            (30, 0) => Some(Register::ErrorEpc),
+            (0, 0) => Some(SystemRegister::Index),
+            (1, 0) => Some(SystemRegister::Random),
+            (2, 0) => Some(SystemRegister::EntryLo0),
+            (3, 0) => Some(SystemRegister::EntryLo1),
+            (4, 0) => Some(SystemRegister::Context),
+            (5, 0) => Some(SystemRegister::PageMask),
+            (6, 0) => Some(SystemRegister::Wired),
+            (8, 0) => Some(SystemRegister::BadVAddr),
+            (9, 0) => Some(SystemRegister::Count),
+            (10, 0) => Some(SystemRegister::EntryHi),
+            (11, 0) => Some(SystemRegister::Compare),
+            (12, 0) => Some(SystemRegister::Status),
+            (13, 0) => Some(SystemRegister::Cause),
+            (14, 0) => Some(SystemRegister::Epc),
+            (15, 0) => Some(SystemRegister::PrId),
+            (16, 0) => Some(SystemRegister::Config),
+            (16, 1) => Some(SystemRegister::Config1),
+            (30, 0) => Some(SystemRegister::ErrorEpc),
             _ => None,
         }
     }

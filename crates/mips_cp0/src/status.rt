@@ -33,7 +33,8 @@ impl Flags for Status {
 
     ghost exact = { ⊤ };
 
-    ghost table = { (codes "IE", 0x1) ∷ (codes "EXL", 0x2) ∷ (codes "ERL", 0x4) ∷ (codes "UM", 0x10) ∷ (codes "IM", 0xff00) ∷ (codes "BEV", 0x400000) ∷ (codes "CU0", 0x10000000) ∷ [] };
+    ghost table = { (codes "IE", 0x1) ∷ (codes "EXL", 0x2) ∷ (codes "ERL", 0x4) ∷ (codes "UM", 0x10) ∷ (codes "IM", 0xff00) ∷ (codes "BEV", 0x400000)
+        ∷ (codes "CU0", 0x10000000) ∷ [] };
 
     ghost set_of = { λ s. s.0 };
 

@@ -1,7 +1,8 @@
 //! From an instruction to its word.
-ghost use Rattle.std.specs.Prelude.{◌≡◌, ◌∷◌, [], Some};
+ghost use Rattle.std.specs.Prelude.{◌≡◌, ℕ, ◌∷◌, []};
 ghost use Rattle.mips_instr.specs.Coprocessor.{coprocessor_word};
 ghost use Rattle.mips_isa.specs.Table.{readings};
+ghost use Rattle.mips_instr.specs.declared.instr.Instr.{Instr};
 ghost use Rattle.mips_instr.specs.declared.instr.Instr.TheVariants as instr;
 
 use crate::computing::{
@@ -16,11 +17,15 @@ use crate::immediates::{
     cache_word, coprocessor_bits, immediate_word, load_upper_word, load_word, store_word,
 };
 use crate::system::{cp0_move_word, eret_word, tlb_word, wait_word};
-use crate::{CoprocessorCode, CoprocessorOp, Instr, decode};
+use crate::{CoprocessorCode, CoprocessorOp, Instr};
 
-/// The word that encodes an instruction: its row, and no other, fits the word and means the instruction.
+/// The word that encodes an instruction: its row, and no other, fits the word and means the instruction. No other word
+/// encodes it.
+#[tactic(auto, using(crate::proofs::Words::one_word))]
 pub fn encode(instr: Instr) -> u32
-    ensures { readings result ≡ instr ∷ [] }
+    ensures reads { readings result ≡ instr ∷ [] }
+    // What decodes to the instruction is this word: a word that decodes encodes back to itself.
+    ensures only { (word : ℕ) → readings word ≡ instr ∷ [] → word ≡ result }
 {
     match instr {
         Instr::Register { op, rd, rs, rt } => register_word(op, rd, rs, rt),
@@ -70,12 +75,11 @@ pub fn encode(instr: Instr) -> u32
     }
 }
 
-/// A law: the word of an instruction decodes to the instruction.
-pub fn encoded_word_decodes(instr: Instr) -> Option<Instr>
-    ensures { result ≡ Some instr }
-{
-    decode(encode(instr))
-}
+/// A law: no two words encode one instruction.
+#[tactic(auto, using(crate::proofs::Words::one_word))]
+pub fn one_word_encodes_an_instruction()
+    ensures { (a b : ℕ) (i : Instr) → readings a ≡ i ∷ [] → readings b ≡ i ∷ [] → a ≡ b }
+{}
 
 /// A law: the word by which an instruction of coprocessor 1 or 2 is written, its opcode and 26 bits, encodes it.
 pub fn written_word_encodes(op: CoprocessorOp, code: CoprocessorCode)

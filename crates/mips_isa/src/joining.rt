@@ -39,7 +39,8 @@ pub fn join_imm(op: u32, rs: Reg, rt: u32, imm: u16) -> u32
 pub fn join_index(op: u32, index: u32) -> u32
     requires op { op < 64 }
     requires index { index < 2 ^ 26 }
-    ensures fields { fields result ≡ record { op = op; rs = index / 2 ^ 21; rt = index / 2 ^ 16 % 32; rd = index / 2 ^ 11 % 32; sa = index / 2 ^ 6 % 32; fn = index % 64 } }
+    ensures fields { fields result
+        ≡ record { op = op; rs = index / 2 ^ 21; rt = index / 2 ^ 16 % 32; rd = index / 2 ^ 11 % 32; sa = index / 2 ^ 6 % 32; fn = index % 64 } }
     ensures sum { result ≡ op * 2 ^ 26 + index }
 {
     op * 0x400_0000 + index

@@ -2,9 +2,11 @@
 //! instruction.
 //!
 //! The table of rows stands in `specs/Table.antt`. The crates above use `decode` (`Some` of an instruction exactly
-//! where one row fits the word, `None` exactly where none does) and `encode`, its inverse. The laws `fits_one_row_at_most`
-//! and `encoded_word_decodes` say that the rows are apart and that encoding loses nothing. The instructions themselves, where
-//! they lead and how they are written are those of `mips_instr`, whose types and calls are named here too.
+//! where one row fits the word, `None` exactly where none does) and `encode`, its inverse: by the contract of `decode` and
+//! the two clauses of `encode`, `reads` and `only`, the word that `encode` answers decodes to the instruction, and a word
+//! that decodes is the one that `encode` answers for its instruction. The laws `fits_one_row_at_most` and
+//! `one_word_encodes_an_instruction` say that the rows are apart and that decoding loses nothing. The instructions themselves,
+//! where they lead and how they are written are those of `mips_instr`, whose types and calls are named here too.
 #![tactic(auto)]
 
 mod computing;

@@ -2,9 +2,9 @@ pub mod Accesses
 pub mod Agreeing
 pub mod Answer
 pub mod Bus
-pub mod Effect
 pub mod Given
 pub mod Meaning
+pub mod Operations
 pub mod Places
 pub mod Poking
 pub mod Processor

@@ -1,7 +1,7 @@
 -- What a debugger's write of a register does.
 use Rattle.std.specs.Prelude.{ℕ, ◌==◌, nat_lt, if◌then◌else◌, None}
 use Rattle.mips_cp0.specs.Access.{register_written}
-use Rattle.mips_cp0.specs.declared.register.Register.TheVariants.{Status, Cause}
+use Rattle.mips_cp0.specs.declared.register.SystemRegister.TheVariants.{Status, Cause}
 use Rattle.mips_step.specs.Processor.{Processor, with_reg}
 
 -- by the register's number: 0 to 31 are the general registers, of which register 0 stays; then Status and Cause, of which

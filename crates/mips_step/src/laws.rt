@@ -1,14 +1,33 @@
 //! Laws of the definitions.
-ghost use Rattle.std.specs.Prelude.{◌≡◌, ◌⊎◌, ℕ, Bool, false, IsTrue, All, length, Some, None};
+ghost use Rattle.std.specs.Prelude.{◌≡◌, ◌⊎◌, ℕ, Bool, false, IsTrue, All, length, Some, None, option_to_list};
+ghost use Rattle.mips_isa.specs.Memory.{touches_memory};
+ghost use Rattle.mips_isa.specs.Table.{readings};
+ghost use Rattle.mips_instr.specs.declared.instr.Instr.{Instr};
 ghost use Rattle.mips_tlb.specs.declared.kind.Kind.{Kind};
 ghost use Rattle.mips_step.specs.Processor.{Processor};
 ghost use Rattle.mips_step.specs.World.{World, page_bytes, is_given_page};
 ghost use Rattle.mips_step.specs.Bus.{Lacks};
+ghost use Rattle.mips_step.specs.Operations.{is_load_or_store, operation_of, instruction_of};
 ghost use Rattle.mips_step.specs.Step.{Machine, in_world, step};
 ghost use Rattle.mips_step.specs.Accesses.{accesses, first_lack};
 ghost use Rattle.mips_step.specs.Agreeing.{Agree, Within, StoresTo, GivenAreZeros};
 ghost use Rattle.mips_step.specs.Given.{balloon_order, pages_taken, ordered, AccessesPage, TakesPage, GivesPage};
 ghost use Rattle.mips_step.specs.Given.BalloonOrder.{Give, Take};
+
+use mips_isa::decode;
+
+/// A law: the readings of a word are the instruction that it encodes, or none. So no word has a second reading.
+#[tactic(auto, using(crate::proofs::Operations::first_reading))]
+pub fn words_have_no_second_reading(word: u32)
+    ensures { readings word ≡ option_to_list (instruction_of word) }
+{
+    let _ = decode(word);
+}
+
+/// A law: an instruction touches memory exactly where its operation is a load or a store.
+pub fn loads_and_stores_touch_memory()
+    ensures { (i : Instr) → touches_memory i ≡ is_load_or_store (operation_of i) }
+{}
 
 /// A law: in two worlds that agree on the pages that a step accesses in one of them, the step accesses the same pages and
 /// leads to the same processor, and the worlds after it agree on the same pages as before.

@@ -47,5 +47,6 @@ pub fn written_word_reads_back()
 /// A law: a write leaves each word that shares no byte with it.
 #[tactic(auto, using(crate::proofs::Written::word_in_with_other))]
 pub fn other_words_stay()
-    ensures { (bytes : List ℕ) (i j word : ℕ) → i + 4 ≤ length bytes → j + 4 ≤ length bytes → (i + 4 ≤ j) ⊎ (j + 4 ≤ i) → word_in (with_word bytes i word) j ≡ word_in bytes j }
+    ensures { (bytes : List ℕ) (i j word : ℕ) → i + 4 ≤ length bytes → j + 4 ≤ length bytes → (i + 4 ≤ j) ⊎ (j + 4 ≤ i)
+        → word_in (with_word bytes i word) j ≡ word_in bytes j }
 {}

@@ -4,7 +4,7 @@ ghost use Rattle.mips_step.specs.Poking.{poked};
 
 use super::Cpu;
 use items::DebugRegister;
-use mips_cp0::Register;
+use mips_cp0::SystemRegister;
 
 impl Cpu {
     /// A debugger's write of a register. Register 0 and BadVAddr stay; of Status and Cause the bits are written that MTC0
@@ -14,10 +14,10 @@ impl Cpu {
     {
         match register.number() {
             0 | 35 => {}
-            32 => self.cp0.set_value(Register::Status, value),
+            32 => self.cp0.set_value(SystemRegister::Status, value),
             33 => self.lo = value,
             34 => self.hi = value,
-            36 => self.cp0.set_value(Register::Cause, value),
+            36 => self.cp0.set_value(SystemRegister::Cause, value),
             37 => {
                 self.pc = value;
                 self.slot = None;

@@ -1,7 +1,7 @@
 //! The instructions on HI and LO, LLbit, the system registers and the TLB.
 ghost use Rattle.std.specs.Prelude.{◌≡◌};
 ghost use Rattle.mips_cp0.specs.Status.{is_usable};
-ghost use Rattle.mips_step.specs.Effect.{moved_from, moved_to, with_hi_lo, cp0_moved, tlb_done, exception_returned};
+ghost use Rattle.mips_step.specs.Operations.{moved_from, moved_to, with_hi_lo, cp0_moved, tlb_done, exception_returned};
 
 use super::Cpu;
 use mips_alu::HiLo;

@@ -1,7 +1,7 @@
 //! Steps over a bus that may lack a page: what a step needs is answered, and nothing has changed; and steps at a register.
 use super::expect;
 use super::sparse::Sparse;
-use mips_cp0::Register;
+use mips_cp0::SystemRegister;
 use mips_isa::Reg;
 use mips_step::{Cpu, Ppn, StepOut, Why};
 use std::process::Abort;
@@ -102,7 +102,11 @@ static SLOT_WORDS: [(u32, u32); 3] = [(0, 0x1000_0001), (4, 0x8c22_1000), (0x100
 /// The target of the delay slot, Count and Random.
 fn counters(cpu: &Cpu) -> (Option<u32>, u32, u32) {
     let cp0 = cpu.cp0();
-    (cpu.slot(), cp0.value(Register::Count, 0), cp0.random())
+    (
+        cpu.slot(),
+        cp0.value(SystemRegister::Count, 0),
+        cp0.random(),
+    )
 }
 
 /// With the fetch's page absent, nothing that a step counts has changed.
