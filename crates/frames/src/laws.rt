@@ -21,8 +21,10 @@ pub fn counted_where_it_stands()
 /// A law: a number that is replaced or removed is lost, and the number in its place is gained; the order doesn't count.
 #[tactic(auto, using(crate::proofs::Counting::count_set, crate::proofs::Counting::count_remove, crate::proofs::Counting::count_permutation))]
 pub fn changes_are_counted()
-    ensures replaced { (k : ℕ) (xs : List ℕ) (i n : ℕ) → i < length xs → count_of k (slice_set xs i n) + one_at k (slice_index xs i) ≡ count_of k xs + one_at k n }
-    ensures removed { (k : ℕ) (xs : List ℕ) (i : ℕ) → i < length xs → count_of k (remove xs i) + one_at k (slice_index xs i) ≡ count_of k xs }
+    ensures replaced { (k : ℕ) (xs : List ℕ) (i n : ℕ) → i < length xs →
+        count_of k (slice_set xs i n) + one_at k (slice_index xs i) ≡ count_of k xs + one_at k n }
+    ensures removed { (k : ℕ) (xs : List ℕ) (i : ℕ) → i < length xs →
+        count_of k (remove xs i) + one_at k (slice_index xs i) ≡ count_of k xs }
     ensures order { (k : ℕ) (first second : List ℕ) → IsPermutation first second → count_of k first ≡ count_of k second }
 {}
 

@@ -1,5 +1,5 @@
 -- What is seen of a log.
-use Rattle.std.specs.Prelude.{ℕ, ◌<◌, ◌≤◌, ◌^◌, ◌⊎◌, List, length}
+use Rattle.std.specs.Prelude.{◌≡◌, ℕ, ◌+◌, ◌<◌, ◌≤◌, ◌^◌, ◌⊎◌, List, length, max}
 use Rattle.items.specs.declared.item.Item.{Item}
 use Rattle.guest_log.specs.Runs.{run_count}
 
@@ -27,3 +27,10 @@ pub record HasItemRoom (log : LogIs) : Type 0 where
 -- the log has its greatest number of runs, or 2^62 items
 abbrev pub IsFull : LogIs → Type 0
 IsFull log = (log.limit ≤ run_count log.items) ⊎ (2 ^ 62 ≤ length log.items)
+
+-- a log stays, but for its room, which doesn't shrink and becomes at most that for as many more runs as there are, and 16
+pub record TakesRoom (log log' : LogIs) : Type 0 where
+  pub items : log'.items ≡ log.items
+  pub limit : log'.limit ≡ log.limit
+  pub kept : log.room ≤ log'.room
+  pub bounded : log'.room ≤ max log.room (run_count log.items + 16)

@@ -1,8 +1,8 @@
 //! The log.
-ghost use Rattle.std.specs.Prelude.{◌≡◌, ◌==◌, ◌<◌, ◌≤◌, ◌^◌, ◌↔◌, [], ◌∷◌, ◌++◌, false, length, All, OnOk, IsErrOf, IfSome, IsTrue, option_to_list};
+ghost use Rattle.std.specs.Prelude.{◌≡◌, ◌==◌, ◌<◌, ◌≤◌, ◌^◌, ◌↔◌, [], ◌∷◌, ◌++◌, false, length, All, OnOk, OnErr, Err, IsErrOf, IfSome, IsTrue, option_to_list};
 ghost use Rattle.items.specs.Items.{is_step};
 ghost use Rattle.items.specs.Entries.{step_by, items_of};
-ghost use Rattle.guest_log.specs.Logs.{LogIs, HasRoom, HasItemRoom, IsFull};
+ghost use Rattle.guest_log.specs.Logs.{LogIs, HasRoom, HasItemRoom, IsFull, TakesRoom};
 ghost use Rattle.guest_log.specs.Runs.{run_count, last_run, IsStored};
 
 use crate::Stop;
@@ -10,6 +10,9 @@ use crate::run::Run;
 use items::{Entry, Item, SeatNo};
 use std::alloc::Global;
 use std::marker::Model;
+
+/// Where more room is asked for, it is for as many runs as there are, and so many more.
+const SPARE_RUNS: usize = 16;
 
 /// What happened to a guest: in clauses a list of items, with the room and the limit of the log. Neighbouring steps of one
 /// seat are one run, so a step by the seat of the last run takes no room. Any other item is a run by itself.
@@ -62,6 +65,7 @@ impl Log {
         ensures limit { self.now.limit < 2 ^ 32 }
         ensures items { length self.now.items ≤ 2 ^ 62 }
     {
+        // The law follows from the invariant, which is known once the value is read.
         let _limit = self.limit;
     }
 
@@ -85,6 +89,7 @@ impl Log {
         ensures fewest { result ≡ run_count self.now.items }
         ensures within { result ≤ self.now.limit }
     {
+        // That the limit fits its type says that the runs do.
         let _limit = self.limit;
         self.earlier.len() as u32 + if self.last.steps == 0 { 0 } else { 1 }
     }
@@ -97,7 +102,36 @@ impl Log {
         self.runs() >= self.limit || self.len() >= 1 << 62
     }
 
-    /// Makes room for one more step, whichever seat it is of. The log stays.
+    /// Makes room for so many more entries; where there is less, for many at once, so that the requests are few.
+    #[inline]
+    fn reserve(&mut self, entries: usize) -> Result<(), Stop>
+        requires { entries ≤ 16 }
+        ensures room { OnOk result (entries ≤ self.new.room) }
+        ensures error { OnErr result (result ≡ Err Stop.Memory) }
+        ensures taken { TakesRoom self.old self.new }
+    {
+        if self.earlier.capacity() - self.earlier.len() >= entries {
+            return Ok(());
+        }
+        self.grow()
+    }
+
+    // Requests for memory are rare: they stand apart, so that the room of a step is one comparison.
+    #[cold]
+    #[inline(never)]
+    fn grow(&mut self) -> Result<(), Stop>
+        ensures room { OnOk result (16 ≤ self.new.room) }
+        ensures error { OnErr result (result ≡ Err Stop.Memory) }
+        ensures taken { TakesRoom self.old self.new }
+    {
+        match self.earlier.reserve_exact(self.earlier.len() + SPARE_RUNS) {
+            Ok(()) => Ok(()),
+            Err(_) => Err(Stop::Memory),
+        }
+    }
+
+    /// Makes room for one more step, whichever seat it is of. The log stays, and the room becomes at most that for as many more
+    /// runs as there are, and 16.
     ///
     /// It answers `LogFull` exactly where the log has its greatest number of runs or 2^62 items, and `Memory` only where a
     /// request for memory was refused.
@@ -105,16 +139,12 @@ impl Log {
     pub fn make_room(&mut self) -> Result<(), Stop>
         ensures room { OnOk result (HasRoom self.new) }
         ensures full { IsErrOf result Stop.LogFull ↔ IsFull self.old }
-        ensures items { self.new.items ≡ self.old.items }
-        ensures limit { self.new.limit ≡ self.old.limit }
+        ensures taken { TakesRoom self.old self.new }
     {
         if self.is_full() {
             return Err(Stop::LogFull);
         }
-        match self.earlier.reserve(1) {
-            Ok(()) => Ok(()),
-            Err(_) => Err(Stop::Memory),
-        }
+        self.reserve(1)
     }
 
     /// Adds a step of a seat. It takes no memory.
@@ -133,23 +163,19 @@ impl Log {
         }
     }
 
-    /// Makes room for one more item, whichever it is. The log stays.
+    /// Makes room for one more item, whichever it is. The log stays, and the room becomes at most as `make_room` makes it.
     ///
     /// It answers `LogFull` exactly where the log has its greatest number of runs or 2^62 items, and `Memory` only where a
     /// request for memory was refused.
     pub fn make_item_room(&mut self) -> Result<(), Stop>
         ensures room { OnOk result (HasItemRoom self.new) }
         ensures full { IsErrOf result Stop.LogFull ↔ IsFull self.old }
-        ensures items { self.new.items ≡ self.old.items }
-        ensures limit { self.new.limit ≡ self.old.limit }
+        ensures taken { TakesRoom self.old self.new }
     {
         if self.is_full() {
             return Err(Stop::LogFull);
         }
-        match self.earlier.reserve(2) {
-            Ok(()) => Ok(()),
-            Err(_) => Err(Stop::Memory),
-        }
+        self.reserve(2)
     }
 
     /// Adds an item that is no step. It takes no memory.

@@ -15,7 +15,8 @@ ghost use Rattle.logfile.specs.Runs.{written_entries, file_entries};
 /// of the first of them.
 pub fn items_are_read_in_one_way()
     ensures one { (xs ys : List Entry) → All IsFileEntry xs → All IsFileEntry ys → body_bytes xs ≡ body_bytes ys → xs ≡ ys }
-    ensures first { (xs ys : List Entry) (rest : List ℕ) → All IsFileEntry xs → All IsFileEntry ys → body_bytes xs ≡ body_bytes ys ++ rest → ys ≡ take (length ys) xs }
+    ensures first { (xs ys : List Entry) (rest : List ℕ) → All IsFileEntry xs → All IsFileEntry ys → body_bytes xs ≡ body_bytes ys ++ rest
+        → ys ≡ take (length ys) xs }
 {}
 
 /// A law: the entries of the file of a log have the items of its entries, in order.
@@ -41,12 +42,14 @@ pub fn log_file_has_no_fault()
 /// A law: the entries that are read from the file that was written for a log have its items, in order.
 pub fn written_log_reads_back()
     ensures entries { (file digest : List ℕ) (pages : ℕ) (es back : List Entry) → StandsFor file pages digest es → HasEntries file back → back ≡ es }
-    ensures items { (file d : List ℕ) (n : ℕ) (es back : List Entry) → StandsFor file n d (file_entries es) → HasEntries file back → items_of back ≡ items_of es }
+    ensures items { (file d : List ℕ) (n : ℕ) (es back : List Entry) → StandsFor file n d (file_entries es) → HasEntries file back
+        → items_of back ≡ items_of es }
 {}
 
 /// Worked items of seat 0: three steps, `A` on the console, and two steps.
 #[tactic(auto, unfolding(crate::specs::FileItems::entry_bytes))]
 pub fn items_worked_out()
     ensures steps { body_bytes (Steps 0 3 ∷ []) ≡ 0x01 ∷ 0x00 ∷ 0x03 ∷ 0x00 ∷ 0x00 ∷ 0x00 ∷ [] }
-    ensures input { body_bytes (One (record { seat = 0; what = In 0x41 }) ∷ Steps 0 2 ∷ []) ≡ 0x02 ∷ 0x00 ∷ 0x41 ∷ 0x01 ∷ 0x00 ∷ 0x02 ∷ 0x00 ∷ 0x00 ∷ 0x00 ∷ [] }
+    ensures input { body_bytes (One (record { seat = 0; what = In 0x41 }) ∷ Steps 0 2 ∷ []) ≡ 0x02 ∷ 0x00 ∷ 0x41 ∷ 0x01 ∷ 0x00 ∷ 0x02 ∷ 0x00 ∷ 0x00
+        ∷ 0x00 ∷ [] }
 {}

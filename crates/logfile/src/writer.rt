@@ -123,7 +123,9 @@ pub fn write(
 /// An error says that a request for memory was refused; a beginning of the entry may stand in the file then.
 pub fn append(file: &mut Vec<u8>, entry: &Entry) -> Result<(), AllocError>
     requires { HasItems entry.now }
-    ensures { OnOk result ((pages : ℕ) (digest : List ℕ) (entries : List Entry) → let longer = entries ++ entry.now ∷ [] in StandsFor file.old.items pages digest (file_entries entries) → StandsFor file.new.items pages digest (file_entries longer)) }
+    ensures { OnOk result ((pages : ℕ) (digest : List ℕ) (entries : List Entry)
+        → let longer = entries ++ entry.now ∷ [] in StandsFor file.old.items pages digest (file_entries entries)
+        → StandsFor file.new.items pages digest (file_entries longer)) }
 {
     write_entry(file, entry)
 }

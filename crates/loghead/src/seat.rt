@@ -21,7 +21,8 @@ impl Model for Seat {
 
     ghost Value = { SeatIs };
 
-    ghost view = { λ s. record { head = s.token.table_id; number = s.token.me.0.first.number; saw = s.token.me.0.first.saw; made = s.token.me.0.first.made } };
+    ghost view = { λ s.
+        record { head = s.token.table_id; number = s.token.me.0.first.number; saw = s.token.me.0.first.saw; made = s.token.me.0.first.made } };
 
     ghost invariant = { λ s. (s.number ≡ s.token.me.0.first.number) × (s.seen ≡ length s.token.me.0.first.saw) × (s.token.me.0.first.present ≡ true) };
 }

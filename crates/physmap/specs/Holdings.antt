@@ -1,9 +1,10 @@
 -- What the pages of a guest hold: how many frames, tickets and slots, of each number and of all numbers.
-use Rattle.std.specs.Prelude.{◌≡◌, ℕ, ◌+◌, ◌<◌, List, length, slice_set, sum_by}
+use Rattle.std.specs.Prelude.{◌≡◌, ℕ, ◌+◌, ◌<◌, ◌^◌, List, length, slice_set, sum_by}
+use Rattle.std.specs.List.{All}
 use Rattle.frames.specs.Counts.{one_at}
 use Rattle.physmap.specs.declared.page.Page.{Page}
 use Rattle.physmap.specs.declared.page.Page.TheVariants.{Private, Shared, Swapped}
-use Rattle.physmap.specs.Pages.{page_at}
+use Rattle.physmap.specs.Pages.{page_at, AreWhole, HasOwnTicket}
 
 -- how many frames of number k a page has for its own
 abbrev pub frame_in : ℕ → Page → ℕ
@@ -61,4 +62,14 @@ resident_pages pages = private_pages pages + shared_pages pages
 -- of a page that is replaced, what is counted of it is lost, and what is counted of the new one is gained
 abbrev pub IsExchanged : (Page → ℕ) → Type 0
 IsExchanged count =
-    (pages : List Page) (p : ℕ) (page : Page) → p < length pages → sum_by count (slice_set pages p page) + count (page_at pages p) ≡ sum_by count pages + count page
+    (pages : List Page) (p : ℕ) (page : Page) → p < length pages →
+    sum_by count (slice_set pages p page) + count (page_at pages p) ≡ sum_by count pages + count page
+
+-- the pages of a map, and how many of them are private, shared and swapped
+pub record AreCounted (pages : List Page) (private shared swapped : ℕ) : Type 0 where
+  pub whole : AreWhole pages
+  pub tickets : All HasOwnTicket pages
+  pub few : length pages < 2 ^ 32
+  pub in_own_frames : private ≡ private_pages pages
+  pub in_shared_frames : shared ≡ shared_pages pages
+  pub in_slots : swapped ≡ swapped_pages pages

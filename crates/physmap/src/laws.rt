@@ -3,7 +3,8 @@ ghost use Rattle.std.specs.Prelude.{◌≡◌, ℕ, ◌+◌, ◌*◌, ◌/◌, �
 ghost use Rattle.word32.specs.Pages.{page_number, page_offset};
 ghost use Rattle.word32.specs.Words.{patched, half_in, with_half, word_in, with_word};
 ghost use Rattle.physmap.specs.declared.page.Page.{Page};
-ghost use Rattle.physmap.specs.Pages.{page_at, kind_of, kinds_of, kind_at, shown, memory_of, page_part, AreWhole, HasOwnTicket, ticket_of, slot_of, digest_of};
+ghost use Rattle.physmap.specs.Pages.{page_at, kind_of, kinds_of, kind_at, shown, memory_of, page_part};
+ghost use Rattle.physmap.specs.Pages.{AreWhole, HasOwnTicket, ticket_of, slot_of, digest_of};
 ghost use Rattle.physmap.specs.Holdings.{IsExchanged, frame_in, ticket_in, slot_in, frames_held, tickets_held, slots_held};
 ghost use Rattle.physmap.specs.Holdings.{one_private, one_shared, one_swapped, private_pages, shared_pages, swapped_pages};
 ghost use Rattle.physmap.specs.Outline.{outlined, outline};
@@ -27,7 +28,8 @@ impl PhysMap {
 pub fn memory_is_its_pages()
     ensures length { (pages : List Page) → AreWhole pages → length (memory_of pages) ≡ length pages * 4096 }
     ensures page { (pages : List Page) (p : ℕ) → AreWhole pages → p < length pages → page_part p (memory_of pages) ≡ shown (page_at pages p) }
-    ensures replaced { (ps : List Page) (p : ℕ) (new : Page) → AreWhole ps → p < length ps → memory_of (slice_set ps p new) ≡ patched (memory_of ps) (p * 4096) (shown new) 4096 }
+    ensures replaced { (pages : List Page) (p : ℕ) (new : Page) → AreWhole pages → p < length pages →
+        memory_of (slice_set pages p new) ≡ patched (memory_of pages) (p * 4096) (shown new) 4096 }
 {}
 
 /// A law: a page that is replaced is the new one, and each other page stays where it is with what it holds.
@@ -42,17 +44,22 @@ pub fn one_page_is_replaced()
 /// A law: a read at an address that is a multiple of its size reads the page of the address alone.
 #[tactic(auto, using(crate::proofs::Memory::byte_read, crate::proofs::Memory::half_read, crate::proofs::Memory::word_read))]
 pub fn a_read_is_of_one_page()
-    ensures byte { (ps : List Page) (at : ℕ) → AreWhole ps → at < length ps * 4096 → slice_index (memory_of ps) at ≡ slice_index (shown (page_at ps (at / 4096))) (at % 4096) }
-    ensures half { (ps : List Page) (at : ℕ) → AreWhole ps → at < length ps * 4096 → at % 2 ≡ 0 → half_in (memory_of ps) at ≡ half_in (shown (page_at ps (at / 4096))) (at % 4096) }
-    ensures word { (ps : List Page) (at : ℕ) → AreWhole ps → at < length ps * 4096 → at % 4 ≡ 0 → word_in (memory_of ps) at ≡ word_in (shown (page_at ps (at / 4096))) (at % 4096) }
+    ensures byte { (pages : List Page) (at : ℕ) → AreWhole pages → at < length pages * 4096 →
+        slice_index (memory_of pages) at ≡ slice_index (shown (page_at pages (at / 4096))) (at % 4096) }
+    ensures half { (pages : List Page) (at : ℕ) → AreWhole pages → at < length pages * 4096 → at % 2 ≡ 0 →
+        half_in (memory_of pages) at ≡ half_in (shown (page_at pages (at / 4096))) (at % 4096) }
+    ensures word { (pages : List Page) (at : ℕ) → AreWhole pages → at < length pages * 4096 → at % 4 ≡ 0 →
+        word_in (memory_of pages) at ≡ word_in (shown (page_at pages (at / 4096))) (at % 4096) }
 {}
 
 /// A law: a write at an address that is a multiple of its size leaves the bytes of every other page.
 #[tactic(auto, using(crate::proofs::OtherPages::byte_leaves_others, crate::proofs::OtherPages::half_leaves_others, crate::proofs::OtherPages::word_leaves_others))]
 pub fn a_write_leaves_other_pages()
     ensures byte { (memory : List ℕ) (at byte p : ℕ) → (p ≡ page_number at → ⊥) → page_part p (slice_set memory at byte) ≡ page_part p memory }
-    ensures half { (memory : List ℕ) (at half p : ℕ) → at ≤ length memory → at % 2 ≡ 0 → (p ≡ page_number at → ⊥) → page_part p (with_half memory at half) ≡ page_part p memory }
-    ensures word { (memory : List ℕ) (at word p : ℕ) → at ≤ length memory → at % 4 ≡ 0 → (p ≡ page_number at → ⊥) → page_part p (with_word memory at word) ≡ page_part p memory }
+    ensures half { (memory : List ℕ) (at half p : ℕ) → at ≤ length memory → at % 2 ≡ 0 → (p ≡ page_number at → ⊥) →
+        page_part p (with_half memory at half) ≡ page_part p memory }
+    ensures word { (memory : List ℕ) (at word p : ℕ) → at ≤ length memory → at % 4 ≡ 0 → (p ≡ page_number at → ⊥) →
+        page_part p (with_word memory at word) ≡ page_part p memory }
 {}
 
 /// A law: of a page that is replaced, what it held is lost, and what the new one holds is gained.
@@ -98,5 +105,6 @@ pub fn outline_tells_what_pages_hold()
 /// A law: outline and memory together are the pages.
 #[tactic(auto, using(crate::proofs::Same::same_pages))]
 pub fn outline_and_memory_are_the_pages()
-    ensures { (ones others : List Page) → AreWhole ones → AreWhole others → outline ones ≡ outline others → memory_of ones ≡ memory_of others → ones ≡ others }
+    ensures { (ones others : List Page) → AreWhole ones → AreWhole others →
+        outline ones ≡ outline others → memory_of ones ≡ memory_of others → ones ≡ others }
 {}

@@ -18,17 +18,15 @@ pub struct PhysMap {
 }
 
 impl Model for PhysMap {
-    ghost use Rattle.std.specs.Prelude.{◌≡◌, ◌<◌, ◌^◌, List, length};
-    ghost use Rattle.std.specs.List.{All};
+    ghost use Rattle.std.specs.Prelude.{List};
     ghost use Rattle.physmap.specs.declared.page.Page.{Page};
-    ghost use Rattle.physmap.specs.Pages.{AreWhole, HasOwnTicket};
-    ghost use Rattle.physmap.specs.Holdings.{private_pages, shared_pages, swapped_pages};
+    ghost use Rattle.physmap.specs.Holdings.{AreCounted};
 
     ghost Value = { List Page };
 
     ghost view = { λ m. m.pages.items };
 
-    ghost invariant = { λ m. AreWhole m.pages.items × All HasOwnTicket m.pages.items × (length m.pages.items < 2 ^ 32) × (m.counts.private ≡ private_pages m.pages.items) × (m.counts.shared ≡ shared_pages m.pages.items) × (m.counts.swapped ≡ swapped_pages m.pages.items) };
+    ghost invariant = { λ m. AreCounted m.pages.items m.counts.private m.counts.shared m.counts.swapped };
 }
 
 impl PhysMap {

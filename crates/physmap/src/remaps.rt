@@ -7,7 +7,8 @@ ghost use Rattle.sha2.specs.Sha256.{sha256};
 ghost use Rattle.sharetab.specs.Books.{Admits};
 ghost use Rattle.sharetab.specs.Entries.{entry_at, HasDigest};
 ghost use Rattle.physmap.specs.declared.page.PageKind.{PageKind};
-ghost use Rattle.physmap.specs.Pages.{page_at, kind_at, is_resident, shown, memory_of, slot_of, digest_of, ticket_of, handed_back, own_frame, page_of_entry, HasOwnTicket};
+ghost use Rattle.physmap.specs.Pages.{page_at, kind_at, is_resident, shown, memory_of, HasOwnTicket};
+ghost use Rattle.physmap.specs.Pages.{own_frame, slot_of, digest_of, ticket_of, handed_back, page_of_entry};
 
 use crate::{Page, PhysMap, Returned};
 use frames::{Frame, SharePage, ShareTicket, SlotTicket};

@@ -30,8 +30,10 @@ pub fn guests_are_asked_for_what_they_owe()
 /// A law: where pages are swapped out, each guest is left its target. So six of each hundred frames come free, or each guest
 /// has no more than its minimum.
 pub fn swapping_out_leaves_the_targets()
-    ensures left { (level : Level) (tax total : ℕ) (stats : List Stat) → tax < 100 → IsSwapping level → left_of stats (actions_of level tax total stats) ≡ targets_of tax total stats }
-    ensures low { (level : Level) (tax total : ℕ) (stats : List Stat) → tax < 100 → IsSwapping level → AreLow total stats (left_of stats (actions_of level tax total stats)) }
+    ensures left { (level : Level) (tax total : ℕ) (stats : List Stat) → tax < 100 → IsSwapping level →
+        left_of stats (actions_of level tax total stats) ≡ targets_of tax total stats }
+    ensures low { (level : Level) (tax total : ℕ) (stats : List Stat) → tax < 100 → IsSwapping level →
+        AreLow total stats (left_of stats (actions_of level tax total stats)) }
 {
     targets_fill_the_frames();
 }

@@ -1,5 +1,6 @@
 //! The entries of a table of shared frames.
-ghost use Rattle.std.specs.Prelude.{◌≡◌, ℕ, ◌+◌, ◌<◌, ◌^◌, ◌↔◌, List, Option, Some, None, IfOk, OnErr, IfSome, IfNone, IsSome, IsTrue, length, replicate, slice_set};
+ghost use Rattle.std.specs.Prelude.{◌≡◌, ℕ, ◌+◌, ◌<◌, ◌^◌, ◌↔◌, List, Option, Some, None, length, replicate, slice_set};
+ghost use Rattle.std.specs.Prelude.{IfOk, OnErr, IfSome, IfNone, IsSome, IsTrue};
 ghost use Rattle.frames.specs.Frames.{FrameIs, SharedIs};
 ghost use Rattle.sharetab.specs.Entries.{entry_at, count_at, entry_count, ticket_count, HasBytes, AllFit};
 ghost use Rattle.sharetab.specs.Books.{Joins, Leaves};

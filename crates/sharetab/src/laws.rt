@@ -11,8 +11,10 @@ ghost use Rattle.sharetab.specs.declared.guest_page.GuestPage.{GuestPage};
 /// A law: what `admit` puts in is the frame's number and one ticket of it; the other entries keep their bytes.
 #[tactic(auto, using(crate::proofs::Books::admit_frames, crate::proofs::Books::admit_tickets, crate::proofs::Books::admit_entries, crate::proofs::Books::admit_all_tickets, crate::proofs::Books::admit_bytes, crate::proofs::Books::admit_places))]
 pub fn admit_puts_a_frame_in()
-    ensures frames { (k : ℕ) (old new : EntriesAre) (frame : FrameIs) → Admits old frame new → frames_shared k new ≡ frames_shared k old + one_at k frame.number }
-    ensures tickets { (k : ℕ) (old new : EntriesAre) (frame : FrameIs) → Admits old frame new → count_at new k ≡ count_at old k + one_at k frame.number }
+    ensures frames { (k : ℕ) (old new : EntriesAre) (frame : FrameIs) → Admits old frame new →
+        frames_shared k new ≡ frames_shared k old + one_at k frame.number }
+    ensures tickets { (k : ℕ) (old new : EntriesAre) (frame : FrameIs) → Admits old frame new →
+        count_at new k ≡ count_at old k + one_at k frame.number }
     ensures entries { (old new : EntriesAre) (frame : FrameIs) → Admits old frame new → entry_count new ≡ entry_count old + 1 }
     ensures all_tickets { (old new : EntriesAre) (frame : FrameIs) → Admits old frame new → ticket_count new ≡ ticket_count old + 1 }
     ensures bytes { (old new : EntriesAre) (frame : FrameIs) → Admits old frame new → KeepBytes old new }
@@ -34,7 +36,8 @@ pub fn join_gives_a_ticket()
 /// of which a ticket is still out keeps its bytes.
 #[tactic(auto, using(crate::proofs::Books::leave_frames, crate::proofs::Books::leave_tickets, crate::proofs::Books::leave_entries, crate::proofs::Books::leave_all_tickets, crate::proofs::Books::leave_bytes, crate::proofs::Books::leave_places))]
 pub fn leave_takes_a_ticket()
-    ensures frames { (k place : ℕ) (old new : EntriesAre) → Leaves old place new → frames_shared k new + count_of k (freed_at old place) ≡ frames_shared k old }
+    ensures frames { (k place : ℕ) (old new : EntriesAre) → Leaves old place new →
+        frames_shared k new + count_of k (freed_at old place) ≡ frames_shared k old }
     ensures tickets { (k place : ℕ) (old new : EntriesAre) → Leaves old place new → count_at new k + one_at k place ≡ count_at old k }
     ensures entries { (place : ℕ) (old new : EntriesAre) → Leaves old place new → entry_count new + length (freed_at old place) ≡ entry_count old }
     ensures all_tickets { (place : ℕ) (old new : EntriesAre) → Leaves old place new → ticket_count new + 1 ≡ ticket_count old }

@@ -30,7 +30,8 @@ impl Model for SlotBook {
 
     ghost view = { λ b. record { free = map number_of (heap_items b.free); out = b.used } };
 
-    ghost invariant = { λ b. (heap_len b.free + b.used ≤ heap_capacity b.free) × (heap_len b.free + b.used < 2 ^ 32) × IsHeap lowest_first (heap_items b.free) };
+    ghost invariant = { λ b. (heap_len b.free + b.used ≤ heap_capacity b.free) × (heap_len b.free + b.used < 2 ^ 32)
+        × IsHeap lowest_first (heap_items b.free) };
 }
 
 impl SlotBook {

@@ -4,7 +4,8 @@ use Rattle.std.proofs.Common.{lit<, lit≤}
 use Rattle.taxpolicy.specs.declared.stat.Stat.{Stat}
 
 abbrev pub worked_guest : (shares resident active : ℕ) → active ≤ 100 → Stat
-worked_guest shares resident active within = record { shares = shares; pages = 1000; resident = resident; given = 0; active = active; sample = 100; minimum = 2; sampled = lit< tt; touched = within }
+worked_guest shares resident active within =
+    record { shares = shares; pages = 1000; resident = resident; given = 0; active = active; sample = 100; minimum = 2; sampled = lit< tt; touched = within }
 
 -- an active guest, one that is mostly idle, and an idle one of three times the shares
 abbrev pub active_guest : Stat

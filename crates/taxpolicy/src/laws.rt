@@ -28,7 +28,8 @@ pub fn tax_falls_on_idle_pages()
     ensures untaxed { (s : Stat) → SameRatio (ratio 0 s) (shares_per_page s) }
     ensures active { (tax : ℕ) (s : Stat) → s.active ≡ s.sample → SameRatio (ratio tax s) (shares_per_page s) }
     ensures idle { (tax : ℕ) (s : Stat) → s.active ≡ 0 → SameRatio (ratio tax s) (part (100 - tax) 100 (shares_per_page s)) }
-    ensures idle_page { (tax : ℕ) (a b : Stat) → a.sample ≡ b.sample → a.active ≡ 0 → b.active ≡ b.sample → (100 - tax) * page_cost tax a ≡ 100 * page_cost tax b }
+    ensures idle_page { (tax : ℕ) (a b : Stat) → a.sample ≡ b.sample → a.active ≡ 0 → b.active ≡ b.sample →
+        (100 - tax) * page_cost tax a ≡ 100 * page_cost tax b }
     ensures less_active { (tax : ℕ) (a b : Stat) → 0 < tax → tax < 100 → IsLessActive a b → RatioLess (ratio tax a) (ratio tax b) }
 {}
 
@@ -52,7 +53,8 @@ pub fn six_of_each_hundred_frames_stay_free()
 pub fn targets_fill_the_frames()
     ensures each { (tax total : ℕ) (stats : List Stat) → tax < 100 → AllZip IsTarget stats (targets_of tax total stats) }
     ensures ended { (tax total : ℕ) (stats : List Stat) → tax < 100 → AreLow total stats (targets_of tax total stats) }
-    ensures least { (tax total : ℕ) (stats : List Stat) → tax < 100 → min (frames_to_fill total) (sum (residents stats)) ≤ sum (targets_of tax total stats) }
+    ensures least { (tax total : ℕ) (stats : List Stat) → tax < 100 →
+        min (frames_to_fill total) (sum (residents stats)) ≤ sum (targets_of tax total stats) }
 {}
 
 /// A law: each draw of a sample is the generator's next word modulo the pages, so it is one of them.

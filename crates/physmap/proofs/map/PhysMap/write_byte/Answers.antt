@@ -8,7 +8,7 @@ pub returns-clause-memory : goal.returns-clause-memory
 returns-clause-memory c =
     byte_stored c.args.self.now c.self.inside.pages.items c.number.result c.args.at c.offset_of.result c.args.byte c.index_mut.result.now
     (Private (record { number = c.in-Private.frame.number; bytes = set c.bytes_mut.result.now c.offset_of.result c.args.byte }))
-    (record { seen = c.self.view_is; whole = c.self.invariant.0; there = c.requires.there; number = c.number.ensures.value ∙ c.page_of.ensures; offset = c.offset_of.ensures; found = c.index_mut.ensures.value })
+    (record { seen = c.self.view_is; whole = c.self.invariant.whole; there = c.requires.there; number = c.number.ensures.value ∙ c.page_of.ensures; offset = c.offset_of.ensures; found = c.index_mut.ensures.value })
     (ap (λ bytes. set bytes c.offset_of.result c.args.byte) (c.bytes_mut.ensures.bytes ∙ sym (ap shown c.in-Private.is)))
 
 pub returns-clause-outline : goal.returns-clause-outline
