@@ -70,6 +70,7 @@ where
     ensures stopped { result ≡ 3 → err.new ≡ err.old }
     ensures one_output { (out.new ≡ out.old) ⊎ (err.new ≡ err.old) }
 {
+    // No command reads standard input.
     let _ = input;
     let written = match parse(rt.alloc(), words) {
         Ok(order) => answer_order(rt, order, out, err),

@@ -1,4 +1,3 @@
-pub mod Disassembled
 pub mod Dumps
 pub mod Faults
 pub mod LogFiles

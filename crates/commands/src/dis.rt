@@ -1,7 +1,7 @@
 //! The command `dis`.
 ghost use Rattle.std.specs.Prelude.{◌≡◌, IfErr, IfOk, IfSome, string_bytes};
-ghost use Rattle.commands.specs.Disassembled.{IsDisassemblyOf};
 ghost use Rattle.commands.specs.Faults.{IsDisFault, IsElfFault, IsElfRefusal};
+ghost use Rattle.masm.specs.Disassembly.{IsDisassemblyOf};
 
 use crate::fault::{Fault, of_file};
 use crate::image_file::{image_in, whole_file};

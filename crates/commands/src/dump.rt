@@ -18,7 +18,8 @@ pub fn dump(
     steps: u64,
     stop: Option<Stop>,
 ) -> Result<String, AllocError>
-    ensures { (m : Machine) → view.entry.cpu.now ≡ m.cpu → view.entry.devices.now ≡ m.world.devices → IfOk result (λ text. string_bytes text ≡ spec.dump_text m steps stop) }
+    ensures { (m : Machine) → view.entry.cpu.now ≡ m.cpu → view.entry.devices.now ≡ m.world.devices
+        → IfOk result (λ text. string_bytes text ≡ spec.dump_text m steps stop) }
 {
     let mut out = String::new(alloc);
     writeln!(out, "steps {steps}")?;
@@ -29,7 +30,8 @@ pub fn dump(
 }
 
 fn push_cpu(out: &mut String, cpu: &Cpu) -> Result<(), AllocError>
-    ensures { OnOk result (string_bytes out.new ≡ string_bytes out.old ++ spec.control_text cpu.now ++ spec.lower_registers_text cpu.now ++ spec.upper_registers_text cpu.now ++ spec.system_text cpu.now) }
+    ensures { OnOk result (string_bytes out.new ≡ string_bytes out.old ++ spec.control_text cpu.now ++ spec.lower_registers_text cpu.now
+        ++ spec.upper_registers_text cpu.now ++ spec.system_text cpu.now) }
 {
     push_control(out, cpu)?;
     push_lower_registers(out, cpu)?;

@@ -14,9 +14,10 @@ use crate::dump::dump;
 use crate::fault::{Fault, LogRefusal, of_file};
 use crate::image_file::{Loaded, elf_image, is_page_count, raw_image};
 use crate::log_file::write_log;
-use crate::machine::{Machine, Ran, Runner, run};
+use crate::machine::{Ran, Runnable, boot_guest, run};
 use crate::order::{ConsoleInput, Exec, Format, MachineKind};
 use flatvm::Flat;
+use guest::Runner;
 use std::alloc::{AllocError, Global};
 use std::fs::File;
 use std::io::Read;
@@ -128,7 +129,7 @@ fn run_guest(
     ensures runner { IfOk result (λ done. done.runner ≢ None) }
 {
     let Loaded { image, digest } = loaded;
-    let mut runner = Runner::boot(alloc, image, order.pages)?;
+    let mut runner = boot_guest(alloc, image, order.pages)?;
     let ran = run(&mut runner, input.as_slice(), order.steps);
     let report = report_of(alloc, &runner, ran)?;
     Ok(Done {
@@ -161,7 +162,7 @@ fn run_flat(
 }
 
 /// What is printed of a machine after a run.
-fn report_of<M: Machine>(alloc: Global, machine: &M, ran: Ran) -> Result<Report, AllocError>
+fn report_of<M: Runnable>(alloc: Global, machine: &M, ran: Ran) -> Result<Report, AllocError>
     ensures ran { IfOk result (λ r. r.ran ≡ ran) }
     ensures text { IfOk result (λ r. string_bytes r.text ≡ dump_text (M.state machine.now) ran.steps ran.stop) }
 {
@@ -179,7 +180,7 @@ fn write_order<'a, R: Files + AllocGlobal>(
 {
     match (order.log, &done.runner) {
         (Some(name), Some(runner)) => {
-            write_log(rt, name, runner.log(), order.pages, &done.digest)
+            write_log(rt, name, runner.guest().log(), order.pages, &done.digest)
         }
         _ => Ok(()),
     }

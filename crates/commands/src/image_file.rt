@@ -93,7 +93,8 @@ pub fn raw_image<'a, F: Read + Drop>(
     ensures legal { IfOk result (λ loaded. IsPageCount order.entry.pages) }
     ensures image { IfSome (F.remaining file) (λ all. IfOk result (λ loaded. IsRawImage all loaded.image)) }
     ensures digest { IfSome (F.remaining file) (λ all. IfOk result (λ loaded. loaded.digest ≡ sha256 all)) }
-    ensures raw { IfSome (F.remaining file) (λ all. IsPageCount order.entry.pages → IsErrOf result Fault.Raw → ¬ IsRaw (order.entry.pages * 4096) (length all)) }
+    ensures raw { IfSome (F.remaining file) (λ all. IsPageCount order.entry.pages → IsErrOf result Fault.Raw
+        → ¬ IsRaw (order.entry.pages * 4096) (length all)) }
     ensures faults { IfErr result (λ fault. IsRawFault order.entry fault) }
 {
     if is_page_count(order.pages) {

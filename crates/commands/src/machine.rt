@@ -11,14 +11,13 @@ ghost use Rattle.commands.specs.Runs.{after_run, after_steps, fed, IsCount, MayS
 
 use elf32::Image;
 use flatvm::{Flat, Rejection, View};
-use guest::{Guest, Log, Refused, Seat, Stop, share_image};
-use items::{Item, SeatNo, What};
+use guest::{Guest, Refused, Runner, Stop, share_image};
+use items::What;
 use mips_step::StepOut;
 use std::alloc::{AllocError, Global};
-use std::marker::Model;
 
 /// A machine that makes steps.
-pub trait Machine {
+pub trait Runnable {
     /// Its processor and its memory.
     ghost state: { Self → State };
 
@@ -45,7 +44,7 @@ pub trait Machine {
 }
 
 /// The table machine never stops.
-impl Machine for Flat {
+impl Runnable for Flat {
     ghost state = { λ f. f };
 
     ghost may_stop = { λ f stop. ⊥ };
@@ -73,52 +72,23 @@ impl Machine for Flat {
     }
 }
 
-/// A guest with the seat that makes its steps. In clauses it is the guest; the seat is always legal for its log.
-#[derive(Drop)]
-pub struct Runner {
-    guest: Guest,
-    seat: Seat,
-}
-
-impl Model for Runner {
-    ghost use Rattle.guest.specs.Guests.{GuestIs};
-    ghost use Rattle.guest.specs.Seats.{IsLegal};
-
-    ghost Value = { GuestIs };
-
-    ghost view = { λ r. r.guest };
-
-    ghost invariant = { λ r. IsLegal r.seat r.guest.log.items };
-}
-
 /// The greatest number of runs of a guest's log.
 const LOG_RUNS: u32 = 1 << 20;
 
-impl Runner {
-    /// A guest as its image boots, with a memory of `pages` pages, at most 2^20, which hold the image.
-    pub fn boot(alloc: Global, image: Image, pages: u32) -> Result<Runner, AllocError>
-        requires fits { FitsPages image pages }
-        requires few { pages ≤ 2 ^ 20 }
-        ensures machine { IfOk result (λ r. r.machine ≡ boot_machine image pages) }
-        ensures log { IfOk result (λ r. r.log.items ≡ []) }
-        ensures limit { IfOk result (λ r. r.log.limit ≡ 1048576) }
-    {
-        Ok(Runner {
-            guest: Guest::boot(alloc, share_image(alloc, image)?, pages, LOG_RUNS)?,
-            seat: Seat::new(SeatNo::runner()),
-        })
-    }
-
-    /// The log of the guest.
-    pub fn log(&self) -> &Log
-        ensures { result.now ≡ self.now.log }
-    {
-        self.guest.log()
-    }
+/// A guest as its image boots, with a memory of `pages` pages, at most 2^20, which hold the image, and its runner.
+pub fn boot_guest(alloc: Global, image: Image, pages: u32) -> Result<Runner, AllocError>
+    requires fits { FitsPages image pages }
+    requires few { pages ≤ 2 ^ 20 }
+    ensures machine { IfOk result (λ r. r.machine ≡ boot_machine image pages) }
+    ensures log { IfOk result (λ r. r.log.items ≡ []) }
+    ensures limit { IfOk result (λ r. r.log.limit ≡ 1048576) }
+{
+    let image = share_image(alloc, image)?;
+    Ok(Runner::new(Guest::boot(alloc, image, pages, LOG_RUNS)?))
 }
 
 /// A guest stops where its log is full, or where a request for memory was refused.
-impl Machine for Runner {
+impl Runnable for Runner {
     ghost use Rattle.commands.specs.Runs.{MayStop};
 
     ghost state = { λ r. r.machine };
@@ -132,19 +102,14 @@ impl Machine for Runner {
         ensures reason { IfErr result (MayStop self.new.log) }
         ensures full { IsErrOf result Stop.LogFull ↔ IsFull self.old.log }
     {
-        self.guest.log_room()?;
-        match self.guest.step(&mut self.seat) {
+        match Runner::step(self)? {
             StepOut::Done => Ok(()),
             StepOut::Need(_, _) => unreachable!(),
         }
     }
 
     fn feed(&mut self, byte: u8) -> Result<(), Stop> {
-        let item = Item {
-            seat: self.seat.number(),
-            what: What::In(byte),
-        };
-        match self.guest.input(item, &mut self.seat) {
+        match self.input(What::In(byte)) {
             Ok(_) => Ok(()),
             Err(refused) => match refused {
                 Refused::Machine => unreachable!(),
@@ -154,7 +119,7 @@ impl Machine for Runner {
     }
 
     fn view(&self) -> View<'_> {
-        self.guest.view()
+        self.guest().view()
     }
 }
 
@@ -171,7 +136,7 @@ pub struct Ran {
 
 /// Takes the bytes as console input, one after another, and tells how many it took; and why the machine stops, where that is
 /// before the last.
-fn feed_all<M: Machine>(machine: &mut M, bytes: &[u8]) -> (usize, Option<Stop>)
+fn feed_all<M: Runnable>(machine: &mut M, bytes: &[u8]) -> (usize, Option<Stop>)
     requires { length (M.state machine.old).world.devices.console.input + length bytes.now ≤ 256 }
     ensures few { result.0 ≤ length bytes.now }
     ensures all { result.1 ≡ None → result.0 ≡ length bytes.now }
@@ -189,7 +154,7 @@ fn feed_all<M: Machine>(machine: &mut M, bytes: &[u8]) -> (usize, Option<Stop>)
 }
 
 /// Makes `steps` steps, or fewer where the machine stops before.
-fn step_all<M: Machine>(machine: &mut M, steps: u32) -> (u32, Option<Stop>)
+fn step_all<M: Runnable>(machine: &mut M, steps: u32) -> (u32, Option<Stop>)
     ensures few { result.0 ≤ steps }
     ensures all { result.1 ≡ None → result.0 ≡ steps }
     ensures fewer { IfSome result.1 (λ stop. result.0 < steps) }
@@ -205,7 +170,7 @@ fn step_all<M: Machine>(machine: &mut M, steps: u32) -> (u32, Option<Stop>)
 }
 
 /// Takes the console input, and makes `steps` steps, or fewer where the machine stops before.
-pub fn run<M: Machine>(machine: &mut M, input: &[u8], steps: u32) -> Ran
+pub fn run<M: Runnable>(machine: &mut M, input: &[u8], steps: u32) -> Ran
     requires { length (M.state machine.old).world.devices.console.input + length input.now ≤ 256 }
     ensures count { IsCount input.now steps result }
     ensures state { M.state machine.new ≡ after_run result input.now (M.state machine.old) }

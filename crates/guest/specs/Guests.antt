@@ -1,17 +1,26 @@
 -- What is seen of a guest, and what an item does to it.
-use Rattle.std.specs.Prelude.{◌≡◌, ◌+◌, ◌%◌, ◌^◌, true, None, List, [], ◌∷◌, ◌++◌}
+use Rattle.std.specs.Prelude.{◌≡◌, ℕ, true, None, List}
 use Rattle.items.specs.declared.item.Item.{Item}
 use Rattle.mips_step.specs.Bus.{Lacks}
 use Rattle.mips_step.specs.Step.{Machine}
 use Rattle.flatvm.specs.Items.{accepts, after, run, AllAccepted}
 use Rattle.guest_log.specs.Logs.{LogIs}
-use Rattle.guest.specs.Seats.{SeatIs, IsLegal}
+use Rattle.loghead.specs.Heads.{HeadId, SeatIs}
+use Rattle.guest.specs.Journals.{JournalIs, Adds}
 
 pub record GuestIs : Type 0 where
   pub machine : Machine
   -- the machine that the guest's image boots
   pub boot : Machine
   pub log : LogIs
+  -- which head the log has: a seat of the guest has the same
+  pub head : HeadId
+  -- how many seats were made
+  pub seats : ℕ
+
+abbrev pub guest_of : Machine → Machine → JournalIs → GuestIs
+guest_of machine boot journal =
+    record { machine = machine; boot = boot; log = journal.log; head = journal.head; seats = journal.seats }
 
 -- a machine is the run of a log from the boot, and accepted each of its items
 pub record IsReplay (items : List Item) (boot machine : Machine) : Type 0 where
@@ -27,8 +36,13 @@ pub record Does (g : GuestIs) (seat : SeatIs) (i : Item) (g' : GuestIs) (seat' :
   pub accepted : accepts i.what g.machine ≡ true
   pub machine : g'.machine ≡ after i.what g.machine
   pub boot : g'.boot ≡ g.boot
-  pub items : g'.log.items ≡ g.log.items ++ i ∷ []
-  pub limit : g'.log.limit ≡ g.log.limit
-  pub number : seat'.number ≡ seat.number
-  pub made : seat'.made ≡ (seat.made + 1) % 2 ^ 64
-  pub legal : IsLegal seat g.log.items → IsLegal seat' g'.log.items
+  pub head : g'.head ≡ g.head
+  pub seats : g'.seats ≡ g.seats
+  pub adds : Adds g.log seat i g'.log seat'
+
+-- all of a guest stays, but perhaps its log
+pub record LogsOnly (g g' : GuestIs) : Type 0 where
+  pub machine : g'.machine ≡ g.machine
+  pub boot : g'.boot ≡ g.boot
+  pub head : g'.head ≡ g.head
+  pub seats : g'.seats ≡ g.seats

@@ -1,2 +1,2 @@
 pub mod Guests
-pub mod Seats
+pub mod Journals

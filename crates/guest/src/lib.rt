@@ -10,13 +10,15 @@
 
 pub mod guest;
 pub mod image;
+mod journal;
 pub mod refused;
-pub mod seat;
+pub mod runner;
 #[cfg(test)]
 mod tests;
 
 pub use guest::Guest;
 pub use guest_log::{Log, Stop};
 pub use image::share_image;
+pub use loghead::{Head, Seat};
 pub use refused::Refused;
-pub use seat::Seat;
+pub use runner::Runner;

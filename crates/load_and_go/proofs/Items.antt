@@ -4,7 +4,7 @@ use Rattle.std.proofs.lemmas.List.{get_or_append_left, get_or-append-add}
 use Rattle.mips_step.specs.Step.{Machine}
 use Rattle.flatvm.specs.Replies.{byte_at, bytes_at}
 use Rattle.flatvm.proofs.Replies.{read_whole}
-use Rattle.masm.specs.Meanings.{Item, Code, Bytes, item_size}
+use Rattle.masm.specs.Meanings.{Content, Code, Bytes, item_size}
 use Rattle.masm.specs.Images.{StandFor, AreBytesOf}
 use Rattle.load_and_go.specs.Holds.{HoldsItem, HoldsFrom}
 
@@ -13,7 +13,7 @@ abbrev pub AreAt : Machine → ℕ → List ℕ → Type 0
 AreAt m address bytes = (k : ℕ) → k < length bytes → byte_at m ((address + k) % 2 ^ 32) ≡ Some (get_or bytes k 0)
 
 -- how many bytes an item has
-item_length : (item : Item) (bytes : List ℕ) → StandFor bytes item → length bytes ≡ item_size item
+item_length : (item : Content) (bytes : List ℕ) → StandFor bytes item → length bytes ≡ item_size item
 item_length (Code i) bytes h = ap length h.1
 item_length (Bytes written) bytes h = ap length h
 
@@ -31,12 +31,12 @@ at_more m address first more all k below =
     ∙ ap Some (get_or-append-add first more k 0)
 
 -- where the bytes of an item are read at their addresses, the item is held
-holds_item : (m : Machine) (address : ℕ) (item : Item) (bytes : List ℕ) → StandFor bytes item → AreAt m address bytes → HoldsItem m address item
+holds_item : (m : Machine) (address : ℕ) (item : Content) (bytes : List ℕ) → StandFor bytes item → AreAt m address bytes → HoldsItem m address item
 holds_item m address item bytes stands all =
     (bytes, ap (bytes_at m address) (sym (item_length item bytes stands)) ∙ read_whole m address bytes all, stands)
 
 -- where the bytes of items are read at their addresses, the items are held
-pub holds_from : (m : Machine) (address : ℕ) (items : List Item) (bytes : List ℕ) → AreBytesOf bytes items → AreAt m address bytes → HoldsFrom m address items
+pub holds_from : (m : Machine) (address : ℕ) (items : List Content) (bytes : List ℕ) → AreBytesOf bytes items → AreAt m address bytes → HoldsFrom m address items
 holds_from m address [] bytes are all = tt
 holds_from m address (item ∷ items) bytes are all =
     let joined : AreAt m address (are.0 ++ are.1) = subst (AreAt m address) are.2 all in

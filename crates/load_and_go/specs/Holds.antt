@@ -2,17 +2,17 @@
 use Rattle.std.specs.Prelude.{◌≡◌, ℕ, ◌+◌, List, [], ◌∷◌, Some, All}
 use Rattle.mips_step.specs.Step.{Machine}
 use Rattle.flatvm.specs.Replies.{bytes_at}
-use Rattle.masm.specs.Meanings.{Item, item_size}
+use Rattle.masm.specs.Meanings.{Content, item_size}
 use Rattle.masm.specs.Images.{StandFor}
 use Rattle.masm.specs.Listings.{Listing}
 
 -- what is read of a machine's memory from a virtual address on, as a debugger reads, stands for an item: a word that decodes
 -- to the instruction, or the bytes themselves
-abbrev pub HoldsItem : Machine → ℕ → Item → Type 0
+abbrev pub HoldsItem : Machine → ℕ → Content → Type 0
 HoldsItem m address item = (bytes : List ℕ) × (bytes_at m address (item_size item) ≡ Some bytes) × StandFor bytes item
 
 -- the same of items, one after the other
-abbrev pub HoldsFrom : Machine → ℕ → List Item → Type 0
+abbrev pub HoldsFrom : Machine → ℕ → List Content → Type 0
 HoldsFrom m address [] = Unit {0}
 HoldsFrom m address (item ∷ items) = HoldsItem m address item × HoldsFrom m (address + item_size item) items
 

@@ -20,7 +20,7 @@ use std::alloc::Global;
 /// A guest that has booted the program of a text in assembly language. The text is assembled, and its executable is read for
 /// a machine with `pages` pages of 4096 bytes from 80000000 on, at most 2^20. Memory at each address of the listing that the text means
 /// holds the listing's instruction or data, and PC is its entry; the rest is as a machine boots. The log, of at most
-/// `log_runs` runs, is empty.
+/// `log_runs` runs, is empty, and the guest has no seat yet.
 ///
 /// The error is `Assembler` with the text's first fault, then `Executable` with the first fault that its executable has for
 /// so many pages, which is `Place`: a part of the listing passes their end. It is `Memory` where a request for memory was
@@ -34,6 +34,7 @@ pub fn boot_text(alloc: Global, text: &str, pages: u32, log_runs: u32) -> Result
     ensures boot { IfOk result (λ g. g.boot ≡ g.machine) }
     ensures log { IfOk result (λ g. g.log.items ≡ []) }
     ensures limit { IfOk result (λ g. g.log.limit ≡ log_runs) }
+    ensures seats { IfOk result (λ g. g.seats ≡ 0) }
     ensures refused { IfErr result (IsErrorOf text.now pages) }
 {
     let image = share_image(alloc, image_of_text(alloc, text, pages)?)?;

@@ -12,12 +12,14 @@ ghost use Rattle.load_and_go.specs.Holds.{Holds};
 /// A law: where the file of a listing's image is read for a machine's pages, the machine that is booted holds the listing.
 #[tactic(auto, using(crate::proofs::Booted::machine_holds))]
 pub fn booted_machine_holds_its_listing()
-    ensures { (listing : Listing) (assembled read : Image) (file : List ℕ) (pages : ℕ) → IsImageOf listing assembled → StandsFor file 131072 assembled → StandsFor file pages read → Holds (boot_machine read pages) listing }
+    ensures { (listing : Listing) (assembled read : Image) (file : List ℕ) (pages : ℕ) → IsImageOf listing assembled
+        → StandsFor file 131072 assembled → StandsFor file pages read → Holds (boot_machine read pages) listing }
 {}
 
 /// A law: the executable of a listing is refused for a machine's pages exactly where a part of the listing passes their end,
 /// and for no other fault.
 #[tactic(auto, using(crate::proofs::Refused::executable_fault))]
 pub fn executable_is_refused_where_a_part_passes_the_pages()
-    ensures { (listing : Listing) (assembled : Image) (file : List ℕ) (pages : ℕ) → IsImageOf listing assembled → StandsFor file 131072 assembled → first_fault file pages ≡ fault_of pages listing }
+    ensures { (listing : Listing) (assembled : Image) (file : List ℕ) (pages : ℕ) → IsImageOf listing assembled → StandsFor file 131072 assembled
+        → first_fault file pages ≡ fault_of pages listing }
 {}

@@ -2,8 +2,7 @@
 
 use crate::{BootError, boot_text, flat_text};
 use elf32::Fault;
-use guest::{Guest, Seat};
-use items::SeatNo;
+use guest::{Guest, Runner};
 use masm::AsmFault;
 use mips_instr::Reg;
 use mips_step::{Cpu, StepOut};
@@ -42,14 +41,9 @@ static BYTES_OF_TWO_SEGMENTS: [(u32, &[u8]); 7] = [
     (0x8000_fffc, &[0, 0, 0, 0]),
 ];
 
-fn step_once(rt: &impl Abort, guest: &mut Guest, seat: &mut Seat) {
-    assert!(rt; guest.log_room().is_ok());
-    assert!(rt; guest.step(seat) == StepOut::Done);
-}
-
-fn make_steps(rt: &impl Abort, guest: &mut Guest, seat: &mut Seat, count: usize) {
+fn make_steps(rt: &impl Abort, runner: &mut Runner, count: usize) {
     for _ in 0..count {
-        step_once(rt, guest, seat);
+        assert!(rt; runner.step() == Ok(StepOut::Done));
     }
 }
 
@@ -69,10 +63,9 @@ fn check_run(
     pc: u32,
     regs: &[(Reg, u32)],
 ) -> Result<(), Fail> {
-    let mut guest = boot_text(rt.alloc(), text, 16, 2)?;
-    let mut seat = Seat::new(SeatNo::runner());
-    make_steps(rt, &mut guest, &mut seat, steps);
-    check_cpu(rt, guest.view().cpu, pc, regs);
+    let mut runner = Runner::new(boot_text(rt.alloc(), text, 16, 2)?);
+    make_steps(rt, &mut runner, steps);
+    check_cpu(rt, runner.guest().view().cpu, pc, regs);
     let mut flat = flat_text(rt.alloc(), text, 16)?;
     for _ in 0..steps {
         flat.step();

@@ -1,11 +1,11 @@
 //! The guest's own calls: its steps, its log and its seats, and reads of its memory.
-ghost use Rattle.std.specs.Prelude.{◌≡◌, ◌<◌, [], IfOk};
+ghost use Rattle.std.specs.Prelude.{◌<◌};
 
 use super::code::Code;
 use super::code::Code::*;
 use super::expect;
 use super::run::{boot_guest, make_steps, raw_image};
-use guest::{Guest, Log, Refused, Seat, Stop};
+use guest::{Guest, Log, Refused, Runner, Stop};
 use items::SeatNo;
 use mips_instr::Reg;
 use std::process::Abort;
@@ -18,22 +18,14 @@ const COUNTING: [Code; 4] = [
     Word(0x0020_0000), // a word of no row
 ];
 
-/// A guest with 2 pages that has booted this code.
-fn booted<R: AllocGlobal + Abort>(rt: &R, code: &[Code], log_runs: u32) -> Result<Guest, Fail>
-    ensures { IfOk result (λ guest. guest.log.items ≡ []) }
-{
+/// A guest with 2 pages that has booted this code, with its runner.
+fn booted<R: AllocGlobal + Abort>(rt: &R, code: &[Code], log_runs: u32) -> Result<Runner, Fail> {
     let image = raw_image(rt, "boot", code)?;
     boot_guest(rt, "boot", image, 2, log_runs)
 }
 
 /// Checks PC and register 1, and how many steps of the runner were made, in how many runs.
-fn check_steps(
-    rt: &impl Abort,
-    guest: &Guest,
-    seat: &Seat,
-    (pc, count): (u32, u32),
-    (steps, runs): (u64, u32),
-) {
+fn check_steps(rt: &impl Abort, guest: &Guest, (pc, count): (u32, u32), (steps, runs): (u64, u32)) {
     let cpu = guest.view().cpu;
     let log = guest.log();
     expect(
@@ -42,40 +34,33 @@ fn check_steps(
         (
             (cpu.pc(), cpu.reg(Reg::new(1))),
             (log.len(), log.is_empty(), log.runs()),
-            (seat.made(), seat.number()),
         ),
-        (
-            (pc, count),
-            (steps, steps == 0, runs),
-            (steps, SeatNo::runner()),
-        ),
+        ((pc, count), (steps, steps == 0, runs)),
     );
 }
 
 /// Checks the guest at boot, after three steps, and after a fourth that is an exception.
-fn check_exception(rt: &impl Abort, guest: &mut Guest, seat: &mut Seat) {
-    check_steps(rt, guest, seat, (0x8000_0000, 0), (0, 0));
-    make_steps(rt, guest, seat, 3);
-    check_steps(rt, guest, seat, (0x8000_000c, 3), (3, 1));
-    make_steps(rt, guest, seat, 1);
-    guest.replay();
-    check_steps(rt, guest, seat, (0x8000_0180, 3), (4, 1));
+fn check_exception(rt: &impl Abort, runner: &mut Runner) {
+    check_steps(rt, runner.guest(), (0x8000_0000, 0), (0, 0));
+    make_steps(rt, runner, 3);
+    check_steps(rt, runner.guest(), (0x8000_000c, 3), (3, 1));
+    make_steps(rt, runner, 1);
+    runner.guest().replay();
+    check_steps(rt, runner.guest(), (0x8000_0180, 3), (4, 1));
 }
 
 #[test]
 fn a_guest_steps_into_an_exception(rt: HostRuntime) -> Result<(), Fail> {
-    let mut guest = booted(&rt, &COUNTING, 16)?;
-    let mut seat = Seat::new(SeatNo::runner());
-    check_exception(&rt, &mut guest, &mut seat);
+    let mut runner = booted(&rt, &COUNTING, 16)?;
+    check_exception(&rt, &mut runner);
     Ok(())
 }
 
 #[test]
 fn a_guest_stops_where_its_log_is_full(rt: HostRuntime) -> Result<(), Fail> {
-    let mut guest = booted(&rt, &COUNTING, 1)?;
-    let mut seat = Seat::new(SeatNo::runner());
-    make_steps(&rt, &mut guest, &mut seat, 1);
-    expect(&rt, "after a step", guest.log_room(), Err(Stop::LogFull));
+    let mut runner = booted(&rt, &COUNTING, 1)?;
+    make_steps(&rt, &mut runner, 1);
+    expect(&rt, "after a step", runner.step(), Err(Stop::LogFull));
     Ok(())
 }
 
@@ -231,8 +216,8 @@ fn check_at_boot<R: AllocGlobal + Abort>(rt: &R, guest: &Guest) -> Result<(), Fa
 
 #[test]
 fn a_guest_gives_its_bytes_at_boot(rt: HostRuntime) -> Result<(), Fail> {
-    let guest = booted(&rt, &MAPPING, 16)?;
-    check_at_boot(&rt, &guest)
+    let runner = booted(&rt, &MAPPING, 16)?;
+    check_at_boot(&rt, runner.guest())
 }
 
 fn check_where_mapped<R: AllocGlobal + Abort>(rt: &R, guest: &Guest) -> Result<(), Fail> {
@@ -244,8 +229,7 @@ fn check_where_mapped<R: AllocGlobal + Abort>(rt: &R, guest: &Guest) -> Result<(
 
 #[test]
 fn a_guest_gives_its_bytes_where_mapped(rt: HostRuntime) -> Result<(), Fail> {
-    let mut guest = booted(&rt, &MAPPING, 16)?;
-    let mut seat = Seat::new(SeatNo::runner());
-    make_steps(&rt, &mut guest, &mut seat, MAPPING.len());
-    check_where_mapped(&rt, &guest)
+    let mut runner = booted(&rt, &MAPPING, 16)?;
+    make_steps(&rt, &mut runner, MAPPING.len());
+    check_where_mapped(&rt, runner.guest())
 }

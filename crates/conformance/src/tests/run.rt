@@ -1,12 +1,10 @@
 //! A run of an image on both machines, and the state that it has to end in.
-ghost use Rattle.std.specs.Prelude.{◌≡◌, [], IfOk};
 
 use super::code::{Code, image_of};
 use super::expect;
 use elf32::Image;
 use flatvm::Flat;
-use guest::{Guest, Seat, share_image};
-use items::SeatNo;
+use guest::{Guest, Runner, share_image};
 use mips_instr::Reg;
 use mips_step::{Cpu, StepOut};
 use std::process::Abort;
@@ -60,10 +58,9 @@ fn check_table_machine<R: AllocGlobal + Abort>(
 }
 
 fn check_guest<R: AllocGlobal + Abort>(rt: &R, run: &Run, image: Image) -> Result<(), Fail> {
-    let mut guest = boot_guest(rt, run.name, image, run.pages, 2)?;
-    let mut seat = Seat::new(SeatNo::runner());
-    make_steps(rt, &mut guest, &mut seat, run.steps);
-    check_cpu(rt, guest.view().cpu, run, "guest");
+    let mut runner = boot_guest(rt, run.name, image, run.pages, 2)?;
+    make_steps(rt, &mut runner, run.steps);
+    check_cpu(rt, runner.guest().view().cpu, run, "guest");
     Ok(())
 }
 
@@ -85,19 +82,17 @@ pub fn boot_table_machine<R: AllocGlobal + Abort>(
     Ok(Flat::boot(rt.alloc(), image, pages)?)
 }
 
-/// A guest of so many pages, which has to hold the image.
+/// A guest of so many pages, which has to hold the image, with its runner.
 pub fn boot_guest<R: AllocGlobal + Abort>(
     rt: &R,
     name: &str,
     image: Image,
     pages: u32,
     log_runs: u32,
-) -> Result<Guest, Fail>
-    ensures { IfOk result (λ guest. guest.log.items ≡ []) }
-{
+) -> Result<Runner, Fail> {
     assert!(rt; image.fits(pages) && pages <= MOST_PAGES, "{name}");
     let image = share_image(rt.alloc(), image)?;
-    Ok(Guest::boot(rt.alloc(), image, pages, log_runs)?)
+    Ok(Runner::new(Guest::boot(rt.alloc(), image, pages, log_runs)?))
 }
 
 pub fn step_table_machine(flat: &mut Flat, count: usize) {
@@ -107,11 +102,10 @@ pub fn step_table_machine(flat: &mut Flat, count: usize) {
 }
 
 /// Makes so many steps, which a guest of the whole memory never has to wait for.
-pub fn make_steps(rt: &impl Abort, guest: &mut Guest, seat: &mut Seat, count: usize) {
+pub fn make_steps(rt: &impl Abort, runner: &mut Runner, count: usize) {
     for _ in 0..count {
-        assert!(rt; guest.log_room().is_ok());
-        assert!(rt; guest.need().is_none());
-        assert!(rt; guest.step(seat) == StepOut::Done);
+        assert!(rt; runner.guest().need().is_none());
+        assert!(rt; runner.step() == Ok(StepOut::Done));
     }
 }
 

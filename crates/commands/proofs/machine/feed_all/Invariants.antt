@@ -7,6 +7,6 @@ abbrev pub invariant-loop-byte : goal.invariant-loop-byte
 invariant-loop-byte g l = record {
   taken : l.taken ≡ l.byte-index;
   few : l.byte-index ≤ length l.bytes;
-  state : g.M.Machine.state l.machine ≡ fed (take l.byte-index l.bytes) (g.M.Machine.state l.fn.machine);
-  room : length (g.M.Machine.state l.machine).world.devices.console.input + (length l.bytes - l.byte-index) ≤ 256;
+  state : g.M.Runnable.state l.machine ≡ fed (take l.byte-index l.bytes) (g.M.Runnable.state l.fn.machine);
+  room : length (g.M.Runnable.state l.machine).world.devices.console.input + (length l.bytes - l.byte-index) ≤ 256;
 }
