@@ -1,0 +1,287 @@
+//! The pages of a guest with its devices, as a bus.
+ghost use Rattle.std.specs.Prelude.{◌≡◌, ◌*◌, ◌%◌, ◌<◌, ◌≤◌, ◌^◌, ◌↔◌, IsTrue, IsSome, IfOk, IfSome, length, replicate, None};
+ghost use Rattle.word32.specs.Pages.{page_number};
+ghost use Rattle.word32.specs.Zeros.{zeros};
+ghost use Rattle.devices.specs.Devices.{fresh_devices};
+ghost use Rattle.devices.specs.Registers.{device_register_at};
+ghost use Rattle.mips_step.specs.World.{with_memory, is_in_memory, register_reach, reached_value, world_loaded, world_stored};
+ghost use Rattle.mips_step.specs.Places.{alignment};
+ghost use Rattle.physmap.specs.declared.page.Page.{Page};
+ghost use Rattle.physmap.specs.declared.page.PageKind.{PageKind};
+ghost use Rattle.physmap.specs.Pages.{page_at, kind_at, is_resident, shown, memory_of, own_frame, slot_of, digest_of, ticket_of};
+ghost use Rattle.physmap.specs.Holdings.{private_pages, shared_pages, swapped_pages, resident_pages};
+ghost use Rattle.physmap.specs.Outline.{outline};
+ghost use Rattle.paged_bus.specs.Buses.{world_of, IsSettled};
+ghost use Rattle.paged_bus.specs.Lacking.{lacks_in};
+
+use crate::accesses::{lack, put_value, reaches_register, value};
+use devices::{DeviceRegister, Devices};
+use mips_step::{Kind, PhysBus, Refusal, Size};
+use physmap::{PageKind, PhysMap};
+use std::alloc::{AllocError, Global};
+use std::marker::Model;
+use word32::{Ppn, page_of};
+
+/// A memory of pages from physical address 0 on, each of which is nowhere yet, in a frame of its own, in a shared frame or in
+/// a slot of the swap store, with the devices. In clauses it is a record, `PagedBusIs`.
+pub struct PagedBus {
+    pub(crate) map: PhysMap,
+    pub(crate) devices: Devices,
+    /// The page that was given to the balloon and has not left its place yet.
+    pub(crate) waiting: Option<Ppn>,
+}
+
+impl Model for PagedBus {
+    ghost use Rattle.std.specs.Prelude.{◌≡◌, ◌<◌, length, IfSome};
+    ghost use Rattle.paged_bus.specs.Buses.{PagedBusIs};
+
+    ghost Value = { PagedBusIs };
+
+    ghost view = { λ b. record { pages = b.map; devices = b.devices; waiting = b.waiting } };
+
+    ghost invariant = { λ b. (length b.map ≡ length b.devices.balloon.given) × IfSome b.waiting (λ p. p < length b.map) };
+}
+
+impl PagedBus {
+    /// A memory of so many pages, at most 2^20, none of which was ever touched. Nothing waits in the console, and no page is
+    /// given. `AllocError` where a request for memory was refused.
+    #[tactic(auto, using(crate::proofs::Fresh::fresh_world))]
+    pub fn new(alloc: Global, pages: u32) -> Result<PagedBus, AllocError>
+        requires { pages ≤ 2 ^ 20 }
+        ensures bus { IfOk result (λ bus. bus ≡ record { pages = replicate pages Page.Zero; devices = fresh_devices pages; waiting = None }) }
+        ensures world { IfOk result (λ bus. world_of bus ≡ with_memory (zeros (pages * 4096))) }
+    {
+        let devices = Devices::new(alloc, pages)?;
+        Ok(PagedBus {
+            map: PhysMap::new(alloc, pages)?,
+            devices,
+            waiting: None,
+        })
+    }
+
+    /// The devices.
+    pub fn devices(&self) -> &Devices
+        ensures { result.now ≡ self.now.devices }
+    {
+        &self.devices
+    }
+
+    /// The page that was given to the balloon and has not left its place yet; None where the bus is settled.
+    #[inline(always)]
+    pub fn waiting(&self) -> Option<Ppn>
+        ensures { result ≡ self.now.waiting }
+    {
+        self.waiting
+    }
+
+    /// How many pages there are, at most 2^20; each has 4,096 bytes of the memory.
+    #[tactic(auto, using(crate::proofs::Worlds::length_of_world))]
+    pub fn pages(&self) -> u32
+        ensures pages { result ≡ length self.now.pages }
+        ensures memory { length (world_of self.now).memory ≡ length self.now.pages * 4096 }
+        ensures few { result ≤ 2 ^ 20 }
+    {
+        // Who asks a map how many pages there are knows how many bytes they have.
+        let _pages = self.map.len();
+        self.devices.pages()
+    }
+
+    /// Where a page is.
+    pub fn kind(&self, p: Ppn) -> PageKind
+        requires { p < length self.now.pages }
+        ensures { result ≡ kind_at self.now.pages p }
+    {
+        self.map.kind(p)
+    }
+
+    /// The bytes of a page, which has 4,096; None exactly where it is in no frame.
+    pub fn peek_page(&self, p: Ppn) -> Option<&[u8]>
+        requires { p < length self.now.pages }
+        ensures bytes { IfSome result (λ bytes. bytes.now ≡ shown (page_at self.now.pages p)) }
+        ensures length { length (shown (page_at self.now.pages p)) ≡ 4096 }
+        ensures resident { IsSome result ↔ IsTrue (is_resident (kind_at self.now.pages p)) }
+    {
+        self.map.peek(p)
+    }
+
+    /// The number of the slot that a swapped page is in, and the SHA-256 of its bytes.
+    pub fn away(&self, p: Ppn) -> (u32, [u8; 32])
+        requires there { p < length self.now.pages }
+        requires swapped { kind_at self.now.pages p ≡ PageKind.Swapped }
+        ensures slot { result.0 ≡ slot_of (page_at self.now.pages p) }
+        ensures digest { result.1 ≡ digest_of (page_at self.now.pages p) }
+    {
+        self.map.away(p)
+    }
+
+    /// The number of the frame that a page has for its own.
+    pub fn own_frame(&self, p: Ppn) -> u32
+        requires there { p < length self.now.pages }
+        requires private { kind_at self.now.pages p ≡ PageKind.Private }
+        ensures { result ≡ (own_frame (page_at self.now.pages p)).number }
+    {
+        self.map.own_frame(p)
+    }
+
+    /// The number of the shared frame that a page reads, which is also its ticket's.
+    pub fn shared_frame(&self, p: Ppn) -> u32
+        requires there { p < length self.now.pages }
+        requires shared { kind_at self.now.pages p ≡ PageKind.Shared }
+        ensures { result ≡ ticket_of (page_at self.now.pages p) }
+    {
+        self.map.shared_frame(p)
+    }
+
+    /// How many pages are in a frame of their own.
+    pub fn private(&self) -> u32
+        ensures { result ≡ private_pages self.now.pages }
+    {
+        self.map.private()
+    }
+
+    /// How many pages are in a shared frame.
+    pub fn shared(&self) -> u32
+        ensures { result ≡ shared_pages self.now.pages }
+    {
+        self.map.shared()
+    }
+
+    /// How many pages are in a slot of the swap store.
+    pub fn swapped(&self) -> u32
+        ensures { result ≡ swapped_pages self.now.pages }
+    {
+        self.map.swapped()
+    }
+
+    /// How many pages are in a frame, their own or a shared one.
+    pub fn resident(&self) -> u32
+        ensures value { result ≡ resident_pages self.now.pages }
+        ensures within { result ≤ length self.now.pages }
+    {
+        self.map.resident()
+    }
+
+    /// Gives the bus up, and with it what its pages hold.
+    pub fn close(self) {
+        let PagedBus {
+            map,
+            devices,
+            waiting: _,
+        } = self;
+        drop(devices);
+        map.close();
+    }
+}
+
+// Accesses of registers are rare: they stand apart, so that those of memory are short.
+impl PagedBus {
+    /// A load of a word from the device's register at an address; 0 where there is none.
+    #[cold]
+    #[inline(never)]
+    fn load_register(&mut self, at: u32) -> u32
+        ensures value { result ≡ reached_value (register_reach (device_register_at at)) Size.Word at (world_of self.old) }
+        ensures small { result < 2 ^ 32 }
+        ensures world { world_of self.new ≡ world_loaded (register_reach (device_register_at at)) at (world_of self.old) }
+        ensures pages { self.new.pages ≡ self.old.pages }
+        ensures waiting { self.new.waiting ≡ self.old.waiting }
+    {
+        match DeviceRegister::at(at) {
+            Some(register) => self.devices.load(register),
+            None => 0,
+        }
+    }
+
+    /// A store of a word to the device's register at an address; nothing where there is none. A page that it gives waits from
+    /// then on.
+    #[cold]
+    #[inline(never)]
+    #[tactic(auto, using(crate::proofs::Worlds::given_is_there))]
+    fn store_register(&mut self, at: u32, value: u32)
+        requires settled { IsSettled self.old }
+        ensures world { world_of self.new ≡ world_stored (register_reach (device_register_at at)) Size.Word value at (world_of self.old) }
+        ensures pages { self.new.pages ≡ self.old.pages }
+    {
+        if let Some(register) = DeviceRegister::at(at) {
+            self.waiting = self.devices.store(register, value);
+        }
+    }
+
+    /// Whether an access reaches memory. An address is a multiple of the access's size, so the page alone decides.
+    #[inline(always)]
+    #[tactic(auto, using(crate::proofs::Worlds::length_of_world, crate::proofs::Places::in_memory_by_page))]
+    fn is_in_memory(&self, at: u32, _size: Size) -> bool
+        requires { at % alignment _size ≡ 0 }
+        ensures reach { result ≡ is_in_memory (world_of self.now) _size at }
+        ensures page { IsTrue result ↔ page_number at < length self.now.pages }
+    {
+        page_of(at).number() < self.map.len()
+    }
+}
+
+impl PhysBus for PagedBus {
+    type Kept = PhysMap;
+
+    ghost world = { world_of };
+
+    ghost kept = { λ b. outline b.pages };
+
+    ghost lacks = { lacks_in };
+
+    ghost settled = { IsSettled };
+
+    #[inline(always)]
+    fn ready(&self, at: u32, size: Size, kind: Kind) -> Result<(), Refusal> {
+        if self.is_in_memory(at, size) {
+            let page = page_of(at);
+            match lack(self.map.kind(page), kind) {
+                None => Ok(()),
+                Some(why) => Err(Refusal::Need(page, why)),
+            }
+        } else if reaches_register(at, size, kind) {
+            Ok(())
+        } else {
+            Err(Refusal::Bus)
+        }
+    }
+
+    #[inline(always)]
+    fn peek(&self, at: u32) -> u32 {
+        self.map.read_word(at)
+    }
+
+    #[inline(always)]
+    fn fetch(&mut self, at: u32) -> u32 {
+        self.devices.touch(page_of(at));
+        self.map.read_word(at)
+    }
+
+    #[inline(always)]
+    fn load(&mut self, at: u32, size: Size) -> u32 {
+        if self.is_in_memory(at, size) {
+            self.devices.touch(page_of(at));
+            value(&self.map, size, at)
+        } else {
+            self.load_register(at)
+        }
+    }
+
+    #[inline(always)]
+    fn lines(&self) -> u8 {
+        self.devices.lines()
+    }
+
+    fn look(&self, at: u32) -> u8 {
+        let _pages = self.map.len();
+        self.map.read_byte(at)
+    }
+
+    #[inline(always)]
+    fn store(&mut self, at: u32, size: Size, value: u32) {
+        if self.is_in_memory(at, size) {
+            self.devices.touch(page_of(at));
+            put_value(&mut self.map, size, at, value);
+        } else {
+            self.store_register(at, value);
+        }
+    }
+}

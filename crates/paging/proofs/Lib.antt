@@ -1,0 +1,9 @@
+pub mod Booking
+pub mod Evicting
+pub mod Exchanging
+pub mod GoingBack
+pub mod Keeping
+pub mod OneOwner
+pub mod Scanning
+pub mod Starting
+pub mod Supplying

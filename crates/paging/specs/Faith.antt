@@ -1,0 +1,25 @@
+-- Pages that are as their owner has them.
+use Rattle.std.specs.Prelude.{◌≡◌, ℕ, ◌<◌, List, Option, Some, length}
+use Rattle.sha2.specs.Sha256.{sha256}
+use Rattle.physmap.specs.declared.page.Page.{Page}
+use Rattle.physmap.specs.declared.page.Page.TheVariants.{Swapped}
+use Rattle.physmap.specs.Pages.{page_at, shown}
+
+-- a page shows these bytes, or has their SHA-256 where it is in a slot
+abbrev pub IsFaithful : List ℕ → Page → Type 0
+IsFaithful bytes (Swapped slot digest) = digest ≡ sha256 bytes
+IsFaithful bytes page = shown page ≡ bytes
+
+-- each page is as the owner has it, who has the bytes `view p` in page p
+abbrev pub Faithful : (ℕ → List ℕ) → List Page → Type 0
+Faithful view pages = (p : ℕ) → p < length pages → IsFaithful (view p) (page_at pages p)
+
+-- a page that is in a slot has these bytes there
+abbrev pub IsHeld : (ℕ → Option (List ℕ)) → List ℕ → Page → Type 0
+IsHeld held bytes (Swapped slot digest) = held slot ≡ Some bytes
+IsHeld held bytes _ = Unit {0}
+
+-- each page is as the owner has it, and each that is in a slot has its bytes there
+pub record Kept (held : ℕ → Option (List ℕ)) (view : ℕ → List ℕ) (pages : List Page) : Type 0 where
+  pub faithful : Faithful view pages
+  pub lies : (p : ℕ) → p < length pages → IsHeld held (view p) (page_at pages p)

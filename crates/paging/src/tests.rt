@@ -1,0 +1,227 @@
+//! Pages that come and go over one pool, a store in memory and a table of shared frames; the books are exact after each move.
+ghost use Rattle.std.specs.Prelude.{◌≡◌, ℕ, ◌<◌, [], ◌∷◌, None, length, replicate};
+ghost use Rattle.frames.specs.Counts.{count_of, below};
+ghost use Rattle.physmap.specs.declared.page.Page.TheVariants.{Zero};
+ghost use Rattle.paging.specs.Books.{Books};
+
+use crate::{SupplyError, evict_in, supply_first, supply_swapped};
+use framepool::Pool;
+use physmap::{PageKind, PhysMap};
+use sharetab::Shares;
+use std::alloc::Global;
+use std::fmt::Debug;
+use std::process::Abort;
+use swapstore::{Damage, MemStore, SlotBook, SwapStore};
+use word32::Ppn;
+
+/// Asserts one case. The tests share it, since each assertion in a function's own body makes its proof much longer.
+fn expect<T: PartialEq + Debug + Drop>(rt: &impl Abort, case: &'static str, got: T, wanted: T) {
+    assert!(rt; got == wanted, "{case}: {got:?}, not {wanted:?}");
+}
+
+/// Four pages, three frames and two slots.
+struct Parts {
+    map: PhysMap,
+    pool: Pool,
+    slots: SlotBook,
+    shares: Shares,
+    store: MemStore,
+}
+
+fn new_map(rt: &impl Abort, alloc: Global) -> PhysMap
+    ensures { result ≡ replicate 4 Zero }
+{
+    match PhysMap::new(alloc, 4) {
+        Ok(map) => map,
+        Err(_) => panic!(rt; "no memory for the pages"),
+    }
+}
+
+fn new_pool(rt: &impl Abort, alloc: Global) -> Pool
+    ensures each_once { (k : ℕ) → count_of k result.free ≡ below k 3 }
+    ensures none_out { result.out ≡ 0 }
+{
+    match Pool::new(alloc, 3) {
+        Ok(pool) => pool,
+        Err(_) => panic!(rt; "no memory for the pool"),
+    }
+}
+
+fn new_slots(rt: &impl Abort, alloc: Global) -> SlotBook
+    ensures each_once { (k : ℕ) → count_of k result.free ≡ below k 2 }
+    ensures none_used { result.out ≡ 0 }
+{
+    match SlotBook::new(alloc, 2) {
+        Ok(slots) => slots,
+        Err(_) => panic!(rt; "no memory for the slots"),
+    }
+}
+
+fn new_shares(rt: &impl Abort, alloc: Global) -> Shares
+    ensures { result.entries ≡ replicate 3 None }
+{
+    match Shares::new(alloc, 3) {
+        Ok(shares) => shares,
+        Err(_) => panic!(rt; "no memory for the table"),
+    }
+}
+
+fn new_store(rt: &impl Abort, alloc: Global) -> MemStore {
+    match MemStore::new(alloc, 2) {
+        Ok(store) => store,
+        Err(_) => panic!(rt; "no memory for the store"),
+    }
+}
+
+fn started(rt: &impl Abort, alloc: Global) -> Parts
+    ensures { Books 3 2 (result.map ∷ []) result.shares.entries result.pool result.slots }
+{
+    Parts {
+        map: new_map(rt, alloc),
+        pool: new_pool(rt, alloc),
+        slots: new_slots(rt, alloc),
+        shares: new_shares(rt, alloc),
+        store: new_store(rt, alloc),
+    }
+}
+
+fn closed(parts: Parts) {
+    let Parts {
+        map,
+        pool,
+        slots,
+        shares,
+        store: _,
+    } = parts;
+    map.close();
+    pool.close();
+    slots.close();
+    shares.close();
+}
+
+/// A page that is there.
+fn page(rt: &impl Abort, map: &PhysMap, p: u32) -> Ppn
+    ensures { result < length map.now }
+{
+    if p >= 4 {
+        panic!(rt; "no page {p}");
+    }
+    if p >= map.len() {
+        panic!(rt; "no page {p}");
+    }
+    Ppn::new(p)
+}
+
+/// A page gets a frame of zeros.
+fn first(rt: &impl Abort, alloc: Global, parts: &mut Parts, p: u32)
+    requires { Books 3 2 (parts.old.map ∷ []) parts.old.shares.entries parts.old.pool parts.old.slots }
+    ensures { Books 3 2 (parts.new.map ∷ []) parts.new.shares.entries parts.new.pool parts.new.slots }
+{
+    let page = page(rt, &parts.map, p);
+    match parts.map.kind(page) {
+        PageKind::Zero => {}
+        other => panic!(rt; "page {p} is {other:?}"),
+    }
+    match supply_first(alloc, &mut parts.map, page, &mut parts.pool) {
+        Ok(()) => {}
+        Err(error) => panic!(rt; "page {p}: {error:?}"),
+    }
+}
+
+/// A resident page goes to the lowest slot that is free, and the frame that came free to the pool. Whether one did.
+fn evicted(rt: &impl Abort, parts: &mut Parts, p: u32) -> bool
+    requires { Books 3 2 (parts.old.map ∷ []) parts.old.shares.entries parts.old.pool parts.old.slots }
+    ensures { Books 3 2 (parts.new.map ∷ []) parts.new.shares.entries parts.new.pool parts.new.slots }
+{
+    let page = page(rt, &parts.map, p);
+    if !parts.map.kind(page).is_resident() {
+        panic!(rt; "page {p} is in no frame");
+    }
+    let Some(slot) = parts.slots.take() else {
+        panic!(rt; "no slot is free");
+    };
+    if slot.number() >= parts.store.slot_count() {
+        panic!(rt; "no slot {}", slot.close());
+    }
+    match evict_in(
+        &mut parts.map,
+        page,
+        slot,
+        &mut parts.store,
+        &mut parts.shares,
+    ) {
+        Ok(Some(no)) => {
+            parts.pool.give(no);
+            true
+        }
+        Ok(None) => false,
+        Err(slot) => panic!(rt; "slot {} is not written", slot.close()),
+    }
+}
+
+/// A page comes back from its slot, or not.
+fn back(rt: &impl Abort, alloc: Global, parts: &mut Parts, p: u32) -> Result<(), SupplyError>
+    requires { Books 3 2 (parts.old.map ∷ []) parts.old.shares.entries parts.old.pool parts.old.slots }
+    ensures { Books 3 2 (parts.new.map ∷ []) parts.new.shares.entries parts.new.pool parts.new.slots }
+{
+    let page = page(rt, &parts.map, p);
+    match parts.map.kind(page) {
+        PageKind::Swapped => {}
+        other => panic!(rt; "page {p} is {other:?}"),
+    }
+    let (slot, _digest) = parts.map.away(page);
+    if slot >= parts.store.slot_count() {
+        panic!(rt; "no slot {slot}");
+    }
+    supply_swapped(
+        alloc,
+        &mut parts.map,
+        page,
+        &mut parts.pool,
+        &mut parts.slots,
+        &mut parts.store,
+    )
+}
+
+/// All bits of the first byte of slot 0 are inverted.
+fn damage(rt: &impl Abort, store: &mut MemStore) {
+    if store.slot_count() == 0 {
+        panic!(rt; "no slot");
+    }
+    store.damage(0, 0);
+}
+
+/// How many frames are free, how many pages are private, shared and swapped, how many entries and tickets there are, and how
+/// many slots are used.
+fn counts(parts: &Parts) -> ([u32; 6], u64) {
+    let counts = [
+        parts.pool.free(),
+        parts.map.private(),
+        parts.map.shared(),
+        parts.map.swapped(),
+        parts.shares.shared(),
+        parts.slots.used(),
+    ];
+    (counts, parts.shares.tickets())
+}
+
+#[test]
+fn a_page_goes_to_a_slot_and_comes_back(rt: HostRuntime) {
+    let mut parts = started(&rt, rt.alloc());
+    first(&rt, rt.alloc(), &mut parts, 0);
+    first(&rt, rt.alloc(), &mut parts, 3);
+    let free = evicted(&rt, &mut parts, 3);
+    expect(&rt, "its frame came free", free, true);
+    expect(&rt, "in a slot", counts(&parts), ([2, 1, 0, 1, 0, 1], 0));
+
+    damage(&rt, &mut parts.store);
+    let answer = back(&rt, rt.alloc(), &mut parts, 3);
+    let damaged = Err(SupplyError::SwapDamaged);
+    expect(&rt, "damaged", answer, damaged);
+    expect(&rt, "still there", counts(&parts), ([2, 1, 0, 1, 0, 1], 0));
+    damage(&rt, &mut parts.store);
+    let answer = back(&rt, rt.alloc(), &mut parts, 3);
+    expect(&rt, "undamaged", answer, Ok(()));
+    expect(&rt, "back", counts(&parts), ([1, 2, 0, 0, 0, 0], 0));
+    closed(parts);
+}
