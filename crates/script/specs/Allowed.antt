@@ -1,0 +1,33 @@
+-- Which events a header allows.
+use Rattle.std.specs.Prelude.{ℕ, Bool, true, false, ◌&&◌, nat_lt, nat_le, List, length, Option, Some, None, slice_get}
+use Rattle.script.specs.Events.{Event, Step, Run, In, Drain, Target, Poke, Write, Probe, Fault, Scan, Evict, Sample, Level, Audit, Dump, Damage}
+use Rattle.script.specs.Headers.{GuestLine, Header}
+
+-- so many pages are at most the guest's, which there is
+abbrev pub has_pages : Option GuestLine → ℕ → Bool
+has_pages None count = false
+has_pages (Some line) count = nat_le count line.pages
+
+-- The guest, and the slot, must be there. A balloon has at most its guest's pages, registers have the numbers 0 to 37, 1 to
+-- 1,024 bytes are written or probed, and a slot has 4,096 bytes. Pages aren't looked at.
+unfoldable pub is_allowed : List GuestLine → ℕ → Event → Bool
+is_allowed guests slots (Step guest count) = nat_lt guest (length guests)
+is_allowed guests slots (Run guest count) = nat_lt guest (length guests)
+is_allowed guests slots (In guest bytes) = nat_lt guest (length guests)
+is_allowed guests slots (Drain guest) = nat_lt guest (length guests)
+is_allowed guests slots (Target guest pages) = has_pages (slice_get guests guest) pages
+is_allowed guests slots (Poke guest register value) = nat_lt guest (length guests) && nat_le register 37
+is_allowed guests slots (Write guest address bytes) = nat_lt guest (length guests) && nat_le (length bytes) 1024
+is_allowed guests slots (Probe guest address count) = nat_lt guest (length guests) && (nat_le 1 count && nat_le count 1024)
+is_allowed guests slots (Fault guest) = nat_lt guest (length guests)
+is_allowed guests slots (Scan guest page) = nat_lt guest (length guests)
+is_allowed guests slots (Evict guest page) = nat_lt guest (length guests)
+is_allowed guests slots Sample = true
+is_allowed guests slots Level = true
+is_allowed guests slots Audit = true
+is_allowed guests slots (Dump guest) = nat_lt guest (length guests)
+is_allowed guests slots (Damage slot byte) = nat_lt slot slots && nat_le byte 4095
+
+-- the same of a header
+abbrev pub allows : Header → Event → Bool
+allows header event = is_allowed header.guests header.slots event

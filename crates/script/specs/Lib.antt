@@ -1,0 +1,11 @@
+pub mod Allowed
+pub mod Answers
+pub mod Events
+pub mod Headers
+pub mod Names
+pub mod Numbers
+pub mod Scripts
+pub mod Statements
+pub mod Steps
+pub mod Views
+pub mod Words
