@@ -24,3 +24,7 @@ factorial:
         mul   $2,$2,$4          # n! is (n - 1)! times n
 return: jr    $31
         sll   $0,$0,0
+
+        .org  0x80000180        # where an exception would lead: the program has no handler, and stays here
+fault:  beq   $0,$0,fault
+        sll   $0,$0,0

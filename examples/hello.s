@@ -22,3 +22,7 @@ stop:   beq   $0,$0,stop
         .word 0x77202c6f        # o, w
         .word 0x646c726f        # orld
         .word 0x0000000a        # a line feed, and zeros
+
+        .org  0x80000180        # where an exception would lead: the program has no handler, and stays here
+fault:  beq   $0,$0,fault
+        sll   $0,$0,0

@@ -26,3 +26,7 @@ stop:   beq   $0,$0,stop
         .byte 0x76
         .byte 0x87
         .space 8
+
+        .org  0x80000180        # where an exception would lead: the program has no handler, and stays here
+fault:  beq   $0,$0,fault
+        sll   $0,$0,0
