@@ -1,17 +1,17 @@
 -- A page that is given is zeros, whatever happens to the machine.
-use Rattle.std.proofs.Common.{ℕ, suc, ◌≡◌, ◌+◌, ◌*◌, ◌%◌, ◌^◌, ◌<◌, ◌≤◌, Bool, true, false, nat_lt, if◌then◌else◌, List, [], ◌∷◌, length, get_or, replicate, ◌⊎◌, inl, inr, Option, Some, None, refl, sym, ap, ◌∙◌, arith, ltb-true}
+use Rattle.std.proofs.Common.{ℕ, suc, ◌≡◌, ◌+◌, ◌%◌, ◌^◌, ◌<◌, ◌≤◌, Bool, true, false, nat_lt, if◌then◌else◌, List, [], ◌∷◌, length, replicate, ◌⊎◌, inl, inr, Option, Some, None, refl, sym, ap, ◌∙◌, arith, ltb-true}
 use Rattle.std.proofs.lemmas.List.{get_or-replicate, length-replicate}
 use Rattle.std.proofs.lemmas.Bool.{cases_lt, true≢false}
 use Rattle.std.proofs.Math.ListN.{get_or-eq_default}
 use Rattle.word32.specs.Zeros.{zeros}
-use Rattle.dev_balloon.specs.Balloon.{BalloonIs, is_given, fresh_balloon}
+use Rattle.dev_balloon.specs.Balloon.{is_given, fresh_balloon}
 use Rattle.elf32.specs.declared.image.Image.{Image}
 use Rattle.items.specs.declared.item.What.{What}
 use Rattle.items.specs.declared.item.What.TheVariants.{Step, In, Drain, Target, Poke, Write}
 use Rattle.items.specs.declared.item.Item.{Item}
 use Rattle.mips_step.specs.declared.access.Size.TheVariants.{Byte}
-use Rattle.mips_step.specs.World.{World, page_bytes, is_given_page, memory_stored}
-use Rattle.mips_step.specs.Agreeing.{IsCleared, GivenAreZeros}
+use Rattle.mips_step.specs.World.{memory_stored}
+use Rattle.mips_step.specs.Agreeing.{GivenAreZeros}
 use Rattle.mips_step.specs.Step.{Machine}
 use Rattle.mips_step.proofs.OtherPages.{zeros_stay, page_stored}
 use Rattle.mips_tlb.specs.Translation.{probed}

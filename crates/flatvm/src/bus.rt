@@ -241,7 +241,7 @@ impl PhysBus for FlatBus {
 
     ghost lacks = { λ kept page kind. None };
 
-    ghost settled = { λ b. Unit {0} };
+    ghost waiting = { λ b page. Unit {0} };
 
     #[inline(always)]
     fn ready(&self, at: u32, size: Size, kind: Kind) -> Result<(), Refusal> {

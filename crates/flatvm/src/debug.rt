@@ -128,7 +128,7 @@ fn first_away_to_store<B: PhysBus>(cpu: &Cpu, bus: &B, address: u32, count: usiz
 
 /// Reads the bytes, each of which has a place in memory that can be looked at.
 fn read_all<B: PhysBus>(cpu: &Cpu, bus: &B, address: u32, bytes: &mut [u8])
-    requires settled { B.settled bus.now }
+    requires settled { B.waiting bus.now None }
     requires placed { is_some (bytes_at (in_world cpu.now (B.world bus.now)) address (length bytes.old)) ≡ true }
     requires there { EachPlace (in_world cpu.now (B.world bus.now)) address (length bytes.old) (CanLook (B.lacks (B.kept bus.now))) }
     ensures { bytes_at (in_world cpu.now (B.world bus.now)) address (length bytes.old) ≡ Some bytes.new }
@@ -143,25 +143,25 @@ fn read_all<B: PhysBus>(cpu: &Cpu, bus: &B, address: u32, bytes: &mut [u8])
 
 /// Stores a byte at a place of memory whose page is there for stores.
 fn store_byte<B: PhysBus>(bus: &mut B, at: u32, byte: u8)
-    requires settled { B.settled bus.old }
+    requires settled { B.waiting bus.old None }
     requires inside { at < length (B.world bus.old).memory }
     requires there { CanStore (B.lacks (B.kept bus.old)) at }
     ensures world { B.world bus.new ≡ memory_stored Size.Byte byte at (B.world bus.old) }
     ensures size { length (B.world bus.new).memory ≡ length (B.world bus.old).memory }
     ensures kept { B.kept bus.new ≡ B.kept bus.old }
-    ensures settled { B.settled bus.new }
+    ensures settled { B.waiting bus.new None }
 {
     bus.store(at, Size::Byte, u32::from(byte));
 }
 
 /// Writes the bytes, each of which has a place in memory whose page is there for stores.
 fn write_all<B: PhysBus>(cpu: &Cpu, bus: &mut B, address: u32, bytes: &[u8])
-    requires settled { B.settled bus.old }
+    requires settled { B.waiting bus.old None }
     requires placed { is_some (bytes_at (in_world cpu.now (B.world bus.old)) address (length bytes.now)) ≡ true }
     requires there { EachPlace (in_world cpu.now (B.world bus.old)) address (length bytes.now) (CanStore (B.lacks (B.kept bus.old))) }
     ensures written { in_world cpu.now (B.world bus.new) ≡ written_from 0 address bytes.now (in_world cpu.now (B.world bus.old)) }
     ensures kept { B.kept bus.new ≡ B.kept bus.old }
-    ensures settled { B.settled bus.new }
+    ensures settled { B.waiting bus.new None }
 {
     for k in 0..bytes.len() {
         match probe(cpu, bus, moved(address, k)) {
@@ -177,7 +177,7 @@ fn write_all<B: PhysBus>(cpu: &Cpu, bus: &mut B, address: u32, bytes: &[u8])
 /// It answers `NoPlace` exactly where one of the bytes has no place in memory, and else `Away` exactly where one of them
 /// lies in a page that is swapped out, with such a page. Then `bytes` is as before.
 pub fn read<B: PhysBus>(cpu: &Cpu, bus: &B, address: u32, bytes: &mut [u8]) -> Result<(), Unreached>
-    requires settled { B.settled bus.now }
+    requires settled { B.waiting bus.now None }
     ensures read { OnOk result (bytes_at (in_world cpu.now (B.world bus.now)) address (length bytes.old) ≡ Some bytes.new) }
     ensures no_place { IsErrOf result Unreached.NoPlace ↔ (bytes_at (in_world cpu.now (B.world bus.now)) address (length bytes.old) ≡ None) }
     ensures there { OnOk result (EachPlace (in_world cpu.now (B.world bus.now)) address (length bytes.old) (CanLook (B.lacks (B.kept bus.now)))) }
@@ -206,7 +206,7 @@ pub fn write<B: PhysBus>(
     address: u32,
     bytes: &[u8],
 ) -> Result<(), Unreached>
-    requires settled { B.settled bus.old }
+    requires settled { B.waiting bus.old None }
     ensures written { OnOk result (in_world cpu.now (B.world bus.new) ≡ written_from 0 address bytes.now (in_world cpu.now (B.world bus.old))) }
     ensures no_place { IsErrOf result Unreached.NoPlace ↔ (bytes_at (in_world cpu.now (B.world bus.old)) address (length bytes.now) ≡ None) }
     ensures there { OnOk result (EachPlace (in_world cpu.now (B.world bus.old)) address (length bytes.now) (CanStore (B.lacks (B.kept bus.old)))) }
@@ -214,7 +214,7 @@ pub fn write<B: PhysBus>(
     ensures its_page { (page : ℕ) → IsErrOf result (Unreached.Away page) → SomePlaceIn (in_world cpu.now (B.world bus.old)) address (length bytes.now) page }
     ensures unchanged { OnErr result (bus.new ≡ bus.old) }
     ensures kept { B.kept bus.new ≡ B.kept bus.old }
-    ensures settled { B.settled bus.new }
+    ensures settled { B.waiting bus.new None }
 {
     if !are_placed(cpu, bus, address, bytes.len()) {
         return Err(Unreached::NoPlace);

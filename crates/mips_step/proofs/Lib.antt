@@ -8,5 +8,6 @@ pub mod Lacking
 pub mod Operations
 pub mod OtherPages
 pub mod Pages
+pub mod StepGiven
 pub mod Stores
 pub mod Worlds

@@ -1,10 +1,10 @@
 //! The bus.
-ghost use Rattle.std.specs.Prelude.{◌≡◌, ◌≢◌, ℕ, ◌<◌, ◌%◌, length, slice_index, Option, Some};
+ghost use Rattle.std.specs.Prelude.{◌≡◌, ◌≢◌, ℕ, ◌<◌, ◌%◌, length, slice_index, Option, Some, None};
 ghost use Rattle.word32.specs.Pages.{page_number};
 ghost use Rattle.mips_tlb.specs.declared.kind.Kind.{Kind};
 ghost use Rattle.mips_step.specs.declared.access.Why.{Why};
 ghost use Rattle.mips_step.specs.World.{World, reach, value_in, reached_value, touched, world_loaded, world_stored, lines_of, limit_of};
-ghost use Rattle.mips_step.specs.World.Reach.{InMemory};
+ghost use Rattle.mips_step.specs.Given.{reached_given};
 ghost use Rattle.mips_step.specs.Places.{alignment};
 ghost use Rattle.mips_step.specs.Bus.{readiness, IsReady};
 
@@ -19,7 +19,7 @@ use crate::{Kind, Refusal, Size};
 /// changes the world as the definitions say, and leaves what is kept.
 ///
 /// A store to the balloon may give a page away. The world shows that page as zeros from then on, while the bus may leave
-/// it to its owner to take the page away after the step; until then it is not `settled`, and the next access waits.
+/// it to its owner to take the page away after the step; until then the page is `waiting`, and so does the next access.
 pub trait PhysBus {
     /// The memory and the devices behind the bus, with each page there.
     ghost world: { Self → World };
@@ -33,8 +33,9 @@ pub trait PhysBus {
     /// Why a page of this number is lacking for an access of a kind, or `None` where it is there.
     ghost lacks: { Self.Kept → ℕ → Kind → Option Why };
 
-    /// No page that was given away waits for the owner of the bus to take it.
-    ghost settled: { Self → Type 0 };
+    /// The page that was given away and waits for the owner of the bus to take it; `None` where no page waits. A bus that
+    /// leaves no page to its owner may say so of any page.
+    ghost waiting: { Self → Option ℕ → Type 0 };
 
     /// Whether an access would be answered, and why not.
     fn ready(&self, at: u32, size: Size, kind: Kind) -> Result<(), Refusal>
@@ -43,31 +44,31 @@ pub trait PhysBus {
 
     /// The word that a fetch would give.
     fn peek(&self, at: u32) -> u32
-        requires settled { settled self.now }
+        requires settled { waiting self.now None }
         requires aligned { at % 4 ≡ 0 }
         requires ready { IsReady (world self.now) (lacks (kept self.now)) Kind.Fetch Size.Word at }
         ensures { result ≡ value_in (world self.now).memory Size.Word at };
 
     /// Fetches a word.
     fn fetch(&mut self, at: u32) -> u32
-        requires settled { settled self.old }
+        requires settled { waiting self.old None }
         requires aligned { at % 4 ≡ 0 }
         requires ready { IsReady (world self.old) (lacks (kept self.old)) Kind.Fetch Size.Word at }
         ensures value { result ≡ value_in (world self.old).memory Size.Word at }
         ensures world { world self.new ≡ touched at (world self.old) }
         ensures kept { kept self.new ≡ kept self.old }
-        ensures settled { settled self.new };
+        ensures settled { waiting self.new None };
 
     /// Loads a value, which has no more bits than the access.
     fn load(&mut self, at: u32, size: Size) -> u32
-        requires settled { settled self.old }
+        requires settled { waiting self.old None }
         requires aligned { at % alignment size ≡ 0 }
         requires ready { IsReady (world self.old) (lacks (kept self.old)) Kind.Load size at }
         ensures value { result ≡ reached_value (reach (world self.old) Kind.Load size at) size at (world self.old) }
         ensures small { result < limit_of size }
         ensures world { world self.new ≡ world_loaded (reach (world self.old) Kind.Load size at) at (world self.old) }
         ensures kept { kept self.new ≡ kept self.old }
-        ensures settled { settled self.new };
+        ensures settled { waiting self.new None };
 
     /// The interrupt lines that are raised, bit k for IPk.
     fn lines(&self) -> u8
@@ -76,18 +77,18 @@ pub trait PhysBus {
     /// The byte of memory at an address, as a debugger sees it: a page that was never touched or was given away is
     /// zeros, and stays as it is.
     fn look(&self, at: u32) -> u8
-        requires settled { settled self.now }
+        requires settled { waiting self.now None }
         requires inside { at < length (world self.now).memory }
         requires there { lacks (kept self.now) (page_number at) Kind.Load ≢ Some Why.Swapped }
         ensures { result ≡ slice_index (world self.now).memory at };
 
-    /// Stores a value, of which a byte or a half-word takes the lowest bits. It may give a page away, and then may leave the
-    /// bus unsettled.
+    /// Stores a value, of which a byte or a half-word takes the lowest bits. It may give a page away, which then
+    /// may wait for the owner of the bus.
     fn store(&mut self, at: u32, size: Size, value: u32)
-        requires settled { settled self.old }
+        requires settled { waiting self.old None }
         requires aligned { at % alignment size ≡ 0 }
         requires ready { IsReady (world self.old) (lacks (kept self.old)) Kind.Store size at }
         ensures world { world self.new ≡ world_stored (reach (world self.old) Kind.Store size at) size value at (world self.old) }
         ensures kept { kept self.new ≡ kept self.old }
-        ensures settled { reach (world self.old) Kind.Store size at ≡ InMemory → settled self.new };
+        ensures waiting { waiting self.new (reached_given (reach (world self.old) Kind.Store size at) value (world self.old)) };
 }

@@ -1,5 +1,5 @@
 //! Laws of the definitions.
-ghost use Rattle.std.specs.Prelude.{◌≡◌, ◌⊎◌, ℕ, Bool, false, IsTrue, All, length, Some, None, option_to_list};
+ghost use Rattle.std.specs.Prelude.{◌≡◌, ◌⊎◌, ℕ, Bool, true, false, IsTrue, All, length, Some, None, option_to_list};
 ghost use Rattle.mips_isa.specs.Memory.{touches_memory};
 ghost use Rattle.mips_isa.specs.Table.{readings};
 ghost use Rattle.mips_instr.specs.declared.instr.Instr.{Instr};
@@ -11,7 +11,7 @@ ghost use Rattle.mips_step.specs.Operations.{is_load_or_store, operation_of, ins
 ghost use Rattle.mips_step.specs.Step.{Machine, in_world, step};
 ghost use Rattle.mips_step.specs.Accesses.{accesses, first_lack};
 ghost use Rattle.mips_step.specs.Agreeing.{Agree, Within, StoresTo, GivenAreZeros};
-ghost use Rattle.mips_step.specs.Given.{balloon_order, pages_taken, ordered, AccessesPage, TakesPage, GivesPage};
+ghost use Rattle.mips_step.specs.Given.{balloon_order, pages_taken, ordered, step_given, AccessesPage, TakesPage, GivesPage};
 ghost use Rattle.mips_step.specs.Given.BalloonOrder.{Give, Take};
 
 use mips_isa::decode;
@@ -68,4 +68,12 @@ pub fn given_pages_change_by_accesses_and_orders()
     ensures balloon { (m : Machine) → (step m).world.devices.balloon ≡ ordered (balloon_order m) (pages_taken (accesses m) m.world.devices.balloon) }
     ensures taken { (m : Machine) (page : ℕ) → TakesPage page m → AccessesPage page m ⊎ (balloon_order m ≡ Some (Take page)) }
     ensures given { (m : Machine) (page : ℕ) → GivesPage page m → balloon_order m ≡ Some (Give page) }
+{}
+
+/// A law: the page that a step gives, if it gives one, is given after it; and a page that was not given before a step and is
+/// after it is the one that the step gives.
+#[tactic(auto, using(crate::proofs::StepGiven::newly_given, crate::proofs::StepGiven::given_after))]
+pub fn a_step_gives_one_page()
+    ensures newly { (m : Machine) (page : ℕ) → GivesPage page m → step_given m ≡ Some page }
+    ensures given { (m : Machine) (page : ℕ) → step_given m ≡ Some page → is_given_page page (step m).world ≡ true }
 {}

@@ -5,6 +5,7 @@ ghost use Rattle.word32.specs.Zeros.{zeros};
 ghost use Rattle.devices.specs.Devices.{fresh_devices};
 ghost use Rattle.devices.specs.Registers.{device_register_at};
 ghost use Rattle.mips_step.specs.World.{with_memory, is_in_memory, register_reach, reached_value, world_loaded, world_stored};
+ghost use Rattle.mips_step.specs.Given.{reached_given};
 ghost use Rattle.mips_step.specs.Places.{alignment};
 ghost use Rattle.physmap.specs.declared.page.Page.{Page};
 ghost use Rattle.physmap.specs.declared.page.PageKind.{PageKind};
@@ -200,6 +201,7 @@ impl PagedBus {
         requires settled { IsSettled self.old }
         ensures world { world_of self.new ≡ world_stored (register_reach (device_register_at at)) Size.Word value at (world_of self.old) }
         ensures pages { self.new.pages ≡ self.old.pages }
+        ensures waiting { self.new.waiting ≡ reached_given (register_reach (device_register_at at)) value (world_of self.old) }
     {
         if let Some(register) = DeviceRegister::at(at) {
             self.waiting = self.devices.store(register, value);
@@ -227,7 +229,7 @@ impl PhysBus for PagedBus {
 
     ghost lacks = { lacks_in };
 
-    ghost settled = { IsSettled };
+    ghost waiting = { λ b page. b.waiting ≡ page };
 
     #[inline(always)]
     fn ready(&self, at: u32, size: Size, kind: Kind) -> Result<(), Refusal> {

@@ -161,7 +161,7 @@ impl PhysBus for Sparse {
 
     ghost lacks = { λ absent page kind. if page == absent then Some First else None };
 
-    ghost settled = { λ s. Unit {0} };
+    ghost waiting = { λ s page. Unit {0} };
 
     fn ready(&self, at: u32, size: Size, kind: Kind) -> Result<(), Refusal> {
         let (first, count) = reached(size, at);

@@ -1,4 +1,4 @@
-use Rattle.std.proofs.Common.{◌≡◌, ℕ, ◌+◌, ◌%◌, ◌^◌, is_some, Some, drop, sym, ap, ◌∙◌, arith}
+use Rattle.std.proofs.Common.{◌≡◌, ◌+◌, ◌%◌, ◌^◌, is_some, Some, drop, sym, ap, ◌∙◌}
 use Rattle.mips_step.specs.World.{World}
 use Rattle.mips_step.specs.Step.{Machine, in_world}
 use Rattle.flatvm.specs.Items.{written_from}

@@ -1,4 +1,4 @@
-use Rattle.std.proofs.Common.{◌≡◌, length, drop}
+use Rattle.std.proofs.Common.{◌≡◌, None, length, drop}
 use Rattle.mips_step.specs.Step.{in_world}
 use Rattle.flatvm.specs.Items.{written_from}
 use Rattle.flatvm.proofs.debug.write_all.Given as goal
@@ -9,5 +9,5 @@ invariant-loop-k g l = record {
   left : written_from l.k l.address (drop l.k l.bytes) (in_world l.cpu (g.B.PhysBus.world l.bus)) ≡ written_from 0 l.address l.bytes (in_world l.cpu (g.B.PhysBus.world l.fn.bus));
   size : length (g.B.PhysBus.world l.bus).memory ≡ length (g.B.PhysBus.world l.fn.bus).memory;
   kept : g.B.PhysBus.kept l.bus ≡ g.B.PhysBus.kept l.fn.bus;
-  settled : g.B.PhysBus.settled l.bus;
+  settled : g.B.PhysBus.waiting l.bus None;
 }
