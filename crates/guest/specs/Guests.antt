@@ -6,7 +6,7 @@ use Rattle.mips_step.specs.Step.{Machine}
 use Rattle.flatvm.specs.Items.{accepts, after, run, AllAccepted}
 use Rattle.guest_log.specs.Logs.{LogIs}
 use Rattle.loghead.specs.Heads.{HeadId, SeatIs}
-use Rattle.guest.specs.Journals.{JournalIs, Adds}
+use Rattle.journal.specs.Journals.{JournalIs, Adds}
 
 pub record GuestIs : Type 0 where
   pub machine : Machine

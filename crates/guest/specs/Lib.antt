@@ -1,2 +1,1 @@
 pub mod Guests
-pub mod Journals

@@ -1,11 +1,11 @@
 //! A guest.
 ghost use Rattle.std.specs.Prelude.{◌≡◌};
 
-use crate::journal::Journal;
 use crate::{Head, Log, Refused, Seat, Stop};
 use elf32::Image;
 use flatvm::{FlatBus, Rejection, Reply, Unreached, View, debug};
 use items::Item;
+use journal::Journal;
 use mips_step::{Cpu, Ppn, StepOut, Why};
 use std::alloc::{AllocError, Global};
 use std::marker::Model;

@@ -10,7 +10,6 @@
 
 pub mod guest;
 pub mod image;
-mod journal;
 pub mod refused;
 pub mod runner;
 #[cfg(test)]

@@ -4,11 +4,11 @@ ghost use Rattle.items.specs.Entries.{step_by};
 ghost use Rattle.items.specs.Items.{is_step};
 ghost use Rattle.guest_log.specs.Logs.{HasRoom, HasItemRoom, IsFull, TakesRoom};
 ghost use Rattle.loghead.specs.Legal.{Legal};
-ghost use Rattle.guest.specs.Journals.{JournalIs, Adds};
+ghost use Rattle.journal.specs.Journals.{JournalIs, Adds};
 
-use crate::{Log, Seat, Stop};
+use guest_log::{Log, Stop};
 use items::Item;
-use loghead::{Head, Pen};
+use loghead::{Head, Pen, Seat};
 use std::alloc::{AllocError, Global};
 use std::marker::Model;
 use std::sync::Arc;
@@ -16,14 +16,14 @@ use std::sync::Arc;
 /// The log of a guest, and the pen of its head: the items of the log are those that the pen appended. In clauses it is a record,
 /// `JournalIs`.
 #[derive(Drop)]
-pub(crate) struct Journal {
+pub struct Journal {
     log: Log,
     head: Arc<Head, Global>,
     pen: Pen,
 }
 
 impl Model for Journal {
-    ghost use Rattle.guest.specs.Journals.{JournalIs, IsPenOf};
+    ghost use Rattle.journal.specs.Journals.{JournalIs, IsPenOf};
 
     ghost Value = { JournalIs };
 
@@ -34,7 +34,7 @@ impl Model for Journal {
 
 impl Journal {
     /// A journal of nothing, of at most `runs` runs, and no seat.
-    pub(crate) fn new(alloc: Global, runs: u32) -> Result<Journal, AllocError>
+    pub fn new(alloc: Global, runs: u32) -> Result<Journal, AllocError>
         ensures items { IfOk result (λ j. j.log.items ≡ []) }
         ensures limit { IfOk result (λ j. j.log.limit ≡ runs) }
         ensures seats { IfOk result (λ j. j.seats ≡ 0) }
@@ -48,28 +48,28 @@ impl Journal {
     }
 
     /// The log.
-    pub(crate) fn log(&self) -> &Log
+    pub fn log(&self) -> &Log
         ensures { result.now ≡ self.now.log }
     {
         &self.log
     }
 
     /// The head, for those who share it. `AllocError` where no further owner can be counted.
-    pub(crate) fn head(&self) -> Result<Arc<Head, Global>, AllocError>
+    pub fn head(&self) -> Result<Arc<Head, Global>, AllocError>
         ensures { IfOk result (λ head. head.value ≡ self.now.head) }
     {
         self.head.clone()
     }
 
     /// How many seats there are.
-    pub(crate) fn seats(&self) -> u8
+    pub fn seats(&self) -> u8
         ensures { result ≡ self.now.seats }
     {
         self.pen.seats()
     }
 
     /// The next seat, which has seen nothing.
-    pub(crate) fn seat(&mut self) -> Seat
+    pub fn seat(&mut self) -> Seat
         requires { self.old.seats < 4 }
         ensures journal { self.new ≡ record self.old { seats = self.old.seats + 1 } }
         ensures seat { result ≡ record { head = self.old.head; number = self.old.seats; saw = []; made = [] } }
@@ -79,7 +79,7 @@ impl Journal {
 
     /// Makes room for a step, as `Log::make_room`.
     #[inline]
-    pub(crate) fn make_room(&mut self) -> Result<(), Stop>
+    pub fn make_room(&mut self) -> Result<(), Stop>
         ensures room { OnOk result (HasRoom self.new.log) }
         ensures full { IsErrOf result Stop.LogFull ↔ IsFull self.old.log }
         ensures taken { TakesRoom self.old.log self.new.log }
@@ -89,7 +89,7 @@ impl Journal {
     }
 
     /// Makes room for an item that is no step, as `Log::make_item_room`.
-    pub(crate) fn make_item_room(&mut self) -> Result<(), Stop>
+    pub fn make_item_room(&mut self) -> Result<(), Stop>
         ensures room { OnOk result (HasItemRoom self.new.log) }
         ensures full { IsErrOf result Stop.LogFull ↔ IsFull self.old.log }
         ensures taken { TakesRoom self.old.log self.new.log }
@@ -100,7 +100,7 @@ impl Journal {
 
     /// Adds a step of the seat. Other seats may not see it before `publish`.
     #[inline]
-    pub(crate) fn step(&mut self, seat: &mut Seat)
+    pub fn step(&mut self, seat: &mut Seat)
         requires head { seat.old.head ≡ self.old.head }
         requires room { HasRoom self.old.log }
         ensures adds { Adds self.old.log seat.old (step_by seat.old.number) self.new.log seat.new }
@@ -111,7 +111,7 @@ impl Journal {
     }
 
     /// Adds an item of the seat that is no step.
-    pub(crate) fn add(&mut self, item: Item, seat: &mut Seat)
+    pub fn add(&mut self, item: Item, seat: &mut Seat)
         requires head { seat.old.head ≡ self.old.head }
         requires own { item.seat ≡ seat.old.number }
         requires room { HasItemRoom self.old.log }
@@ -125,14 +125,14 @@ impl Journal {
 
     /// Shows every seat that looks from now on the whole log.
     #[inline]
-    pub(crate) fn publish(&mut self)
+    pub fn publish(&mut self)
         ensures { self.new ≡ self.old }
     {
         self.head.publish(&mut self.pen);
     }
 
     /// Shows the seat the whole log, for which it is legal.
-    pub(crate) fn settle(&mut self, seat: &mut Seat)
+    pub fn settle(&mut self, seat: &mut Seat)
         requires { seat.old.head ≡ self.old.head }
         ensures journal { self.new ≡ self.old }
         ensures seat { seat.new ≡ record seat.old { saw = self.old.log.items } }

@@ -1,5 +1,5 @@
 -- The log of a guest with its pen, and what an item adds to it.
-use Rattle.std.specs.Prelude.{◌≡◌, ℕ, List, [], ◌∷◌, ◌++◌}
+use Rattle.std.specs.Prelude.{◌≡◌, ℕ, [], ◌∷◌, ◌++◌}
 use Rattle.items.specs.declared.item.Item.{Item}
 use Rattle.guest_log.specs.Logs.{LogIs}
 use Rattle.loghead.specs.Heads.{HeadId, PenIs, SeatIs}
