@@ -1,0 +1,84 @@
+-- What is seen of a guest, and what becomes of it.
+use Rattle.std.specs.Prelude.{◌≡◌, ℕ, Option, Some, None, List, []}
+use Rattle.items.specs.declared.item.Item.{Item}
+use Rattle.mips_step.specs.Processor.{Processor}
+use Rattle.mips_step.specs.Step.{Machine, in_world}
+use Rattle.flatvm.specs.Items.{run, AllAccepted}
+use Rattle.guest_log.specs.Logs.{LogIs}
+use Rattle.loghead.specs.Heads.{HeadId, SeatIs}
+use Rattle.journal.specs.Journals.{JournalIs, Adds}
+use Rattle.mips_step.specs.declared.access.Why.{Why}
+use Rattle.physmap.specs.declared.page.Page.{Page}
+use Rattle.physmap.specs.declared.page.Returned.{Returned}
+use Rattle.physmap.specs.Outline.{outline}
+use Rattle.paged_bus.specs.Buses.{PagedBusIs, world_of, with_pages, pages_settled, page_returned}
+use Rattle.paged_guest.specs.declared.stepped.Stepped.{Stepped}
+use Rattle.paged_guest.specs.declared.stepped.Stepped.TheVariants.{Done, Need}
+use Rattle.paged_guest.specs.Views.{Shows}
+
+pub record GuestIs : Type 0 where
+  pub cpu : Processor
+  -- its pages and its devices
+  pub bus : PagedBusIs
+  -- the machine that the guest's image boots
+  pub boot : Machine
+  pub log : LogIs
+  -- which head the log has: a seat of the guest has the same
+  pub head : HeadId
+  -- how many seats were made
+  pub seats : ℕ
+
+abbrev pub guest_of : Processor → PagedBusIs → Machine → JournalIs → GuestIs
+guest_of cpu bus boot journal =
+    record { cpu = cpu; bus = bus; boot = boot; log = journal.log; head = journal.head; seats = journal.seats }
+
+-- The guest's view: the machine that a table machine with a plain memory of its own is after the items of the guest's log,
+-- from the boot of the guest's image.
+abbrev pub view_of : GuestIs → Machine
+view_of g = run g.log.items g.boot
+
+-- the processor and the memory as they stand, in which a page that is in a slot is zeros
+abbrev pub standing : GuestIs → Machine
+standing g = in_world g.cpu (world_of g.bus)
+
+-- Processor, devices and pages are those of the view, a page in a slot by its SHA-256; and each item of the log was accepted.
+pub record Intact (g : GuestIs) : Type 0 where
+  pub shows : Shows (view_of g) g.cpu g.bus
+  pub accepted : AllAccepted g.log.items g.boot
+
+-- all of a guest but its pages
+abbrev pub without_pages : GuestIs → GuestIs
+without_pages g = record g { bus = with_pages [] g.bus }
+
+-- the page that a step needs
+abbrev pub need_of : Stepped → Option (ℕ × Why)
+need_of (Done returned) = None
+need_of (Need page why) = Some (page, why)
+
+-- A step that is made may have given a page to the balloon. Of the pages that were, with bytes that the step may have changed,
+-- that page is given now, and what it was in has come back.
+pub record Gives (given : Option ℕ) (old : List Page) (returned : Returned) (new : List Page) : Type 0 where
+  pub before : List Page
+  pub same : outline before ≡ outline old
+  pub pages : new ≡ pages_settled given before
+  pub what : returned ≡ page_returned given before
+
+-- what came back from a step that is made
+abbrev pub HandsBack : Option ℕ → List Page → Stepped → List Page → Type 0
+HandsBack given old (Done returned) new = Gives given old returned new
+HandsBack given old (Need page why) new = new ≡ old
+
+-- an item of a seat is added to the log, and all else stays that is neither processor nor memory
+pub record Logs (g : GuestIs) (seat : SeatIs) (i : Item) (g' : GuestIs) (seat' : SeatIs) : Type 0 where
+  pub boot : g'.boot ≡ g.boot
+  pub head : g'.head ≡ g.head
+  pub seats : g'.seats ≡ g.seats
+  pub adds : Adds g.log seat i g'.log seat'
+
+-- all of a guest stays, but perhaps its log
+pub record LogsOnly (g g' : GuestIs) : Type 0 where
+  pub cpu : g'.cpu ≡ g.cpu
+  pub bus : g'.bus ≡ g.bus
+  pub boot : g'.boot ≡ g.boot
+  pub head : g'.head ≡ g.head
+  pub seats : g'.seats ≡ g.seats

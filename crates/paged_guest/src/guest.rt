@@ -1,0 +1,312 @@
+//! A guest.
+ghost use Rattle.std.specs.Prelude.{◌≡◌};
+
+use crate::loading::load_page;
+use crate::step::{input_pages, need_pages, read_pages, step_pages};
+use crate::{Head, Log, Refused, Seat, Stepped, Stop};
+use elf32::Image;
+use flatvm::{Reply, Unreached, View};
+use items::Item;
+use journal::Journal;
+use mips_step::{Cpu, Ppn, Why};
+use paged_bus::{InputError, PagedBus};
+use std::alloc::{AllocError, Global};
+use std::marker::Model;
+use std::sync::Arc;
+
+/// A guest whose memory is pages, each of which is in a frame, in a slot of the swap store, or nowhere yet. In clauses it is a
+/// record, `GuestIs`: its processor, its pages and devices, the machine that its image boots, its log, the log's head, and how
+/// many seats it has.
+///
+/// Its view is the machine that runs the log's items alone, on a plain memory, from the boot (`view_of`). While the guest is
+/// `Intact`, its processor, its devices and its pages are the view's, a page in a slot by its SHA-256.
+pub struct Guest {
+    pub(crate) cpu: Cpu,
+    pub(crate) bus: PagedBus,
+    /// What the guest has booted, with as many pages: the view begins there.
+    pub(crate) image: Arc<Image, Global>,
+    pub(crate) pages: u32,
+    pub(crate) journal: Journal,
+}
+
+impl Model for Guest {
+    ghost use Rattle.flatvm.specs.Boot.{boot_machine};
+    ghost use Rattle.paged_bus.specs.Buses.{IsSettled};
+    ghost use Rattle.paged_guest.specs.Guests.{GuestIs, guest_of};
+
+    ghost Value = { GuestIs };
+
+    ghost view = { λ g. guest_of g.cpu g.bus (boot_machine g.image.value g.pages) g.journal };
+
+    ghost invariant = { λ g. IsSettled g.bus };
+}
+
+impl Guest {
+    ghost use Rattle.std.specs.Prelude.{◌≡◌, ◌≢◌, ◌+◌, ◌<◌, ◌≤◌, ◌^◌, ℕ, true, false, List, [], OnOk, OnErr, IsErrOf, ◌↔◌, IfOk, None, Some, Option};
+    ghost use Rattle.std.specs.Prelude.{length, replicate, slice_set};
+    ghost use Rattle.elf32.specs.Images.{FitsPages};
+    ghost use Rattle.items.specs.Items.{is_step};
+    ghost use Rattle.items.specs.declared.item.What.TheVariants.{Step};
+    ghost use Rattle.devices.specs.Devices.{fresh_devices};
+    ghost use Rattle.mips_tlb.specs.declared.kind.Kind.TheVariants.{Store};
+    ghost use Rattle.mips_step.specs.Step.{step};
+    ghost use Rattle.mips_step.specs.World.{page_bytes};
+    ghost use Rattle.mips_step.specs.Given.{step_given};
+    ghost use Rattle.mips_step.specs.Accesses.{accesses, first_lack};
+    ghost use Rattle.flatvm.specs.Answers.{replied};
+    ghost use Rattle.flatvm.specs.Boot.{boot_machine, boot_memory};
+    ghost use Rattle.flatvm.specs.Items.{accepts, after, reply};
+    ghost use Rattle.flatvm.specs.Replies.{bytes_at, SomePlaceIn};
+    ghost use Rattle.guest_log.specs.Logs.{HasRoom, IsFull, TakesRoom};
+    ghost use Rattle.guest_log.specs.declared.stop.Stop.{Stop};
+    ghost use Rattle.loghead.specs.Legal.{Legal};
+    ghost use Rattle.physmap.specs.declared.page.Page.{Page};
+    ghost use Rattle.physmap.specs.declared.page.PageKind.{PageKind};
+    ghost use Rattle.physmap.specs.Pages.{page_at, kind_at, own_frame};
+    ghost use Rattle.physmap.specs.Outline.{outline};
+    ghost use Rattle.paging.specs.Faith.{Kept};
+    ghost use Rattle.paged_bus.specs.Lacking.{lacks_in};
+    ghost use Rattle.paged_bus.specs.Writes.{WritesTo};
+    ghost use Rattle.paged_guest.specs.Guests.{GuestIs, view_of, standing, Intact, need_of, without_pages, HandsBack, Logs, LogsOnly};
+    ghost use Rattle.paged_guest.specs.Views.{pages_seen};
+
+    /// A guest with a memory of `pages` pages, at most 2^20, which hold the image, and a log of at most `log_runs` runs. No page
+    /// was ever touched: before the first step each page that the image reaches (`reaches`) is to be supplied and loaded
+    /// (`load_page`), and then the guest is intact. Guests of one image may share it.
+    pub fn boot(
+        alloc: Global,
+        image: Arc<Image, Global>,
+        pages: u32,
+        log_runs: u32,
+    ) -> Result<Guest, AllocError>
+        requires fits { FitsPages image.value pages }
+        requires few { pages ≤ 2 ^ 20 }
+        ensures cpu { IfOk result (λ g. g.cpu ≡ g.boot.cpu) }
+        ensures bus { IfOk result (λ g. g.bus ≡ record { pages = replicate pages Page.Zero; devices = fresh_devices pages; waiting = None }) }
+        ensures boot { IfOk result (λ g. g.boot ≡ boot_machine image.value pages) }
+        ensures log { IfOk result (λ g. g.log.items ≡ []) }
+        ensures limit { IfOk result (λ g. g.log.limit ≡ log_runs) }
+        ensures seats { IfOk result (λ g. g.seats ≡ 0) }
+    {
+        let journal = Journal::new(alloc, log_runs)?;
+        Ok(Guest {
+            cpu: Cpu::boot(image.entry),
+            bus: PagedBus::new(alloc, pages)?,
+            image,
+            pages,
+            journal,
+        })
+    }
+
+    /// Puts the bytes that a page has as the image boots into the frame that the page has for its own. All else of the guest
+    /// stays.
+    pub fn load_page(&mut self, image: &Image, p: Ppn)
+        requires fits { FitsPages image.now (length self.old.bus.pages) }
+        requires there { p < length self.old.bus.pages }
+        requires private { kind_at self.old.bus.pages p ≡ PageKind.Private }
+        ensures pages { self.new.bus.pages ≡ slice_set self.old.bus.pages p (Page.Private (record {
+          number = (own_frame (page_at self.old.bus.pages p)).number;
+          bytes = page_bytes p (boot_memory image.now (length self.old.bus.pages));
+        })) }
+        ensures rest { without_pages self.new ≡ without_pages self.old }
+    {
+        load_page(&mut self.bus, image, p);
+    }
+
+    /// The next seat of the guest, which has seen and made nothing. The seats' numbers rise from 0, and a guest has at most four.
+    pub fn seat(&mut self) -> Seat
+        requires { self.old.seats < 4 }
+        ensures guest { self.new ≡ record self.old { seats = self.old.seats + 1 } }
+        ensures seat { result ≡ record { head = self.old.head; number = self.old.seats; saw = []; made = [] } }
+    {
+        self.journal.seat()
+    }
+
+    /// How many seats it has, at most four.
+    pub fn seats(&self) -> u8
+        ensures { result ≡ self.now.seats }
+    {
+        self.journal.seats()
+    }
+
+    /// The head of the log, for those who look at it without the guest. `AllocError` where no further owner can be counted.
+    pub fn head(&self) -> Result<Arc<Head, Global>, AllocError>
+        ensures { IfOk result (λ head. head.value ≡ self.now.head) }
+    {
+        self.journal.head()
+    }
+
+    /// What is seen of the machine beside its memory.
+    pub fn view(&self) -> View<'_>
+        ensures cpu { result.cpu.now ≡ self.now.cpu }
+        ensures devices { result.devices.now ≡ self.now.bus.devices }
+    {
+        View {
+            cpu: &self.cpu,
+            devices: self.bus.devices(),
+        }
+    }
+
+    /// The log of what happened.
+    pub fn log(&self) -> &Log
+        ensures { result.now ≡ self.now.log }
+    {
+        self.journal.log()
+    }
+
+    /// Makes room in the log for one more step. All else stays, and the room becomes at most that for as many more runs as there
+    /// are, and 16.
+    ///
+    /// It answers `LogFull` exactly where the log has its greatest number of runs or 2^62 items, and `Memory` only where a
+    /// request for memory was refused.
+    pub fn log_room(&mut self) -> Result<(), Stop>
+        ensures room { OnOk result (HasRoom self.new.log) }
+        ensures full { IsErrOf result Stop.LogFull ↔ IsFull self.old.log }
+        ensures taken { TakesRoom self.old.log self.new.log }
+        ensures unchanged { LogsOnly self.old self.new }
+    {
+        self.journal.make_room()
+    }
+
+    /// Shows every seat that looks from now on the whole log: what `step` added other seats may not see before. It is called
+    /// before anything that another seat must see.
+    #[inline]
+    pub fn publish(&mut self)
+        ensures { self.new ≡ self.old }
+    {
+        self.journal.publish();
+    }
+
+    /// Shows the seat the whole log, for which it is legal.
+    pub fn settle(&mut self, seat: &mut Seat)
+        requires { seat.old.head ≡ self.old.head }
+        ensures guest { self.new ≡ self.old }
+        ensures seat { seat.new ≡ record seat.old { saw = self.old.log.items } }
+        ensures legal { Legal self.old.log.items seat.old.number seat.old.saw seat.old.made }
+    {
+        self.journal.settle(seat);
+    }
+
+    /// The `Need` that `step` would answer.
+    pub fn need(&self) -> Option<(Ppn, Why)>
+        ensures { Intact self.now → result ≡ first_lack (lacks_in self.now.bus.pages) (accesses (view_of self.now)) }
+    {
+        need_pages(&self.cpu, &self.bus)
+    }
+
+    /// One step, as an item of the seat. It takes no memory; room in the log is the caller's condition, and `log_room` makes
+    /// it.
+    ///
+    /// It answers `Need` exactly where the view's step would access a page that was never touched or was given (`First`), that
+    /// is in a slot (`Swapped`), or that is shared and would be stored to (`Copy`), the fetch's page first, and then nothing has
+    /// changed. Else it answers `Done`: the view has moved by one step, and the log has that step more; the seat has made it and
+    /// has seen the whole log, for which it is legal. Other seats may not see the step before `publish`. Where the step gave a
+    /// page to the balloon, what that page was in comes back.
+    #[inline]
+    pub fn step(&mut self, seat: &mut Seat) -> Stepped
+        requires head { seat.old.head ≡ self.old.head }
+        requires room { HasRoom self.old.log }
+        ensures need { Intact self.old → need_of result ≡ first_lack (lacks_in self.old.bus.pages) (accesses (view_of self.old)) }
+        ensures logs { need_of result ≡ None → Logs self.old seat.old (record { seat = seat.old.number; what = Step }) self.new seat.new }
+        ensures moves { need_of result ≡ None → view_of self.new ≡ step (view_of self.old) }
+        ensures intact { Intact self.old → Intact self.new }
+        ensures kept { Intact self.old → (held : ℕ → Option (List ℕ)) →
+            Kept held (pages_seen (view_of self.old)) self.old.bus.pages → Kept held (pages_seen (view_of self.new)) self.new.bus.pages }
+        ensures hands_back { HandsBack (step_given (standing self.old)) self.old.bus.pages result self.new.bus.pages }
+        ensures need_unchanged { need_of result ≢ None → (self.new ≡ self.old) × (seat.new ≡ seat.old) }
+    {
+        match step_pages(&mut self.cpu, &mut self.bus) {
+            Stepped::Done(returned) => {
+                self.journal.step(seat);
+                Stepped::Done(returned)
+            }
+            Stepped::Need(page, why) => Stepped::Need(page, why),
+        }
+    }
+
+    /// What happens to the guest by an item of the seat that is no step. It makes the room that the item needs in the log
+    /// itself.
+    ///
+    /// It answers `Machine` only where the view does not accept the item; `Away` only of a write, with a page that one of its bytes
+    /// lies in and that is in no frame of its own; `Stop(LogFull)` exactly where the log has its greatest number of runs or 2^62
+    /// items; `Stop(Memory)` only where a request for memory was refused. Then processor, pages, log and seat are as before. Else
+    /// the view has moved by the item, and the log has it more; the seat has made it and has seen the whole log, for which it is
+    /// legal, and so may every other that looks from now on. Where pages are stays in both cases.
+    pub fn input(&mut self, item: Item, seat: &mut Seat) -> Result<Reply, Refused>
+        requires head { seat.old.head ≡ self.old.head }
+        requires seat { item.seat ≡ seat.old.number }
+        requires input { is_step item.what ≡ false }
+        ensures logs { OnOk result (Logs self.old seat.old item self.new seat.new) }
+        ensures moves { OnOk result (view_of self.new ≡ after item.what (view_of self.old)) }
+        ensures accepted { OnOk result (Intact self.old → accepts item.what (view_of self.old) ≡ true) }
+        ensures reply { IfOk result (λ r. Intact self.old → replied r ≡ reply item.what (view_of self.old)) }
+        ensures refused { IsErrOf result Refused.Machine → Intact self.old → accepts item.what (view_of self.old) ≡ false }
+        ensures away { (page : ℕ) → IsErrOf result (Refused.Away page) → lacks_in self.old.bus.pages page Store ≢ None }
+        ensures its_page { (page : ℕ) → IsErrOf result (Refused.Away page) → WritesTo item.what (standing self.old) page }
+        ensures full { IsErrOf result (Refused.Stop Stop.LogFull) ↔ IsFull self.old.log }
+        ensures intact { Intact self.old → Intact self.new }
+        ensures kept { Intact self.old → (held : ℕ → Option (List ℕ)) →
+            Kept held (pages_seen (view_of self.old)) self.old.bus.pages → Kept held (pages_seen (view_of self.new)) self.new.bus.pages }
+        ensures outline { outline self.new.bus.pages ≡ outline self.old.bus.pages }
+        ensures unchanged { OnErr result (LogsOnly self.old self.new × TakesRoom self.old.log self.new.log) }
+        ensures seat_unchanged { OnErr result (seat.new ≡ seat.old) }
+        // What a lock that holds the guest has to know in each case.
+        ensures boot { self.new.boot ≡ self.old.boot }
+        ensures head { (self.new.head ≡ self.old.head) × (self.new.seats ≡ self.old.seats) }
+        ensures limit { self.new.log.limit ≡ self.old.log.limit }
+    {
+        if let Err(stop) = self.journal.make_item_room() {
+            return Err(Refused::Stop(stop));
+        }
+        match input_pages(&mut self.cpu, &mut self.bus, &item.what) {
+            Ok(reply) => {
+                self.journal.add(item, seat);
+                Ok(reply)
+            }
+            Err(error) => match error {
+                InputError::Machine => Err(Refused::Machine),
+                InputError::Memory => Err(Refused::Stop(Stop::Memory)),
+                InputError::Away(page) => Err(Refused::Away(page)),
+            },
+        }
+    }
+
+    /// Reads as many bytes of the view's memory as `bytes` has, from a virtual address on: byte k at that address + k modulo
+    /// 2^32, as for a load of kernel mode, whatever mode runs. A page that was never touched or was given is zeros. It takes no
+    /// memory, and changes nothing of the guest.
+    ///
+    /// It answers `Machine` exactly where one of the bytes has no place in memory, and else `Away` exactly where one of them
+    /// lies in a page that is in a slot, with such a page. Then `bytes` is as before.
+    pub fn debug_read(&self, address: u32, bytes: &mut [u8]) -> Result<(), Refused>
+        ensures read { OnOk result (Intact self.now → bytes_at (view_of self.now) address (length bytes.old) ≡ Some bytes.new) }
+        ensures refused { Intact self.now → (IsErrOf result Refused.Machine ↔ (bytes_at (view_of self.now) address (length bytes.old) ≡ None)) }
+        ensures away { (page : ℕ) → IsErrOf result (Refused.Away page) → kind_at self.now.bus.pages page ≡ PageKind.Swapped }
+        ensures its_page { (page : ℕ) → IsErrOf result (Refused.Away page) →
+            Intact self.now → SomePlaceIn (view_of self.now) address (length bytes.old) page }
+        ensures never_stops { (stop : Stop) → IsErrOf result (Refused.Stop stop) → ⊥ }
+        ensures unchanged { OnErr result (bytes.new ≡ bytes.old) }
+    {
+        match read_pages(&self.cpu, &self.bus, address, bytes) {
+            Ok(()) => Ok(()),
+            Err(unreached) => match unreached {
+                Unreached::NoPlace => Err(Refused::Machine),
+                Unreached::Away(page) => Err(Refused::Away(page)),
+            },
+        }
+    }
+
+    /// Gives the guest up, and with it what its pages hold.
+    pub fn close(self) {
+        let Guest {
+            cpu,
+            bus,
+            image,
+            pages: _,
+            journal,
+        } = self;
+        drop(cpu);
+        drop(image);
+        drop(journal);
+        bus.close();
+    }
+}
