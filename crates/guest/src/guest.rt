@@ -47,6 +47,7 @@ impl Guest {
     ghost use Rattle.flatvm.specs.Items.{accepts, reply};
     ghost use Rattle.flatvm.specs.Replies.{bytes_at};
     ghost use Rattle.guest_log.specs.Logs.{HasRoom, IsFull, TakesRoom};
+    ghost use Rattle.guest_log.specs.declared.stop.Stop.{Stop};
     ghost use Rattle.loghead.specs.Legal.{Legal};
     ghost use Rattle.guest.specs.Guests.{GuestIs, IsReplay, Does, LogsOnly, no_lack};
 
@@ -124,6 +125,7 @@ impl Guest {
     pub fn debug_read(&self, address: u32, bytes: &mut [u8]) -> Result<(), Refused>
         ensures read { OnOk result (bytes_at self.now.machine address (length bytes.old) ≡ Some bytes.new) }
         ensures refused { IsErrOf result Refused.Machine ↔ (bytes_at self.now.machine address (length bytes.old) ≡ None) }
+        ensures never_stops { (stop : Stop) → IsErrOf result (Refused.Stop stop) → ⊥ }
         ensures unchanged { OnErr result (bytes.new ≡ bytes.old) }
     {
         match debug::read(&self.cpu, &self.bus, address, bytes) {
