@@ -1,0 +1,5 @@
+pub mod Booting
+pub mod Giving
+pub mod Keeping
+pub mod Moving
+pub mod Worlds

@@ -1,0 +1,37 @@
+-- What one guest's pages leave behind as they move.
+use Rattle.std.proofs.Common.{ℕ, ◌≡◌, ◌+◌, ◌<◌, List, [], ◌∷◌, subst, arith, Option, Some}
+use Rattle.std.specs.Option.{option_to_list}
+use Rattle.frames.specs.Counts.{one_at, count_of}
+use Rattle.frames.specs.FreeList.{FreeList}
+use Rattle.sharetab.specs.Entries.{EntriesAre}
+use Rattle.physmap.specs.declared.page.Page.{Page}
+use Rattle.frames.proofs.Counting.{one_same}
+use Rattle.paging.specs.Moves.{Takes, MovesFrames, MovesSlots, MovesTickets, Conserves}
+use Rattle.paging.proofs.Booking.{frame_given, slot_taken}
+
+pub frames_back : (pages pages' : List Page) (pool pool' : FreeList) (es es' : EntriesAre) (number : ℕ)
+    → ((k : ℕ) → count_of k pool'.free ≡ count_of k pool.free + one_at k number) → pool'.out + 1 ≡ pool.out
+    → MovesFrames pages pool es pages' pool es' (number ∷ []) → MovesFrames pages pool es pages' pool' es' []
+frames_back pages pages' pool pool' es es' number given out m =
+    frame_given pages pool es pages' pool pool' es' number m (record { numbers = given; out = out })
+
+-- a slot that was free is nobody's
+pub was_free : (free mid : List ℕ) (slot : ℕ) → ((k : ℕ) → count_of k free ≡ count_of k mid + one_at k slot) → 0 < count_of slot free
+was_free free mid slot taken = omega (arith, taken slot, one_same slot)
+
+-- a page has left for a slot that was taken, and its frame, where that came free, is free again
+pub evicted_conserves : (ps ps' : List Page) (pool pool' book book' : FreeList) (es es' : EntriesAre) (slot : ℕ) → MovesFrames ps pool es ps' pool' es' []
+    → Takes book slot book' → MovesSlots ps book' ps' book' (slot ∷ []) → MovesTickets ps es ps' es' → Conserves ps pool book es ps' pool' book' es'
+evicted_conserves ps ps' pool pool' book book' es es' slot frames takes slots tickets =
+    record { frames = frames; slots = slot_taken ps book book' ps' slot takes slots; tickets = tickets }
+
+-- a page was scanned
+pub scanned_conserves : (ps ps' : List Page) (pool pool' book : FreeList) (es es' : EntriesAre) → MovesFrames ps pool es ps' pool' es' []
+    → MovesSlots ps book ps' book [] → MovesTickets ps es ps' es' → Conserves ps pool book es ps' pool' book es'
+scanned_conserves ps ps' pool pool' book es es' frames slots tickets = record { frames = frames; slots = slots; tickets = tickets }
+
+-- the frame that came free was out
+pub came_free_out : (ps : List Page) (pool : FreeList) (es : EntriesAre) (came : Option ℕ) (ps' : List Page) (es' : EntriesAre) (number : ℕ)
+    → ((pages' : List Page) (entries' : EntriesAre) (k : ℕ) → MovesFrames ps pool es pages' pool entries' (k ∷ []) → 0 < pool.out)
+    → MovesFrames ps pool es ps' pool es' (option_to_list came) → came ≡ Some number → 0 < pool.out
+came_free_out ps pool es came ps' es' number out m is = out ps' es' number (subst (λ (o : Option ℕ). MovesFrames ps pool es ps' pool es' (option_to_list o)) is m)

@@ -1,0 +1,318 @@
+-- One guest of a world changes, and the rest is as before.
+use Rattle.std.proofs.Common.{ℕ, zero, suc, ◌≡◌, ◌≢◌, ◌<◌, ◌≤◌, inl, inr, Bool, true, false, if◌then◌else◌, ◌==◌, eq-eqb, eqb-true, ne_eqb, List, [], ◌∷◌, ◌++◌, length, set, get_or, map, replicate, Option, None, refl, sym, ap, subst, ◌∙◌, arith, length-set, length-append, append_assoc, Result, Ok, Err, IfErr, IfOk, OnOk, OnErr}
+use Rattle.std.proofs.lemmas.Bool.{cases_eq, cases_lt}
+use Rattle.std.proofs.lemmas.List.{get_or-set_same, get_or-set_other, get_or_past, map-set, length-map, append-nil, set-get_or}
+use Rattle.std.proofs.lemmas.List.Elements.{All-nil, All-push, All-get_or, All-from_get_or}
+use Rattle.frames.specs.Counts.{count_of, below}
+use Rattle.frames.specs.FreeList.{FreeList}
+use Rattle.items.specs.declared.item.Item.{Item}
+use Rattle.items.specs.Entries.{step_by}
+use Rattle.guest_log.specs.declared.stop.Stop.{Stop}
+use Rattle.flatvm.specs.declared.reply.Reply.{Reply}
+use Rattle.mips_step.specs.Answer.{need_of}
+use Rattle.mips_step.specs.declared.access.StepOut.{StepOut}
+use Rattle.mips_step.specs.declared.access.StepOut.TheVariants as out
+use Rattle.paged_guest.specs.declared.refused.Refused.{Refused}
+use Rattle.sharetab.specs.Entries.{EntriesAre}
+use Rattle.mips_step.specs.Step.{Machine}
+use Rattle.physmap.specs.declared.page.Page.{Page}
+use Rattle.physmap.specs.Holdings.{slots_held}
+use Rattle.physmap.specs.Outline.{outline}
+use Rattle.physmap.specs.declared.page.Page.TheVariants as page
+use Rattle.paging.specs.declared.supply.SupplyError.{SupplyError}
+use Rattle.paging.specs.declared.supply.SupplyError.TheVariants.{NoFrame, Memory, SwapRead, SwapDamaged}
+use Rattle.paging.specs.Supplies.{WhyAway}
+use Rattle.paging.proofs.Starting.{books_of_nothing, books_with_owner}
+use Rattle.paging.specs.Books.{Books, pages_of}
+use Rattle.paging.specs.Moves.{Conserves, Reads}
+use Rattle.paging.proofs.Booking.{books_after, covered, own_once, reads_each, handed_back_out, came_free_out, swapped_out, slot_inside, slot_apart, free_slot_inside}
+use Rattle.world.specs.Lent.{Lent, UsedStay}
+use Rattle.world.specs.declared.events.Event.{Event}
+use Rattle.world.specs.declared.events.Answer.{Answer}
+use Rattle.world.specs.Events.{step_items, input_items, own_items, own}
+use Rattle.world.specs.Tenants.{TenantIs, pages_in, beside_pages, IsKept, Stays, Adds, NothingHappens}
+use Rattle.world.specs.Worlds.{WorldIs, Sound, Changes, PagesMove, items_of, boot_of, log_at, item_for}
+use Rattle.world.proofs.Giving.{outline_conserves, outline_reads}
+use Rattle.world.proofs.Keeping.{used_kept}
+
+-- ---- one guest
+
+-- inside a list it doesn't matter what stands for nothing
+pub any_default : {X : Type 0} (xs : List X) (k : ℕ) (a b : X) → k < length xs → get_or xs k a ≡ get_or xs k b
+any_default [] k a b inside = absurd (omega (arith, inside))
+any_default (x ∷ xs) zero a b inside = refl
+any_default (x ∷ xs) (suc k) a b inside = any_default xs k a b (omega (arith, inside))
+
+pub pages_at : (ts : List TenantIs) (g : ℕ) (d : TenantIs) → g < length ts → pages_of (map pages_in ts) g ≡ pages_in (get_or ts g d)
+pages_at [] g d inside = absurd (omega (arith, inside))
+pages_at (t ∷ ts) zero d inside = refl
+pages_at (t ∷ ts) (suc g) d inside = pages_at ts g d (omega (arith, inside))
+
+inside_map : (ts : List TenantIs) (g : ℕ) → g < length ts → g < length (map pages_in ts)
+inside_map ts g inside = omega (arith, inside, length-map ts pages_in)
+
+-- what exact books say of a guest's pages
+pub lent : (frames slots : ℕ) (ts : List TenantIs) (g : ℕ) (d : TenantIs) (pool book : FreeList) (es : EntriesAre) → g < length ts → Books frames slots (map pages_in ts) es pool book
+    → Lent slots (pages_in (get_or ts g d)) pool book es
+lent frames slots ts g d pool book es inside b =
+    let all = map pages_in ts in
+    let there = inside_map ts g inside in
+    subst (λ (ps : List Page). Lent slots ps pool book es) (pages_at ts g d inside) (record {
+      covered = covered frames slots all es pool book g b there;
+      own_once = own_once frames slots all es pool book g b there;
+      page_out = λ p among. handed_back_out frames slots all es pool book g p b there among;
+      frame_out = λ pages' entries' number m. came_free_out frames slots all g pages' es entries' pool book number b there m;
+      slot_out = λ p among kind. swapped_out frames slots all es pool book g p b there among kind;
+      its_slot = λ p among kind. slot_inside frames slots all es pool book g p b there among kind;
+      slot_apart = λ slot free. slot_apart frames slots all es pool book g slot b there free;
+      slot_inside = λ slot free. free_slot_inside frames slots all es pool book slot b free;
+    })
+
+-- a slot that a guest has is not free
+not_free : (frames slots : ℕ) (ts : List TenantIs) (g : ℕ) (d : TenantIs) (pool book : FreeList) (es : EntriesAre) (slot : ℕ) → g < length ts → Books frames slots (map pages_in ts) es pool book
+    → 0 < slots_held slot (pages_in (get_or ts g d)) → count_of slot book.free ≡ 0
+not_free frames slots ts g d pool book es slot inside b some =
+    elim (cases_lt 0 (count_of slot book.free)) [
+      | inl free ↦ absurd (omega (arith, some, (lent frames slots ts g d pool book es inside b).slot_apart slot free))
+      | inr none ↦ omega (arith, none)
+    ]
+
+pub sound_after : (frames slots : ℕ) (trusted trusted' : Type 0) (held held' : ℕ → Option (List ℕ)) (ts : List TenantIs) (g : ℕ) (t t' : TenantIs) (pool book pool' book' : FreeList) (es es' : EntriesAre)
+    → g < length ts → t ≡ get_or ts g t
+    → Conserves (pages_in t) pool book es (pages_in t') pool' book' es' → (Reads es (pages_in t) → Reads es' (pages_in t'))
+    → (trusted' → trusted) → (trusted → IsKept held t → IsKept held' t') → (trusted → UsedStay book held held')
+    → Sound frames slots trusted held ts pool book es → Sound frames slots trusted' held' (set ts g t') pool' book' es'
+sound_after frames slots trusted trusted' held held' ts g t t' pool book pool' book' es es' inside is conserves reads trust kept used s =
+    let all = map pages_in ts in
+    let there = inside_map ts g inside in
+    let same : pages_of all g ≡ pages_in t = pages_at ts g t inside ∙ ap pages_in (sym is) in
+    record {
+      books = subst (λ (l : List (List Page)). Books frames slots l es' pool' book') (sym (map-set pages_in ts g t'))
+          (books_after frames slots all g (pages_in t') es es' pool pool' book book' there (subst (λ (ps : List Page). Conserves ps pool book es (pages_in t') pool' book' es') (sym same) conserves)
+          (reads (subst (Reads es) same (reads_each frames slots all es pool book g s.books there))) s.books);
+      kept = λ trust'. All-from_get_or (IsKept held') (set ts g t') t (λ j h. each (trust trust') j (omega (arith, h, length-set ts g t')));
+    }
+  where
+    each : trusted → (j : ℕ) → j < length ts → IsKept held' (get_or (set ts g t') j t)
+    each now j h =
+        elim (cases_eq j g) [
+          | inl e ↦
+              subst (IsKept held') (sym (ap (λ (n : ℕ). get_or (set ts g t') n t) e ∙ get_or-set_same ts g t' t inside))
+              (kept now (subst (IsKept held) (sym is) (All-get_or (IsKept held) ts g t inside (s.kept now))))
+          | inr apart ↦
+              subst (IsKept held') (sym (get_or-set_other ts g j t' t apart))
+              (used_kept book held held' (get_or ts j t) (used now) (λ slot some. not_free frames slots ts j t pool book es slot h s.books some) (All-get_or (IsKept held) ts j t h (s.kept now)))
+        ]
+
+-- ---- what becomes of the guests
+
+pub changes : (how : TenantIs → TenantIs → Type 0) (g : ℕ) (ts : List TenantIs) (t t' : TenantIs) → g < length ts → t ≡ get_or ts g t → how t t' → Changes how g ts (set ts g t')
+changes how g ts t t' inside is so = record {
+  one = λ d. ap (set ts g) (sym (get_or-set_same ts g t' d inside));
+  so = λ d. subst (λ (u : TenantIs). how u (get_or (set ts g t') g d)) (is ∙ any_default ts g t d inside)
+      (subst (how t) (sym (get_or-set_same ts g t' d inside)) so);
+}
+
+pub its_log : (ts : List TenantIs) (g : ℕ) (d : TenantIs) → g < length ts → log_at ts g ≡ items_of (get_or ts g d)
+its_log [] g d inside = absurd (omega (arith, inside))
+its_log (t ∷ ts) zero d inside = refl
+its_log (t ∷ ts) (suc g) d inside = its_log ts g d (omega (arith, inside))
+
+-- a choice by whether numbers are equal
+chosen : {X : Type 0} (h g : ℕ) (a b : X) → h ≡ g → (if h == g then a else b) ≡ a
+chosen h g a b e = ap (λ (t : Bool). if t then a else b) (eq-eqb h g e)
+
+unchosen : {X : Type 0} (h g : ℕ) (a b : X) → h ≢ g → (if h == g then a else b) ≡ b
+unchosen h g a b apart = ap (λ (t : Bool). if t then a else b) (ne_eqb h g apart)
+
+log_past : (ts : List TenantIs) (h : ℕ) → length ts ≤ h → log_at ts h ≡ []
+log_past ts h past = get_or_past (map items_of ts) h [] (omega (arith, past, length-map ts items_of))
+
+-- the log of each guest, where that of one guest has become another
+log_set : (ts : List TenantIs) (g h : ℕ) (t' d : TenantIs) → g < length ts → log_at (set ts g t') h ≡ (if h == g then items_of t' else log_at ts h)
+log_set ts g h t' d inside =
+    elim (cases_eq h g) [
+      | inl e ↦
+          ap (log_at (set ts g t')) e ∙ its_log (set ts g t') g d (omega (arith, inside, length-set ts g t')) ∙ ap items_of (get_or-set_same ts g t' d inside)
+          ∙ sym (chosen h g (items_of t') (log_at ts h) e)
+      | inr apart ↦ elim (cases_lt h (length ts)) [
+        | inl there ↦
+            its_log (set ts g t') h d (omega (arith, there, length-set ts g t')) ∙ ap items_of (get_or-set_other ts g h t' d apart) ∙ sym (its_log ts h d there)
+            ∙ sym (unchosen h g (items_of t') (log_at ts h) apart)
+        | inr past ↦
+            log_past (set ts g t') h (omega (arith, past, length-set ts g t')) ∙ sym (log_past ts h past) ∙ sym (unchosen h g (items_of t') (log_at ts h) apart)
+      ]
+    ]
+
+one_log : (b : Bool) (before own : List Item) (item : Item) → (b ≡ true → before ≡ own) → (if b then own ++ item ∷ [] else before) ≡ before ++ (if b then item ∷ [] else [])
+one_log true before own item is = ap (λ (xs : List Item). xs ++ item ∷ []) (sym (is refl))
+one_log false before own item is = sym (append-nil before)
+
+pub log_adds : (g : ℕ) (ts ts' : List TenantIs) (item : Item) (d : TenantIs) → g < length ts → Changes (λ t t'. t'.guest.log.items ≡ t.guest.log.items ++ item ∷ []) g ts ts'
+    → (h : ℕ) → log_at ts' h ≡ log_at ts h ++ item_for h g item
+log_adds g ts ts' item d inside c h =
+    ap (λ (l : List TenantIs). log_at l h) (c.one d)
+    ∙ log_set ts g h (get_or ts' g d) d inside
+    ∙ ap (λ (xs : List Item). if h == g then xs else log_at ts h) (c.so d)
+    ∙ one_log (h == g) (log_at ts h) (items_of (get_or ts g d)) item (λ e. ap (log_at ts) (eqb-true h g e) ∙ its_log ts g d inside)
+
+same_log : (b : Bool) (before own : List Item) → (b ≡ true → before ≡ own) → (if b then own else before) ≡ before
+same_log true before own is = sym (is refl)
+same_log false before own is = refl
+
+pub log_stays : (how : TenantIs → TenantIs → Type 0) (g : ℕ) (ts ts' : List TenantIs) (d : TenantIs) → g < length ts → Changes how g ts ts'
+    → ((t t' : TenantIs) → how t t' → items_of t' ≡ items_of t) → (h : ℕ) → log_at ts' h ≡ log_at ts h ++ []
+log_stays how g ts ts' d inside c same h =
+    ap (λ (l : List TenantIs). log_at l h) (c.one d)
+    ∙ log_set ts g h (get_or ts' g d) d inside
+    ∙ ap (λ (xs : List Item). if h == g then xs else log_at ts h) (same (get_or ts g d) (get_or ts' g d) (c.so d))
+    ∙ same_log (h == g) (log_at ts h) (items_of (get_or ts g d)) (λ e. ap (log_at ts) (eqb-true h g e) ∙ its_log ts g d inside)
+    ∙ sym (append-nil (log_at ts h))
+
+boots_set : (ts : List TenantIs) (g : ℕ) (t' d : TenantIs) → g < length ts → boot_of t' ≡ boot_of (get_or ts g d) → map boot_of (set ts g t') ≡ map boot_of ts
+boots_set [] g t' d inside same = absurd (omega (arith, inside))
+boots_set (t ∷ ts) zero t' d inside same = ap (λ (m : Machine). m ∷ map boot_of ts) same
+boots_set (t ∷ ts) (suc g) t' d inside same = ap (λ (ms : List Machine). boot_of t ∷ ms) (boots_set ts g t' d (omega (arith, inside)) same)
+
+pub boots_stay : (how : TenantIs → TenantIs → Type 0) (g : ℕ) (ts ts' : List TenantIs) (d : TenantIs) → g < length ts → Changes how g ts ts'
+    → ((t t' : TenantIs) → how t t' → boot_of t' ≡ boot_of t) → map boot_of ts' ≡ map boot_of ts
+boots_stay how g ts ts' d inside c same =
+    ap (map boot_of) (c.one d) ∙ boots_set ts g (get_or ts' g d) d inside (same (get_or ts g d) (get_or ts' g d) (c.so d))
+
+pub moved_items : (t t' : TenantIs) → PagesMove t t' → items_of t' ≡ items_of t
+moved_items t t' m = ap items_of m
+
+pub moved_boot : (t t' : TenantIs) → PagesMove t t' → boot_of t' ≡ boot_of t
+moved_boot t t' m = ap boot_of m
+
+-- ---- what a world knows of one of its guests
+
+pub tenants_of : {Store : Type 0} (w w' : WorldIs Store) → w ≡ w' → w.tenants ≡ w'.tenants
+tenants_of w w' e = ap (λ (x : WorldIs _). x.tenants) e
+
+pub guest_inside : (ts ts' : List TenantIs) (g : ℕ) → ts ≡ ts' → g < length ts' → g < length ts
+guest_inside ts ts' g e inside = omega (arith, inside, ap length e)
+
+-- the guest at a place, by the world before
+pub guest_at : (ts ts' : List TenantIs) (g : ℕ) (t d : TenantIs) → ts ≡ ts' → g < length ts → t ≡ get_or ts g t → t ≡ get_or ts' g d
+guest_at ts ts' g t d e inside is = is ∙ any_default ts g t d inside ∙ ap (λ (l : List TenantIs). get_or l g d) e
+
+pub lent_of : (frames slots : ℕ) (trusted : Type 0) (held : ℕ → Option (List ℕ)) (ts : List TenantIs) (g : ℕ) (t : TenantIs) (pool book : FreeList) (es : EntriesAre)
+    → g < length ts → t ≡ get_or ts g t → Sound frames slots trusted held ts pool book es → Lent slots (pages_in t) pool book es
+lent_of frames slots trusted held ts g t pool book es inside is s =
+    subst (λ (u : TenantIs). Lent slots (pages_in u) pool book es) (sym is) (lent frames slots ts g t pool book es inside s.books)
+
+pub kept_of : (frames slots : ℕ) (trusted : Type 0) (held : ℕ → Option (List ℕ)) (ts : List TenantIs) (g : ℕ) (t : TenantIs) (pool book : FreeList) (es : EntriesAre)
+    → g < length ts → t ≡ get_or ts g t → trusted → Sound frames slots trusted held ts pool book es → IsKept held t
+kept_of frames slots trusted held ts g t pool book es inside is trust s =
+    subst (IsKept held) (sym is) (All-get_or (IsKept held) ts g t inside (s.kept trust))
+
+-- a guest neither whose pages nor else anything has changed is the same
+with_pages_of : List Page → TenantIs → TenantIs
+with_pages_of pages t = record t { guest = record t.guest { bus = record t.guest.bus { pages = pages } } }
+
+pub same_guests : (ts : List TenantIs) (g : ℕ) (t t' : TenantIs) → g < length ts → t ≡ get_or ts g t → beside_pages t' ≡ beside_pages t → pages_in t' ≡ pages_in t → set ts g t' ≡ ts
+unfolding with_pages_of
+same_guests ts g t t' inside is beside pages =
+    let same : t' ≡ t = λ i. with_pages_of (pages i) (beside i) in
+    ap (set ts g) (same ∙ is) ∙ set-get_or ts g t
+
+-- ---- a page that isn't supplied
+
+pub why_away : {T : Type 0} (r : Result T SupplyError) (pool : FreeList) (failed damaged wanted : Type 0) → (r ≡ Err SwapDamaged → wanted)
+    → IfErr r (WhyAway pool failed damaged) → IfErr r (WhyAway pool failed wanted)
+why_away (Ok x) pool failed damaged wanted why w = tt
+why_away (Err NoFrame) pool failed damaged wanted why w = w
+why_away (Err Memory) pool failed damaged wanted why w = w
+why_away (Err SwapRead) pool failed damaged wanted why w = w
+why_away (Err SwapDamaged) pool failed damaged wanted why w = (w.0, why refl)
+
+-- ---- a new world, and one more guest
+
+pub sound_new : (frames slots : ℕ) (trusted : Type 0) (held : ℕ → Option (List ℕ)) (pool book : FreeList) (es : EntriesAre) → ((k : ℕ) → count_of k pool.free ≡ below k frames) → pool.out ≡ 0
+    → ((k : ℕ) → count_of k book.free ≡ below k slots) → book.out ≡ 0 → es ≡ replicate frames None → Sound frames slots trusted held [] pool book es
+sound_new frames slots trusted held pool book es each none each_slot none_used vacant = record {
+  books = subst (λ (e : EntriesAre). Books frames slots [] e pool book) (sym vacant) (books_of_nothing frames slots pool book each none each_slot none_used);
+  kept = λ trust. All-nil (IsKept held);
+}
+
+last_pages : (ts : List TenantIs) (t : TenantIs) → map pages_in (ts ++ t ∷ []) ≡ map pages_in ts ++ pages_in t ∷ []
+last_pages [] t = refl
+last_pages (u ∷ ts) t = ap (λ (l : List (List Page)). pages_in u ∷ l) (last_pages ts t)
+
+set_last : {X : Type 0} (xs : List X) (a b : X) → set (xs ++ a ∷ []) (length xs) b ≡ xs ++ b ∷ []
+set_last [] a b = refl
+set_last (x ∷ xs) a b = ap (λ (l : List _). x ∷ l) (set_last xs a b)
+
+pub get_last : {X : Type 0} (xs : List X) (a d : X) → get_or (xs ++ a ∷ []) (length xs) d ≡ a
+get_last [] a d = refl
+get_last (x ∷ xs) a d = get_last xs a d
+
+pub sound_add : (frames slots n : ℕ) (trusted : Type 0) (held : ℕ → Option (List ℕ)) (ts : List TenantIs) (t : TenantIs) (pool pool' book : FreeList) (es : EntriesAre)
+    → Conserves (replicate n page.Zero) pool book es (pages_in t) pool' book es → Reads es (pages_in t) → (trusted → IsKept held t)
+    → Sound frames slots trusted held ts pool book es → Sound frames slots trusted held (ts ++ t ∷ []) pool' book es
+sound_add frames slots n trusted held ts t pool pool' book es conserves reads kept s =
+    let all = map pages_in ts in
+    let new = replicate n page.Zero in
+    let last = length all in
+    let inside : last < length (all ++ new ∷ []) = omega (arith, length-append all (new ∷ [])) in
+    let at : get_or (all ++ new ∷ []) last [] ≡ new = get_last all new [] in
+    record {
+      books = subst (λ (l : List (List Page)). Books frames slots l es pool' book) (set_last all new (pages_in t) ∙ sym (last_pages ts t))
+          (books_after frames slots (all ++ new ∷ []) last (pages_in t) es es pool pool' book book inside
+          (subst (λ (ps : List Page). Conserves ps pool book es (pages_in t) pool' book es) (sym at) conserves) reads
+          (books_with_owner frames slots all es pool book n s.books));
+      kept = λ trust. All-push (IsKept held) ts t (s.kept trust) (kept trust);
+    }
+
+-- an item that is no step leaves where pages are
+pub input_sound : (frames slots : ℕ) (trusted : Type 0) (held : ℕ → Option (List ℕ)) (ts : List TenantIs) (g : ℕ) (t t' : TenantIs) (pool book : FreeList) (es : EntriesAre)
+    → g < length ts → t ≡ get_or ts g t → outline (pages_in t') ≡ outline (pages_in t) → (IsKept held t → IsKept held t')
+    → Sound frames slots trusted held ts pool book es → Sound frames slots trusted held (set ts g t') pool book es
+input_sound frames slots trusted held ts g t t' pool book es inside is same kept s =
+    sound_after frames slots trusted trusted held held ts g t t' pool book pool book es es inside is
+    (outline_conserves (pages_in t) (pages_in t') same pool book es) (outline_reads (pages_in t) (pages_in t') same es)
+    (λ trust. trust) (λ trust k. kept k) (λ trust slot none. refl) s
+
+-- ---- what events add to logs
+
+some_tenant : (ts : List TenantIs) (g : ℕ) → g < length ts → TenantIs
+some_tenant [] g inside = absurd (omega (arith, inside))
+some_tenant (t ∷ ts) g inside = t
+
+pub step_logs : (Around : Type 0) (g : ℕ) (ts ts' : List TenantIs) (r : Result StepOut Stop) → g < length ts
+    → IfOk r (λ s. need_of s ≡ None → Changes (λ t t'. Adds t (step_by 0) t') g ts ts') → IfOk r (λ s. need_of s ≢ None → Changes NothingHappens g ts ts' × Around)
+    → OnErr r (Changes NothingHappens g ts ts' × Around) → (h : ℕ) → log_at ts' h ≡ log_at ts h ++ step_items h g r
+step_logs Around g ts ts' (Ok out.Done) inside adds needs err h = log_adds g ts ts' (step_by 0) (some_tenant ts g inside) inside (adds refl) h
+step_logs Around g ts ts' (Ok (out.Need page why)) inside adds needs err h =
+    log_stays NothingHappens g ts ts' (some_tenant ts g inside) inside (needs (λ e. absurd (cc))).0 (λ t t' n. n.items) h
+step_logs Around g ts ts' (Err stop) inside adds needs err h = log_stays NothingHappens g ts ts' (some_tenant ts g inside) inside err.0 (λ t t' n. n.items) h
+
+pub input_logs : (g : ℕ) (ts ts' : List TenantIs) (item : Item) (r : Result Reply Refused) → g < length ts
+    → OnOk r (Changes (λ t t'. Adds t item t') g ts ts') → OnErr r (Changes NothingHappens g ts ts') → (h : ℕ) → log_at ts' h ≡ log_at ts h ++ input_items h g item r
+input_logs g ts ts' item (Ok reply) inside adds err h = log_adds g ts ts' item (some_tenant ts g inside) inside adds h
+input_logs g ts ts' item (Err refused) inside adds err h = log_stays NothingHappens g ts ts' (some_tenant ts g inside) inside err (λ t t' n. n.items) h
+
+pub moved_logs : (g : ℕ) (ts ts' : List TenantIs) → g < length ts → Changes PagesMove g ts ts' → (h : ℕ) → log_at ts' h ≡ log_at ts h ++ []
+moved_logs g ts ts' inside c = log_stays PagesMove g ts ts' (some_tenant ts g inside) inside c moved_items
+
+pub moved_boots : (g : ℕ) (ts ts' : List TenantIs) → g < length ts → Changes PagesMove g ts ts' → map boot_of ts' ≡ map boot_of ts
+moved_boots g ts ts' inside c = boots_stay PagesMove g ts ts' (some_tenant ts g inside) inside c moved_boot
+
+pub same_boots : (g : ℕ) (ts ts' : List TenantIs) → g < length ts → Changes Stays g ts ts' → map boot_of ts' ≡ map boot_of ts
+same_boots g ts ts' inside c = boots_stay Stays g ts ts' (some_tenant ts g inside) inside c (λ t t' s. s.boot)
+
+-- ---- events, one after another
+
+pub own_more : (h : ℕ) (es : List Event) (answers : List Answer) (e : Event) (a : Answer) → length es ≡ length answers → own h (es ++ e ∷ []) (answers ++ a ∷ []) ≡ own h es answers ++ own_items h e a
+own_more h [] [] e a same = append-nil (own_items h e a)
+own_more h [] (b ∷ answers) e a same = absurd (omega (arith, same))
+own_more h (d ∷ es) [] e a same = absurd (omega (arith, same))
+own_more h (d ∷ es) (b ∷ answers) e a same =
+    ap (λ (xs : List Item). own_items h d b ++ xs) (own_more h es answers e a (omega (arith, same))) ∙ sym (append_assoc (own_items h d b) (own h es answers) (own_items h e a))
+
+pub logs_more : (h : ℕ) (es : List Event) (answers : List Answer) (e : Event) (a : Answer) (old now after : List Item) → length es ≡ length answers → now ≡ old ++ own h es answers
+    → after ≡ now ++ own_items h e a → after ≡ old ++ own h (es ++ e ∷ []) (answers ++ a ∷ [])
+logs_more h es answers e a old now after same so_far more =
+    more ∙ ap (λ (xs : List Item). xs ++ own_items h e a) so_far ∙ append_assoc old (own h es answers) (own_items h e a)
+    ∙ ap (λ (xs : List Item). old ++ xs) (sym (own_more h es answers e a same))

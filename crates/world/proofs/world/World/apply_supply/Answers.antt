@@ -1,0 +1,9 @@
+use Rattle.std.proofs.Common.{arith}
+use Rattle.world.proofs.Worlds.{moved_logs, moved_boots}
+use Rattle.world.proofs.world.World.apply_supply.Goals as goal
+
+pub returns-clause-logs : goal.returns-clause-logs
+returns-clause-logs g c = moved_logs c.args.g c.args.self.now.tenants c.supply.new.self.tenants (omega (arith, c.if-g-count.false, c.count.ensures)) c.supply.ensures.moves
+
+pub returns-clause-boots : goal.returns-clause-boots
+returns-clause-boots g c = moved_boots c.args.g c.args.self.now.tenants c.supply.new.self.tenants (omega (arith, c.if-g-count.false, c.count.ensures)) c.supply.ensures.moves

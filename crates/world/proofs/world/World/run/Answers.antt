@@ -1,0 +1,36 @@
+use Rattle.std.proofs.Common.{suc, ◌≡◌, ◌++◌, ◌∷◌, [], All, List, length, sym, ap, subst, ◌∙◌, append_assoc, length-append, arith}
+use Rattle.std.specs.Vec.Iter.{into_iter_items}
+use Rattle.world.specs.declared.events.Event.{Event}
+use Rattle.world.specs.declared.events.Answer.{Answer}
+use Rattle.world.specs.Events.{IsProper, own}
+use Rattle.world.specs.Worlds.{log_at}
+use Rattle.world.proofs.Worlds.{logs_more}
+use Rattle.world.proofs.world.World.run.Goals as goal
+
+pub loop-event-preserved : goal.loop-event-preserved
+loop-event-preserved g c =
+    let at = c.loop-event in
+    let e = c.in-Some.event in
+    let a = c.apply-answer.result in
+    let rest = into_iter_items c.next.new.self in
+    let steps : into_iter_items at.event-iterator ≡ e ∷ rest = c.in-Some.ensures.steps.0 in
+    let gone = c.in-Some.ensures.steps.1 in
+    let items : c.push_reserved.new.self.items ≡ at.answers.items ++ a ∷ [] = c.push_reserved.ensures.items in
+    let longer = length-append at.answers.items (a ∷ []) in
+    let proper : All IsProper (e ∷ rest) = subst (λ (l : List Event). All IsProper l) steps at.invariant.proper in
+    record {
+      order = append_assoc at.yielded (e ∷ []) rest ∙ ap (λ (l : List Event). at.yielded ++ l) (sym steps) ∙ at.invariant.order;
+      left = omega (arith, at.invariant.left, gone, ap length steps);
+      proper = λ k d h. proper (suc k) d (omega (arith, h));
+      logs = λ h. subst (λ (l : List Answer). log_at c.apply-answer.new.self.tenants h ≡ log_at c.args.self.now.tenants h ++ own h (at.yielded ++ e ∷ []) l) (sym items)
+          (logs_more h at.yielded at.answers.items e a (log_at c.args.self.now.tenants h) (log_at at.self.tenants h) (log_at c.apply-answer.new.self.tenants h)
+          (sym at.invariant.count) (at.invariant.logs h) (c.apply-answer.ensures.logs h));
+      count = omega (arith, ap length items, longer, length-append at.yielded (e ∷ []), at.invariant.count);
+      len = omega (arith, c.push_reserved.ensures.len, ap length items, longer, at.invariant.len);
+      room = omega (arith, c.push_reserved.ensures.len, c.push_reserved.ensures.capacity, gone, at.invariant.room);
+      boots = c.apply-answer.ensures.boots ∙ at.invariant.boots;
+      frames = c.apply-answer.ensures.frames ∙ at.invariant.frames;
+      slots = c.apply-answer.ensures.slots ∙ at.invariant.slots;
+      honest = (λ now. at.invariant.honest.0 (c.apply-answer.ensures.honest.0 now), λ before. c.apply-answer.ensures.honest.1 (at.invariant.honest.1 before));
+      trust = (λ now. at.invariant.trust.0 (c.apply-answer.ensures.true_to_digests.0 now), λ before. c.apply-answer.ensures.true_to_digests.1 (at.invariant.trust.1 before));
+    }

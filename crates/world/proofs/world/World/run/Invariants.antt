@@ -1,0 +1,22 @@
+use Rattle.std.proofs.Common.{◌≡◌, ℕ, ◌+◌, ◌≤◌, ◌↔◌, ◌++◌, All, length, map, vec_len, vec_capacity}
+use Rattle.std.specs.Vec.Iter.{into_iter_items, into_iter_len}
+use Rattle.world.specs.Events.{IsProper, own}
+use Rattle.world.specs.Worlds.{boot_of, log_at}
+use Rattle.world.proofs.world.World.run.Given as goal
+
+-- the logs have the items of the events so far
+abbrev pub invariant-loop-event : goal.invariant-loop-event
+invariant-loop-event g l = record {
+  order : l.yielded ++ into_iter_items l.event-iterator ≡ into_iter_items l.initial.event-iterator;
+  left : into_iter_len l.event-iterator ≡ length (into_iter_items l.event-iterator);
+  proper : All IsProper (into_iter_items l.event-iterator);
+  logs : (h : ℕ) → log_at l.self.tenants h ≡ log_at l.fn.self.tenants h ++ own h l.yielded l.answers.items;
+  count : length l.answers.items ≡ length l.yielded;
+  len : vec_len l.answers ≡ length l.answers.items;
+  room : vec_len l.answers + into_iter_len l.event-iterator ≤ vec_capacity l.answers;
+  boots : map boot_of l.self.tenants ≡ map boot_of l.fn.self.tenants;
+  frames : l.self.frames ≡ l.fn.self.frames;
+  slots : g.S.SwapStore.slots l.self.store ≡ g.S.SwapStore.slots l.fn.self.store;
+  honest : g.S.SwapStore.honest l.self.store ↔ g.S.SwapStore.honest l.fn.self.store;
+  trust : g.S.SwapStore.true_to_digests l.self.store ↔ g.S.SwapStore.true_to_digests l.fn.self.store;
+}

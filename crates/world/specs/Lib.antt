@@ -1,0 +1,6 @@
+pub mod Events
+pub mod Evictions
+pub mod Lent
+pub mod Loading
+pub mod Tenants
+pub mod Worlds

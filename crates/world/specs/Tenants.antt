@@ -1,0 +1,59 @@
+-- A guest with its seats and its shares, and what becomes of it.
+use Rattle.std.specs.Prelude.{◌≡◌, ℕ, ◌∷◌, ◌++◌, List, [], Option, length}
+use Rattle.items.specs.declared.item.Item.{Item}
+use Rattle.elf32.specs.declared.image.Image.{Image}
+use Rattle.flatvm.specs.Boot.{boot_machine}
+use Rattle.loghead.specs.Heads.{SeatIs}
+use Rattle.physmap.specs.declared.page.Page.{Page}
+use Rattle.paging.specs.Faith.{Kept}
+use Rattle.paged_guest.specs.Guests.{GuestIs, view_of, Intact, without_pages}
+use Rattle.paged_guest.specs.Views.{pages_seen}
+
+-- what is seen of a guest in a world
+pub record TenantIs : Type 0 where
+  pub guest : GuestIs
+  -- how many shares of the memory the guest has
+  pub shares : ℕ
+
+-- a seat of a guest, of this number
+pub record IsSeat (g : GuestIs) (number : ℕ) (seat : SeatIs) : Type 0 where
+  pub its_head : seat.head ≡ g.head
+  pub its_number : seat.number ≡ number
+
+abbrev pub pages_in : TenantIs → List Page
+pages_in t = t.guest.bus.pages
+
+-- all of it but its pages
+abbrev pub beside_pages : TenantIs → TenantIs
+beside_pages t = record t { guest = without_pages t.guest }
+
+-- The guest is its run: processor, devices and pages are those of its view, a page in a slot by its SHA-256; and each page that
+-- is in a slot has the view's bytes there, of a store that holds these.
+pub record IsKept (held : ℕ → Option (List ℕ)) (t : TenantIs) : Type 0 where
+  pub intact : Intact t.guest
+  pub pages : Kept held (pages_seen (view_of t.guest)) t.guest.bus.pages
+
+-- what no event changes
+pub record Stays (t t' : TenantIs) : Type 0 where
+  pub boot : t'.guest.boot ≡ t.guest.boot
+  pub limit : t'.guest.log.limit ≡ t.guest.log.limit
+  pub shares : t'.shares ≡ t.shares
+  pub count : length (pages_in t') ≡ length (pages_in t)
+
+-- its log has one more item, by which its view has moved
+abbrev pub Adds : TenantIs → Item → TenantIs → Type 0
+Adds t item t' = t'.guest.log.items ≡ t.guest.log.items ++ item ∷ []
+
+-- processor, devices, pages and log are as before
+pub record NothingHappens (t t' : TenantIs) : Type 0 where
+  pub cpu : t'.guest.cpu ≡ t.guest.cpu
+  pub bus : t'.guest.bus ≡ t.guest.bus
+  pub items : t'.guest.log.items ≡ t.guest.log.items
+
+-- it is at the boot of an image in a memory of its own of so many pages, and nothing has happened to it
+pub record IsBooted (image : Image) (count shares log_runs : ℕ) (t : TenantIs) : Type 0 where
+  pub boot : t.guest.boot ≡ boot_machine image count
+  pub items : t.guest.log.items ≡ []
+  pub limit : t.guest.log.limit ≡ log_runs
+  pub shares_are : t.shares ≡ shares
+  pub size : length (pages_in t) ≡ count

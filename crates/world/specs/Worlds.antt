@@ -1,0 +1,60 @@
+-- What is seen of a world, and what its guests have to do with what lies around them.
+use Rattle.std.specs.Prelude.{◌≡◌, ℕ, ◌==◌, if◌then◌else◌, List, [], ◌∷◌, Option, All, map, slice_set, slice_index_or}
+use Rattle.items.specs.declared.item.Item.{Item}
+use Rattle.frames.specs.FreeList.{FreeList}
+use Rattle.sharetab.specs.Entries.{EntriesAre}
+use Rattle.sharetab.specs.Shares.{SharesAre}
+use Rattle.mips_step.specs.Step.{Machine}
+use Rattle.paging.specs.Books.{Books}
+use Rattle.world.specs.Tenants.{TenantIs, pages_in, beside_pages, IsKept}
+
+pub record WorldIs (Store : Type 0) : Type 0 where
+  -- the guests, that of number g at place g
+  pub tenants : List TenantIs
+  -- the frames that are free, and how many are out
+  pub pool : FreeList
+  -- the slots that are free, and how many are used
+  pub slots : FreeList
+  pub shares : SharesAre
+  pub store : Store
+  -- how many frames there are
+  pub frames : ℕ
+
+-- The books are exact: each frame is free, one page's, or an entry's whose count is how many pages name it, and each slot is free
+-- or one page's. And where the store is to be trusted, each guest is its run.
+pub record Sound (frames slots : ℕ) (trusted : Type 0) (held : ℕ → Option (List ℕ)) (tenants : List TenantIs) (pool book : FreeList) (entries : EntriesAre) : Type 0 where
+  pub books : Books frames slots (map pages_in tenants) entries pool book
+  pub kept : trusted → All (IsKept held) tenants
+
+-- one guest has become another, which has to do with it in some way, and no other guest has changed
+pub record Changes (how : TenantIs → TenantIs → Type 0) (g : ℕ) (tenants tenants' : List TenantIs) : Type 0 where
+  pub one : (t : TenantIs) → tenants' ≡ slice_set tenants g (slice_index_or tenants' g t)
+  pub so : (t : TenantIs) → how (slice_index_or tenants g t) (slice_index_or tenants' g t)
+
+-- of a guest only pages have moved: its log, and so its view, are as before
+abbrev pub PagesMove : TenantIs → TenantIs → Type 0
+PagesMove t t' = beside_pages t' ≡ beside_pages t
+
+-- ---- logs and boots
+
+abbrev pub items_of : TenantIs → List Item
+items_of t = t.guest.log.items
+
+abbrev pub boot_of : TenantIs → Machine
+boot_of t = t.guest.boot
+
+-- the log of a guest; that of no guest is empty
+abbrev pub log_at : List TenantIs → ℕ → List Item
+log_at tenants g = slice_index_or (map items_of tenants) g []
+
+-- an item, where the guest is the one that it happened to
+abbrev pub item_for : ℕ → ℕ → Item → List Item
+item_for h g item = if h == g then item ∷ [] else []
+
+-- what lies around the guests is as before
+pub record SameAround {Store : Type 0} (w w' : WorldIs Store) : Type 0 where
+  pub pool : w'.pool ≡ w.pool
+  pub slots : w'.slots ≡ w.slots
+  pub shares : w'.shares ≡ w.shares
+  pub store : w'.store ≡ w.store
+  pub frames : w'.frames ≡ w.frames

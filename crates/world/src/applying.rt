@@ -1,0 +1,135 @@
+//! The events of a world, one after another.
+ghost use Rattle.std.specs.Prelude.{◌≡◌};
+
+use crate::{Answer, Event, World};
+use items::Item;
+use paging::Pages;
+use std::alloc::{AllocError, Global};
+use swapstore::SwapStore;
+use word32::Ppn;
+
+impl<S: SwapStore> World<S> {
+    ghost use Rattle.std.specs.Prelude.{◌≡◌, ◌↔◌, ◌++◌, ℕ, [], false, All, IfOk, OnErr, List, length, map};
+    ghost use Rattle.items.specs.declared.item.Item.{Item};
+    ghost use Rattle.items.specs.Items.{is_step};
+    ghost use Rattle.world.specs.declared.events.Event.{Event};
+    ghost use Rattle.world.specs.Events.{IsProper, items_stepped, items_input, own_items, own};
+    ghost use Rattle.world.specs.Worlds.{boot_of, log_at};
+
+    fn apply_step(&mut self, g: usize) -> Answer
+        ensures logs { (h : ℕ) → log_at self.new.tenants h ≡ log_at self.old.tenants h ++ items_stepped h g result }
+        ensures boots { map boot_of self.new.tenants ≡ map boot_of self.old.tenants }
+        ensures store { self.new.store ≡ self.old.store }
+        ensures frames { self.new.frames ≡ self.old.frames }
+    {
+        if g < self.count() {
+            Answer::Stepped(self.step(g))
+        } else {
+            Answer::Nowhere
+        }
+    }
+
+    fn apply_input(&mut self, g: usize, item: Item) -> Answer
+        requires { is_step item.what ≡ false }
+        ensures logs { (h : ℕ) → log_at self.new.tenants h ≡ log_at self.old.tenants h ++ items_input h g item result }
+        ensures boots { map boot_of self.new.tenants ≡ map boot_of self.old.tenants }
+        ensures store { self.new.store ≡ self.old.store }
+        ensures frames { self.new.frames ≡ self.old.frames }
+    {
+        if g < self.count() {
+            Answer::Input(self.input(g, item))
+        } else {
+            Answer::Nowhere
+        }
+    }
+
+    fn apply_supply(&mut self, alloc: Global, g: usize, p: Ppn) -> Answer
+        ensures logs { (h : ℕ) → log_at self.new.tenants h ≡ log_at self.old.tenants h ++ [] }
+        ensures boots { map boot_of self.new.tenants ≡ map boot_of self.old.tenants }
+        ensures frames { self.new.frames ≡ self.old.frames }
+        ensures slots { S.slots self.new.store ≡ S.slots self.old.store }
+        ensures honest { S.honest self.new.store ↔ S.honest self.old.store }
+        ensures true_to_digests { S.true_to_digests self.new.store ↔ S.true_to_digests self.old.store }
+    {
+        if g >= self.count() {
+            return Answer::Nowhere;
+        }
+        if self.kind(g, p).is_none() {
+            return Answer::Nowhere;
+        }
+        Answer::Supplied(self.supply(alloc, g, p))
+    }
+
+    fn apply_evict(&mut self, g: usize, p: Ppn) -> Answer
+        ensures logs { (h : ℕ) → log_at self.new.tenants h ≡ log_at self.old.tenants h ++ [] }
+        ensures boots { map boot_of self.new.tenants ≡ map boot_of self.old.tenants }
+        ensures frames { self.new.frames ≡ self.old.frames }
+        ensures slots { S.slots self.new.store ≡ S.slots self.old.store }
+        ensures honest { S.honest self.new.store ↔ S.honest self.old.store }
+        ensures true_to_digests { S.true_to_digests self.new.store ↔ S.true_to_digests self.old.store }
+    {
+        if g < self.count() {
+            Answer::Evicted(self.evict(g, p))
+        } else {
+            Answer::Nowhere
+        }
+    }
+
+    fn apply_scan(&mut self, g: usize, p: Ppn) -> Answer
+        ensures logs { (h : ℕ) → log_at self.new.tenants h ≡ log_at self.old.tenants h ++ [] }
+        ensures boots { map boot_of self.new.tenants ≡ map boot_of self.old.tenants }
+        ensures store { self.new.store ≡ self.old.store }
+        ensures frames { self.new.frames ≡ self.old.frames }
+    {
+        if g >= self.count() {
+            return Answer::Nowhere;
+        }
+        if g > u32::MAX as usize {
+            return Answer::Nowhere;
+        }
+        Answer::Scanned(self.scan(g, p))
+    }
+
+    /// One event. Its items are added to its guest's log, and no other log changes; the machines that the guests booted stay.
+    pub fn apply(&mut self, alloc: Global, event: Event) -> Answer
+        requires { IsProper event }
+        ensures logs { (h : ℕ) → log_at self.new.tenants h ≡ log_at self.old.tenants h ++ own_items h event result }
+        ensures boots { map boot_of self.new.tenants ≡ map boot_of self.old.tenants }
+        ensures frames { self.new.frames ≡ self.old.frames }
+        ensures slots { S.slots self.new.store ≡ S.slots self.old.store }
+        ensures honest { S.honest self.new.store ↔ S.honest self.old.store }
+        ensures true_to_digests { S.true_to_digests self.new.store ↔ S.true_to_digests self.old.store }
+    {
+        match event {
+            Event::Step(g) => self.apply_step(g),
+            Event::Input(g, item) => self.apply_input(g, item),
+            Event::Supply(g, p) => self.apply_supply(alloc, g, p),
+            Event::Evict(g, p) => self.apply_evict(g, p),
+            Event::Scan(g, p) => self.apply_scan(g, p),
+        }
+    }
+
+    /// Events, one after another, and what each was answered. After them the log of each guest is the one before with the items of
+    /// its own events that were done: its steps that were made, and its items that were accepted. So whatever else happens in the
+    /// world, each guest's view is the run of its own items; and the books are exact (`is_sound`).
+    ///
+    /// `AllocError` where there is no memory for the answers: nothing has happened then.
+    pub fn run(&mut self, alloc: Global, events: Vec<Event>) -> Result<Vec<Answer>, AllocError>
+        requires { All IsProper events.items }
+        ensures logs { IfOk result (λ answers. (h : ℕ) → log_at self.new.tenants h ≡ log_at self.old.tenants h ++ own h events.items answers.items) }
+        ensures count { IfOk result (λ answers. length answers.items ≡ length events.items) }
+        ensures unchanged { OnErr result (self.new ≡ self.old) }
+        ensures boots { map boot_of self.new.tenants ≡ map boot_of self.old.tenants }
+        ensures frames { self.new.frames ≡ self.old.frames }
+        ensures slots { S.slots self.new.store ≡ S.slots self.old.store }
+        ensures honest { S.honest self.new.store ↔ S.honest self.old.store }
+        ensures true_to_digests { S.true_to_digests self.new.store ↔ S.true_to_digests self.old.store }
+    {
+        let mut answers = Vec::with_capacity(alloc, events.len())?;
+        for event in events {
+            let answer = self.apply(alloc, event);
+            answers.push_reserved(answer);
+        }
+        Ok(answers)
+    }
+}

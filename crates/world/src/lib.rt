@@ -1,0 +1,26 @@
+//! A world of guests that share one pool of machine frames and one swap store, in one thread.
+//!
+//! In clauses a `World` is a record, `WorldIs`, and its guests are `TenantIs` (`specs/Worlds.antt`, `specs/Tenants.antt`). What every
+//! world keeps is `Sound`: the books are exact, so that each frame is free, one page's, or an entry's whose count is how many pages
+//! name it; and while the store is true to digests each guest is its run (`IsKept`). `World::is_sound` hands it out. What happens
+//! is an `Event`, and `World::run` does events one after another: after them the log of each guest has just its own items more
+//! (`own`, `specs/Events.antt`), whatever the others did and wherever pages went.
+//!
+//! Each event works on lent parts, with one guest's pages, by `paging`; `specs/Lent.antt` has what exact books say of those.
+#![tactic(auto)]
+
+mod applying;
+pub mod events;
+mod loading;
+mod moves;
+mod stepping;
+pub mod tenant;
+pub mod world;
+
+pub use events::{Answer, Event};
+pub use moves::EvictError;
+pub use tenant::Tenant;
+pub use world::{Evicted, World};
+
+#[cfg(test)]
+mod tests;

@@ -1,0 +1,412 @@
+//! A world of guests.
+ghost use Rattle.std.specs.Prelude.{◌≡◌, ◌≢◌, ◌<◌};
+
+use crate::loading::loaded;
+use crate::moves::{evict_page, scan_page, supply_page};
+use crate::stepping::step_in;
+use crate::{EvictError, Tenant};
+use elf32::Image;
+use flatvm::Reply;
+use framepool::Pool;
+use items::Item;
+use mips_step::StepOut;
+use paged_guest::{Refused, Stop};
+use paging::{Pages, Scan, SupplyError};
+use physmap::PageKind;
+use sharetab::{GuestNo, Shares};
+use std::alloc::Global;
+use std::marker::Model;
+use std::sync::Arc;
+use swapstore::{SlotBook, SwapStore};
+use word32::Ppn;
+
+/// What became of a page that was to leave its frame.
+#[derive(Clone, Copy, Debug, PartialEq, Eq)]
+pub enum Evicted {
+    /// It is in a slot.
+    Done,
+    /// It was in no frame, and nothing has changed.
+    Skipped,
+}
+
+/// Guests over one pool of frames, one swap store and one table of shared frames. In clauses it is a record, `WorldIs`.
+///
+/// Whatever is called, the books are exact, and while the store is true to digests each guest is its run (`is_sound`).
+pub struct World<S: SwapStore> {
+    tenants: Vec<Tenant>,
+    pool: Pool,
+    slots: SlotBook,
+    shares: Shares,
+    store: S,
+    frames: u32,
+}
+
+impl<S: SwapStore> Model for World<S> {
+    ghost use Rattle.world.specs.Worlds.{WorldIs, Sound};
+
+    ghost Value = { WorldIs S };
+
+    ghost view = { λ w. record { tenants = w.tenants.items; pool = w.pool; slots = w.slots; shares = w.shares; store = w.store; frames = w.frames } };
+
+    ghost invariant = { λ w. Sound w.frames (S.slots w.store) (S.true_to_digests w.store) (S.held w.store) w.tenants.items w.pool w.slots w.shares.entries };
+}
+
+// Gives up what a world is made of, but for its store.
+fn close_parts(mut tenants: Vec<Tenant>, pool: Pool, slots: SlotBook, shares: Shares) {
+    while let Some(tenant) = tenants.pop() {
+        tenant.close();
+    }
+    tenants.destroy_empty();
+    pool.close();
+    slots.close();
+    shares.close();
+}
+
+impl<S: SwapStore> World<S> {
+    ghost use Rattle.std.specs.Prelude.{◌≡◌, ◌≢◌, ◌<◌, ◌≤◌, ◌^◌, ◌↔◌, ℕ, true, false, IsTrue, List, [], ◌∷◌, ◌++◌, Option, None, IfOk, IfErr, OnOk, OnErr, IfSome, IfNone, IsErrOf, All, length, replicate, slice_index_or};
+    ghost use Rattle.sha2.specs.Sha256.{sha256};
+    ghost use Rattle.items.specs.Items.{is_step};
+    ghost use Rattle.items.specs.Entries.{step_by};
+    ghost use Rattle.elf32.specs.Images.{FitsPages};
+    ghost use Rattle.guest_log.specs.Logs.{IsFull};
+    ghost use Rattle.mips_tlb.specs.declared.kind.Kind.TheVariants.{Store};
+    ghost use Rattle.mips_step.specs.Accesses.{accesses, first_lack};
+    ghost use Rattle.mips_step.specs.Answer.{need_of};
+    ghost use Rattle.flatvm.specs.Answers.{replied};
+    ghost use Rattle.flatvm.specs.Items.{accepts, reply};
+    ghost use Rattle.sharetab.specs.Maps.{at_page};
+    ghost use Rattle.sharetab.specs.declared.guest_page.GuestPage.{GuestPage};
+    ghost use Rattle.swapstore.specs.Failures.{one_more};
+    ghost use Rattle.physmap.specs.declared.page.PageKind.{PageKind};
+    ghost use Rattle.physmap.specs.Pages.{page_at, kind_at, is_resident, shown, slot_of, digest_of};
+    ghost use Rattle.physmap.specs.Outline.{outline};
+    ghost use Rattle.paging.specs.Moves.{SameNumbers};
+    ghost use Rattle.paging.specs.Scans.{Answered, HintsAfter};
+    ghost use Rattle.paging.specs.Supplies.{WhyAway, IsDamaged};
+    ghost use Rattle.paged_bus.specs.Lacking.{lacks_in};
+    ghost use Rattle.paged_bus.specs.Writes.{WritesTo};
+    ghost use Rattle.paged_guest.specs.Guests.{view_of, standing};
+    ghost use Rattle.world.specs.Evictions.{Became};
+    ghost use Rattle.world.specs.Lent.{WhyStays};
+    ghost use Rattle.world.specs.Tenants.{TenantIs, pages_in, IsBooted, Stays, Adds, NothingHappens};
+    ghost use Rattle.world.specs.Worlds.{WorldIs, Sound, Changes, PagesMove, SameAround};
+
+    /// A world of no guest, with this many frames, all free, and the slots of a store, all free. The store comes back where a
+    /// request for memory was refused.
+    pub fn new(alloc: Global, frames: u32, store: S) -> Result<World<S>, S>
+        ensures tenants { IfOk result (λ w. w.tenants ≡ []) }
+        ensures store { IfOk result (λ w. w.store ≡ store) }
+        ensures frames { IfOk result (λ w. w.frames ≡ frames) }
+        ensures hints { IfOk result (λ w. (page : GuestPage) → at_page w.shares.hints page ≡ None) }
+        ensures back { IfErr result (λ s. s ≡ store) }
+    {
+        let Ok(pool) = Pool::new(alloc, frames) else {
+            return Err(store);
+        };
+        let Ok(slots) = SlotBook::new(alloc, store.slot_count()) else {
+            pool.close();
+            return Err(store);
+        };
+        let Ok(shares) = Shares::new(alloc, frames) else {
+            pool.close();
+            slots.close();
+            return Err(store);
+        };
+        Ok(World {
+            tenants: Vec::new(alloc),
+            pool,
+            slots,
+            shares,
+            store,
+            frames,
+        })
+    }
+
+    /// The same world with one guest more, the last, at the boot of an image in a memory of `pages` pages, with this many shares
+    /// and a log of at most `log_runs` runs. Each page that the image reaches is in a frame with its bytes.
+    ///
+    /// `NoFrame` where the pool has too few frames for them, `Memory` where a request for memory was refused: the world is given
+    /// up then, and its store comes back.
+    pub fn add(
+        self,
+        alloc: Global,
+        image: Arc<Image, Global>,
+        pages: u32,
+        shares: u32,
+        log_runs: u32,
+    ) -> Result<World<S>, (SupplyError, S)>
+        requires fits { FitsPages image.value pages }
+        requires few { pages ≤ 2 ^ 20 }
+        ensures tenants { IfOk result (λ w. (t : TenantIs) → w.tenants ≡ self.tenants ++ slice_index_or w.tenants (length self.tenants) t ∷ []) }
+        ensures booted { IfOk result (λ w. (t : TenantIs) → IsBooted image.value pages shares log_runs (slice_index_or w.tenants (length self.tenants) t)) }
+        ensures slots { IfOk result (λ w. w.slots ≡ self.slots) }
+        ensures shares { IfOk result (λ w. w.shares ≡ self.shares) }
+        ensures store { IfOk result (λ w. w.store ≡ self.store) }
+        ensures frames { IfOk result (λ w. w.frames ≡ self.frames) }
+        ensures back { IfErr result (λ refused. refused.1 ≡ self.store) }
+    {
+        let World {
+            mut tenants,
+            mut pool,
+            slots,
+            shares: table,
+            store,
+            frames,
+        } = self;
+        match loaded(alloc, image, pages, shares, log_runs, &mut pool) {
+            Ok(tenant) => match tenants.push(tenant) {
+                Ok(()) => Ok(World {
+                    tenants,
+                    pool,
+                    slots,
+                    shares: table,
+                    store,
+                    frames,
+                }),
+                Err(failed) => {
+                    failed.value.close();
+                    close_parts(tenants, pool, slots, table);
+                    Err((SupplyError::Memory, store))
+                }
+            },
+            Err(error) => {
+                close_parts(tenants, pool, slots, table);
+                Err((error, store))
+            }
+        }
+    }
+
+    /// Gives the world up, and with it its guests. Its store comes back.
+    pub fn close(self) -> S
+        ensures { result ≡ self.store }
+    {
+        let World {
+            tenants,
+            pool,
+            slots,
+            shares,
+            store,
+            frames: _,
+        } = self;
+        close_parts(tenants, pool, slots, shares);
+        store
+    }
+
+    /// The books are exact: of the frames each is free, one page's, or an entry's whose count is how many pages name it, and of
+    /// the store's slots each is free or one page's. And while the store is true to digests, each guest is its run. It does
+    /// nothing: its clause says what every world keeps.
+    pub fn is_sound(&self)
+        ensures { Sound self.now.frames (S.slots self.now.store) (S.true_to_digests self.now.store) (S.held self.now.store)
+            self.now.tenants self.now.pool self.now.slots self.now.shares.entries }
+    {
+        // A function knows what its type keeps once it uses a field.
+        let _tenants = &self.tenants;
+    }
+
+    /// How many guests there are. Their numbers are below it.
+    pub fn count(&self) -> usize
+        ensures { result ≡ length self.now.tenants }
+    {
+        self.tenants.len()
+    }
+
+    /// How many frames are free.
+    pub fn free(&self) -> u32
+        ensures { result ≡ length self.now.pool.free }
+    {
+        self.pool.free()
+    }
+
+    /// How many slots are used.
+    pub fn slots_used(&self) -> u32
+        ensures { result ≡ self.now.slots.out }
+    {
+        self.slots.used()
+    }
+
+    /// A guest.
+    pub fn guest(&self, g: usize) -> &Tenant
+        requires { g < length self.now.tenants }
+        ensures { (t : TenantIs) → result.now ≡ slice_index_or self.now.tenants g t }
+    {
+        &self.tenants[g]
+    }
+
+    /// Where a page of a guest is; None exactly where it has no such page.
+    pub fn kind(&self, g: usize, p: Ppn) -> Option<PageKind>
+        requires { g < length self.now.tenants }
+        ensures kind { IfSome result (λ kind. (t : TenantIs) → kind ≡ kind_at (pages_in (slice_index_or self.now.tenants g t)) p) }
+        ensures there { IfSome result (λ kind. (t : TenantIs) → p < length (pages_in (slice_index_or self.now.tenants g t))) }
+        ensures none { IfNone result ((t : TenantIs) → length (pages_in (slice_index_or self.now.tenants g t)) ≤ p) }
+    {
+        let tenant = self.guest(g);
+        if p.number() < tenant.count() {
+            Some(tenant.kind(p))
+        } else {
+            None
+        }
+    }
+
+    /// One step of a guest, with room made for it in its log.
+    ///
+    /// It answers `Need` exactly where the guest's step would access a page that is lacking, and `Stop(LogFull)` exactly where the
+    /// log has its greatest number of runs or 2^62 items, `Stop(Memory)` only where a request for memory was refused: nothing has
+    /// happened then. Else its log has that step more, and so its view has moved by one step.
+    pub fn step(&mut self, g: usize) -> Result<StepOut, Stop>
+        requires { g < length self.old.tenants }
+        ensures need { S.true_to_digests self.old.store → (t : TenantIs) → IfOk result (λ s. need_of s ≡
+            first_lack (lacks_in (pages_in (slice_index_or self.old.tenants g t))) (accesses (view_of (slice_index_or self.old.tenants g t).guest))) }
+        ensures adds { IfOk result (λ s. need_of s ≡ None → Changes (λ t t'. Adds t (step_by 0) t') g self.old.tenants self.new.tenants) }
+        ensures needs { IfOk result (λ s. need_of s ≢ None → Changes NothingHappens g self.old.tenants self.new.tenants × SameAround self.old self.new) }
+        ensures full { (t : TenantIs) → (IsErrOf result Stop.LogFull ↔ IsFull (slice_index_or self.old.tenants g t).guest.log) }
+        ensures unchanged { OnErr result (Changes NothingHappens g self.old.tenants self.new.tenants × SameAround self.old self.new) }
+        ensures stays { Changes Stays g self.old.tenants self.new.tenants }
+        ensures hints { self.new.shares.hints ≡ self.old.shares.hints }
+        ensures store { self.new.store ≡ self.old.store }
+        ensures frames { self.new.frames ≡ self.old.frames }
+    {
+        step_in(
+            &mut self.tenants[g],
+            &mut self.pool,
+            &mut self.slots,
+            &mut self.shares,
+        )
+    }
+
+    /// What happens to a guest by an item of one of its seats that is no step, as `Guest::input` has it.
+    pub fn input(&mut self, g: usize, item: Item) -> Result<Reply, Refused>
+        requires guest { g < length self.old.tenants }
+        requires input { is_step item.what ≡ false }
+        ensures adds { OnOk result (Changes (λ t t'. Adds t item t') g self.old.tenants self.new.tenants) }
+        ensures accepted { OnOk result (S.true_to_digests self.old.store → (t : TenantIs) → accepts item.what (view_of (slice_index_or self.old.tenants g t).guest) ≡ true) }
+        ensures reply { IfOk result (λ r. S.true_to_digests self.old.store → (t : TenantIs) → replied r ≡ reply item.what (view_of (slice_index_or self.old.tenants g t).guest)) }
+        ensures refused { IsErrOf result Refused.Machine → S.true_to_digests self.old.store → (t : TenantIs) →
+            accepts item.what (view_of (slice_index_or self.old.tenants g t).guest) ≡ false }
+        ensures away { (page : ℕ) → IsErrOf result (Refused.Away page) → (t : TenantIs) → lacks_in (pages_in (slice_index_or self.old.tenants g t)) page Store ≢ None }
+        ensures its_page { (page : ℕ) → IsErrOf result (Refused.Away page) → (t : TenantIs) → WritesTo item.what (standing (slice_index_or self.old.tenants g t).guest) page }
+        ensures full { (t : TenantIs) → (IsErrOf result (Refused.Stop Stop.LogFull) ↔ IsFull (slice_index_or self.old.tenants g t).guest.log) }
+        ensures unchanged { OnErr result (Changes NothingHappens g self.old.tenants self.new.tenants) }
+        ensures stays { Changes Stays g self.old.tenants self.new.tenants }
+        ensures around { SameAround self.old self.new }
+    {
+        self.tenants[g].input(item)
+    }
+
+    /// A page of a guest gets a frame of its own, with its bytes: zeros where it was never touched or was given to the balloon,
+    /// those of the frame that it shares, or those of its slot. A page that has one keeps it.
+    ///
+    /// `NoFrame` exactly where it wants one and none is free, `Memory` where a request for memory was refused, `SwapRead` where
+    /// the store failed to read the slot, `SwapDamaged` where what was read has another SHA-256 than the page, which an honest
+    /// store never does. Then nothing has moved.
+    pub fn supply(&mut self, alloc: Global, g: usize, p: Ppn) -> Result<(), SupplyError>
+        requires guest { g < length self.old.tenants }
+        requires page { (t : TenantIs) → p < length (pages_in (slice_index_or self.old.tenants g t)) }
+        ensures moves { Changes PagesMove g self.old.tenants self.new.tenants }
+        ensures private { OnOk result ((t : TenantIs) → kind_at (pages_in (slice_index_or self.new.tenants g t)) p ≡ PageKind.Private) }
+        ensures others { (t : TenantIs) (other : ℕ) → (other ≡ p → ⊥) →
+            page_at (pages_in (slice_index_or self.new.tenants g t)) other ≡ page_at (pages_in (slice_index_or self.old.tenants g t)) other }
+        ensures err { IfErr result (WhyAway self.old.pool (S.failed self.new.store ≡ one_more (S.failed self.old.store)) (S.honest self.old.store → ⊥)) }
+        ensures unchanged { OnErr result (self.new.tenants ≡ self.old.tenants) }
+        ensures pool_unchanged { OnErr result (SameNumbers self.old.pool self.new.pool) }
+        ensures slots_unchanged { OnErr result (self.new.slots ≡ self.old.slots) }
+        ensures shares_unchanged { OnErr result (self.new.shares ≡ self.old.shares) }
+        ensures hints { self.new.shares.hints ≡ self.old.shares.hints }
+        ensures frames { self.new.frames ≡ self.old.frames }
+        ensures slots { S.slots self.new.store ≡ S.slots self.old.store }
+        ensures honest { S.honest self.new.store ↔ S.honest self.old.store }
+        ensures true_to_digests { S.true_to_digests self.new.store ↔ S.true_to_digests self.old.store }
+    {
+        supply_page(
+            alloc,
+            &mut self.tenants[g],
+            p,
+            &mut self.pool,
+            &mut self.slots,
+            &mut self.store,
+            &mut self.shares,
+        )
+    }
+
+    // A resident page leaves its frame.
+    fn evict_of(&mut self, g: usize, p: Ppn) -> Result<(), EvictError>
+        requires guest { g < length self.old.tenants }
+        requires page { (t : TenantIs) → p < length (pages_in (slice_index_or self.old.tenants g t)) }
+        requires resident { (t : TenantIs) → IsTrue (is_resident (kind_at (pages_in (slice_index_or self.old.tenants g t)) p)) }
+        ensures moves { Changes PagesMove g self.old.tenants self.new.tenants }
+        ensures page { OnOk result ((t : TenantIs) →
+            Became p Evicted.Done (pages_in (slice_index_or self.old.tenants g t)) (pages_in (slice_index_or self.new.tenants g t)) self.old.slots) }
+        ensures err { IfErr result (WhyStays self.old.slots (S.failed self.new.store ≡ one_more (S.failed self.old.store))) }
+        ensures unchanged { OnErr result (self.new.tenants ≡ self.old.tenants) }
+        ensures pool_unchanged { OnErr result (self.new.pool ≡ self.old.pool) }
+        ensures slots_unchanged { OnErr result (SameNumbers self.old.slots self.new.slots) }
+        ensures shares_unchanged { OnErr result (self.new.shares ≡ self.old.shares) }
+        ensures hints { self.new.shares.hints ≡ self.old.shares.hints }
+        ensures frames { self.new.frames ≡ self.old.frames }
+        ensures slots { S.slots self.new.store ≡ S.slots self.old.store }
+        ensures honest { S.honest self.new.store ↔ S.honest self.old.store }
+        ensures true_to_digests { S.true_to_digests self.new.store ↔ S.true_to_digests self.old.store }
+    {
+        evict_page(
+            &mut self.tenants[g],
+            p,
+            &mut self.pool,
+            &mut self.slots,
+            &mut self.store,
+            &mut self.shares,
+        )
+    }
+
+    /// A page of a guest is written to the free slot of the lowest number, and leaves its frame, which is free then but where other
+    /// pages read it too. `Skipped` exactly where the guest has no such page or it is in no frame, whether a slot is free or not.
+    ///
+    /// `NoSwap` exactly where no slot is free, `SwapWrite` where the store failed to write it. Then nothing has moved.
+    pub fn evict(&mut self, g: usize, p: Ppn) -> Result<Evicted, EvictError>
+        requires { g < length self.old.tenants }
+        ensures moves { Changes PagesMove g self.old.tenants self.new.tenants }
+        ensures page { IfOk result (λ evicted. (t : TenantIs) →
+            Became p evicted (pages_in (slice_index_or self.old.tenants g t)) (pages_in (slice_index_or self.new.tenants g t)) self.old.slots) }
+        ensures err { IfErr result (WhyStays self.old.slots (S.failed self.new.store ≡ one_more (S.failed self.old.store))) }
+        ensures unchanged { OnErr result (self.new.tenants ≡ self.old.tenants) }
+        ensures pool_unchanged { OnErr result (self.new.pool ≡ self.old.pool) }
+        ensures slots_unchanged { OnErr result (SameNumbers self.old.slots self.new.slots) }
+        ensures shares_unchanged { OnErr result (self.new.shares ≡ self.old.shares) }
+        ensures hints { self.new.shares.hints ≡ self.old.shares.hints }
+        ensures frames { self.new.frames ≡ self.old.frames }
+        ensures slots { S.slots self.new.store ≡ S.slots self.old.store }
+        ensures honest { S.honest self.new.store ↔ S.honest self.old.store }
+        ensures true_to_digests { S.true_to_digests self.new.store ↔ S.true_to_digests self.old.store }
+    {
+        let Some(kind) = self.kind(g, p) else {
+            return Ok(Evicted::Skipped);
+        };
+        if !kind.is_resident() {
+            return Ok(Evicted::Skipped);
+        }
+        match self.evict_of(g, p) {
+            Ok(()) => Ok(Evicted::Done),
+            Err(error) => Err(error),
+        }
+    }
+
+    /// Scans a page of a guest: it joins the entry that has its bytes; else, where another page was last noted with its digest, its
+    /// own frame becomes an entry; else its digest is noted (`paging::scan_in`). A frame that came free is free again.
+    pub fn scan(&mut self, g: usize, p: Ppn) -> Scan
+        requires guest { g < length self.old.tenants }
+        requires small { g < 2 ^ 32 }
+        ensures moves { Changes PagesMove g self.old.tenants self.new.tenants }
+        ensures answer { (t : TenantIs) → Answered self.old.shares (pages_in (slice_index_or self.old.tenants g t)) (record { guest = g; page = p }) result }
+        ensures hints { (t : TenantIs) →
+            HintsAfter self.old.shares.hints (sha256 (shown (page_at (pages_in (slice_index_or self.old.tenants g t)) p))) (record { guest = g; page = p }) result self.new.shares.hints }
+        ensures slots { self.new.slots ≡ self.old.slots }
+        ensures store { self.new.store ≡ self.old.store }
+        ensures frames { self.new.frames ≡ self.old.frames }
+    {
+        scan_page(
+            &mut self.tenants[g],
+            GuestNo::new(g as u32),
+            p,
+            &mut self.pool,
+            &mut self.shares,
+        )
+    }
+}
