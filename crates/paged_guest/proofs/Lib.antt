@@ -4,5 +4,6 @@ pub mod Keeping
 pub mod Logging
 pub mod Looking
 pub mod PartOfPage
+pub mod Reaching
 pub mod Showing
 pub mod Stepping

@@ -42,7 +42,7 @@ impl Model for Guest {
 }
 
 impl Guest {
-    ghost use Rattle.std.specs.Prelude.{◌≡◌, ◌≢◌, ◌+◌, ◌<◌, ◌≤◌, ◌^◌, ℕ, true, false, List, [], OnOk, OnErr, IsErrOf, ◌↔◌, IfOk, None, Some, Option};
+    ghost use Rattle.std.specs.Prelude.{◌≡◌, ◌≢◌, ◌+◌, ◌<◌, ◌≤◌, ◌^◌, ℕ, true, false, List, [], OnOk, OnErr, IsErrOf, ◌↔◌, IfOk, IfSome, None, Some, Option};
     ghost use Rattle.std.specs.Prelude.{length, replicate, slice_set};
     ghost use Rattle.elf32.specs.Images.{FitsPages};
     ghost use Rattle.items.specs.Items.{is_step};
@@ -63,6 +63,7 @@ impl Guest {
     ghost use Rattle.physmap.specs.declared.page.Page.{Page};
     ghost use Rattle.physmap.specs.declared.page.PageKind.{PageKind};
     ghost use Rattle.physmap.specs.Pages.{page_at, kind_at, own_frame};
+    ghost use Rattle.physmap.specs.Holdings.{resident_pages};
     ghost use Rattle.physmap.specs.Outline.{outline};
     ghost use Rattle.paging.specs.Faith.{Kept};
     ghost use Rattle.paged_bus.specs.Lacking.{lacks_in};
@@ -187,9 +188,18 @@ impl Guest {
         self.journal.settle(seat);
     }
 
-    /// The `Need` that `step` would answer.
+    /// How many of its pages are in a frame, their own or a shared one.
+    pub fn resident(&self) -> u32
+        ensures value { result ≡ resident_pages self.now.bus.pages }
+        ensures within { result ≤ length self.now.bus.pages }
+    {
+        self.bus.resident()
+    }
+
+    /// The `Need` that `step` would answer. The page is one of the guest's.
     pub fn need(&self) -> Option<(Ppn, Why)>
-        ensures { Intact self.now → result ≡ first_lack (lacks_in self.now.bus.pages) (accesses (view_of self.now)) }
+        ensures need { Intact self.now → result ≡ first_lack (lacks_in self.now.bus.pages) (accesses (view_of self.now)) }
+        ensures there { IfSome result (λ needed. needed.0 < length self.now.bus.pages) }
     {
         need_pages(&self.cpu, &self.bus)
     }

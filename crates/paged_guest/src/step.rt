@@ -1,6 +1,6 @@
 //! A processor over pages: its steps, what else happens to it, and what is read of it, all as of the machine whose processor
 //! and pages they are.
-ghost use Rattle.std.specs.Prelude.{◌≡◌, ◌≢◌, ◌↔◌, ℕ, true, false, List, length, Option, Some, None, OnOk, OnErr, IfOk, IsErrOf};
+ghost use Rattle.std.specs.Prelude.{◌≡◌, ◌≢◌, ◌↔◌, ◌<◌, ℕ, true, false, List, length, Option, Some, None, OnOk, OnErr, IfOk, IfSome, IsErrOf};
 ghost use Rattle.items.specs.Items.{is_step};
 ghost use Rattle.items.specs.declared.item.What.TheVariants.{Drain};
 ghost use Rattle.mips_tlb.specs.declared.kind.Kind.TheVariants.{Store};
@@ -78,6 +78,7 @@ pub(crate) fn step_pages(cpu: &mut Cpu, bus: &mut PagedBus) -> Stepped
 pub(crate) fn need_pages(cpu: &Cpu, bus: &PagedBus) -> Option<(Ppn, Why)>
     requires settled { IsSettled bus.now }
     ensures need { result ≡ first_lack (lacks_in bus.now.pages) (accesses (in_world cpu.now (world_of bus.now))) }
+    ensures there { IfSome result (λ needed. needed.0 < length bus.now.pages) }
     ensures whole { AreWhole bus.now.pages }
 {
     whole(bus);

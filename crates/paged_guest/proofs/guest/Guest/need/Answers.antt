@@ -6,8 +6,8 @@ use Rattle.paged_guest.specs.Guests.{GuestIs, guest_of, view_of, Intact}
 use Rattle.paged_guest.proofs.Stepping.{need_alike}
 use Rattle.paged_guest.proofs.guest.Guest.need.Goals as goal
 
-pub returns : goal.returns
-returns c =
+pub returns-clause-need : goal.returns-clause-need
+returns-clause-need c =
     let g = c.self.inside in
     let now = guest_of g.cpu g.bus (boot_machine g.image.value g.pages) g.journal in
     subst (λ (g : GuestIs). Intact g → c.need_pages.result ≡ first_lack (lacks_in g.bus.pages) (accesses (view_of g))) c.self.view_is
