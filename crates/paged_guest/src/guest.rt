@@ -188,6 +188,14 @@ impl Guest {
         self.journal.settle(seat);
     }
 
+    /// How many pages it has, at most 2^20.
+    pub fn page_count(&self) -> u32
+        ensures value { result ≡ length self.now.bus.pages }
+        ensures small { result ≤ 2 ^ 20 }
+    {
+        self.bus.pages()
+    }
+
     /// How many of its pages are in a frame, their own or a shared one.
     pub fn resident(&self) -> u32
         ensures value { result ≡ resident_pages self.now.bus.pages }

@@ -2,4 +2,5 @@ pub mod Booting
 pub mod Giving
 pub mod Keeping
 pub mod Moving
+pub mod Victims
 pub mod Worlds

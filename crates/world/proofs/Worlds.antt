@@ -180,10 +180,10 @@ boots_stay how g ts ts' d inside c same =
     ap (map boot_of) (c.one d) ∙ boots_set ts g (get_or ts' g d) d inside (same (get_or ts g d) (get_or ts' g d) (c.so d))
 
 pub moved_items : (t t' : TenantIs) → PagesMove t t' → items_of t' ≡ items_of t
-moved_items t t' m = ap items_of m
+moved_items t t' m = ap items_of m.beside
 
 pub moved_boot : (t t' : TenantIs) → PagesMove t t' → boot_of t' ≡ boot_of t
-moved_boot t t' m = ap boot_of m
+moved_boot t t' m = ap boot_of m.beside
 
 -- ---- what a world knows of one of its guests
 

@@ -3,4 +3,5 @@ pub mod Evictions
 pub mod Lent
 pub mod Loading
 pub mod Tenants
+pub mod Victims
 pub mod Worlds

@@ -1,5 +1,5 @@
 -- What is seen of a world, and what its guests have to do with what lies around them.
-use Rattle.std.specs.Prelude.{◌≡◌, ℕ, ◌==◌, if◌then◌else◌, List, [], ◌∷◌, Option, All, map, slice_set, slice_index_or}
+use Rattle.std.specs.Prelude.{◌≡◌, ℕ, ◌==◌, if◌then◌else◌, List, [], ◌∷◌, Option, All, length, map, slice_set, slice_index_or}
 use Rattle.items.specs.declared.item.Item.{Item}
 use Rattle.frames.specs.FreeList.{FreeList}
 use Rattle.sharetab.specs.Entries.{EntriesAre}
@@ -31,9 +31,10 @@ pub record Changes (how : TenantIs → TenantIs → Type 0) (g : ℕ) (tenants t
   pub one : (t : TenantIs) → tenants' ≡ slice_set tenants g (slice_index_or tenants' g t)
   pub so : (t : TenantIs) → how (slice_index_or tenants g t) (slice_index_or tenants' g t)
 
--- of a guest only pages have moved: its log, and so its view, are as before
-abbrev pub PagesMove : TenantIs → TenantIs → Type 0
-PagesMove t t' = beside_pages t' ≡ beside_pages t
+-- of a guest only pages have moved: its log, and so its view, are as before, and it has as many pages
+pub record PagesMove (t t' : TenantIs) : Type 0 where
+  pub beside : beside_pages t' ≡ beside_pages t
+  pub count : length (pages_in t') ≡ length (pages_in t)
 
 -- ---- logs and boots
 

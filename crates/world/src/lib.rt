@@ -11,6 +11,7 @@
 
 mod applying;
 pub mod events;
+pub mod faulting;
 mod loading;
 mod moves;
 mod stepping;
@@ -18,6 +19,7 @@ pub mod tenant;
 pub mod world;
 
 pub use events::{Answer, Event};
+pub use faulting::FaultError;
 pub use moves::EvictError;
 pub use tenant::Tenant;
 pub use world::{Evicted, World};

@@ -4,13 +4,15 @@ ghost use Rattle.std.specs.Prelude.{◌≡◌};
 use elf32::Image;
 use flatvm::Reply;
 use frames::{Frame, SharePage, ShareTicket, SlotTicket};
-use items::{Item, SeatNo};
+use items::Item;
+use mips_step::Why;
 use paged_guest::{Guest, Refused, Seat, Stepped, Stop};
 use paging::Pages;
 use physmap::{PageKind, Returned};
 use sharetab::Shares;
 use std::alloc::AllocError;
 use std::marker::Model;
+use taxpolicy::{DEFAULT_MINIMUM, SAMPLE_SIZE, Stat};
 use word32::Ppn;
 
 /// A guest with its four seats and its shares of the memory. In clauses it is a record, `TenantIs`.
@@ -38,7 +40,7 @@ impl Model for Tenant {
 }
 
 impl Tenant {
-    ghost use Rattle.std.specs.Prelude.{◌≡◌, ◌≢◌, ◌<◌, ℕ, true, false, List, [], Option, None, OnOk, OnErr, IfOk, IsErrOf, ◌↔◌, length, slice_set};
+    ghost use Rattle.std.specs.Prelude.{◌≡◌, ◌≢◌, ◌<◌, ◌≤◌, ◌^◌, ℕ, true, false, List, [], Option, None, OnOk, OnErr, IfOk, IfSome, IsErrOf, ◌↔◌, length, slice_set};
     ghost use Rattle.elf32.specs.Images.{FitsPages};
     ghost use Rattle.items.specs.Items.{is_step};
     ghost use Rattle.items.specs.Entries.{step_by};
@@ -54,11 +56,13 @@ impl Tenant {
     ghost use Rattle.physmap.specs.declared.page.Page.{Page};
     ghost use Rattle.physmap.specs.declared.page.PageKind.{PageKind};
     ghost use Rattle.physmap.specs.Pages.{page_at, kind_at, own_frame};
+    ghost use Rattle.physmap.specs.Holdings.{resident_pages};
     ghost use Rattle.physmap.specs.Outline.{outline};
     ghost use Rattle.paged_bus.specs.Lacking.{lacks_in};
     ghost use Rattle.paged_bus.specs.Writes.{WritesTo};
     ghost use Rattle.paged_guest.specs.Guests.{view_of, standing, need_of, HandsBack};
     ghost use Rattle.world.specs.Tenants.{TenantIs, pages_in, beside_pages, IsKept, Stays, Adds, NothingHappens};
+    ghost use Rattle.world.specs.Victims.{stat_of};
 
     /// A guest that has no seat yet, with this many shares.
     pub(crate) fn new(mut guest: Guest, shares: u32) -> Tenant
@@ -88,6 +92,46 @@ impl Tenant {
         ensures { result ≡ self.now.shares }
     {
         self.shares
+    }
+
+    /// How many pages it has, at most 2^20.
+    pub fn page_count(&self) -> u32
+        ensures value { result ≡ length (pages_in self.now) }
+        ensures small { result ≤ 2 ^ 20 }
+    {
+        self.guest.page_count()
+    }
+
+    /// How many of its pages are in a frame, their own or a shared one.
+    pub fn resident(&self) -> u32
+        ensures value { result ≡ resident_pages (pages_in self.now) }
+        ensures within { result ≤ length (pages_in self.now) }
+    {
+        self.guest.resident()
+    }
+
+    /// What the policy knows of it: no sample was taken, so all of its pages count as active.
+    pub fn stat(&self) -> Stat
+        ensures { result ≡ stat_of self.now }
+    {
+        Stat {
+            shares: Tenant::shares(self),
+            pages: self.page_count(),
+            resident: self.resident(),
+            given: self.guest.view().devices.given(),
+            active: SAMPLE_SIZE as u16,
+            sample: SAMPLE_SIZE as u16,
+            minimum: DEFAULT_MINIMUM,
+        }
+    }
+
+    /// The `Need` that a step of it would answer. The page is one of the guest's.
+    pub(crate) fn need(&self) -> Option<(Ppn, Why)>
+        ensures need { (held : ℕ → Option (List ℕ)) → IsKept held self.now →
+            result ≡ first_lack (lacks_in (pages_in self.now)) (accesses (view_of self.now.guest)) }
+        ensures there { IfSome result (λ needed. needed.0 < length (pages_in self.now)) }
+    {
+        self.guest.need()
     }
 
     /// Puts the bytes that a page has as the image boots into the frame that the page has for its own. All else stays.

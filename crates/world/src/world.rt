@@ -224,6 +224,13 @@ impl<S: SwapStore> World<S> {
         self.slots.used()
     }
 
+    /// The guests, in the order of their numbers.
+    pub fn tenants(&self) -> &[Tenant]
+        ensures { result.now ≡ self.now.tenants }
+    {
+        &self.tenants
+    }
+
     /// A guest.
     pub fn guest(&self, g: usize) -> &Tenant
         requires { g < length self.now.tenants }
@@ -328,7 +335,7 @@ impl<S: SwapStore> World<S> {
     }
 
     // A resident page leaves its frame.
-    fn evict_of(&mut self, g: usize, p: Ppn) -> Result<(), EvictError>
+    pub(crate) fn evict_of(&mut self, g: usize, p: Ppn) -> Result<(), EvictError>
         requires guest { g < length self.old.tenants }
         requires page { (t : TenantIs) → p < length (pages_in (slice_index_or self.old.tenants g t)) }
         requires resident { (t : TenantIs) → IsTrue (is_resident (kind_at (pages_in (slice_index_or self.old.tenants g t)) p)) }
@@ -336,6 +343,7 @@ impl<S: SwapStore> World<S> {
         ensures page { OnOk result ((t : TenantIs) →
             Became p Evicted.Done (pages_in (slice_index_or self.old.tenants g t)) (pages_in (slice_index_or self.new.tenants g t)) self.old.slots) }
         ensures err { IfErr result (WhyStays self.old.slots (S.failed self.new.store ≡ one_more (S.failed self.old.store))) }
+        ensures no_failure { OnOk result (S.failed self.new.store ≡ S.failed self.old.store) }
         ensures unchanged { OnErr result (self.new.tenants ≡ self.old.tenants) }
         ensures pool_unchanged { OnErr result (self.new.pool ≡ self.old.pool) }
         ensures slots_unchanged { OnErr result (SameNumbers self.old.slots self.new.slots) }
@@ -366,6 +374,7 @@ impl<S: SwapStore> World<S> {
         ensures page { IfOk result (λ evicted. (t : TenantIs) →
             Became p evicted (pages_in (slice_index_or self.old.tenants g t)) (pages_in (slice_index_or self.new.tenants g t)) self.old.slots) }
         ensures err { IfErr result (WhyStays self.old.slots (S.failed self.new.store ≡ one_more (S.failed self.old.store))) }
+        ensures no_failure { OnOk result (S.failed self.new.store ≡ S.failed self.old.store) }
         ensures unchanged { OnErr result (self.new.tenants ≡ self.old.tenants) }
         ensures pool_unchanged { OnErr result (self.new.pool ≡ self.old.pool) }
         ensures slots_unchanged { OnErr result (SameNumbers self.old.slots self.new.slots) }

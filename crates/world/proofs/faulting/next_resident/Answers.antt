@@ -1,0 +1,10 @@
+use Rattle.std.proofs.Common.{ℕ, subst}
+use Rattle.world.specs.Tenants.{pages_in}
+use Rattle.world.specs.Victims.{NoneResident}
+use Rattle.world.proofs.Victims.{none_at_all}
+use Rattle.world.proofs.faulting.next_resident.Goals as goal
+
+pub unreachable-requires : goal.unreachable-requires
+unreachable-requires c =
+    let pages = pages_in c.args.tenant.now in
+    none_at_all pages c.args.start (subst (NoneResident pages c.args.start) c.page_count.ensures.value c.in_default.ensures.none) c.in-None.ensures.none c.requires.some

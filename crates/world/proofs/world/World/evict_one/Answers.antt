@@ -1,0 +1,59 @@
+use Rattle.std.proofs.Common.{ℕ, ◌≡◌, ◌%◌, ◌<◌, List, map, length, refl, sym, ap, subst, ◌∙◌, arith, Some}
+use Rattle.std.proofs.lemmas.List.{length-map}
+use Rattle.rand_core.specs.Stream.{next_u32}
+use Rattle.frames.specs.FreeList.{FreeList}
+use Rattle.swapstore.specs.Failures.{one_more}
+use Rattle.taxpolicy.specs.declared.stat.Stat.{Stat}
+use Rattle.taxpolicy.specs.Victim.{IsEligible, victim_of}
+use Rattle.world.specs.declared.moves.EvictError.{EvictError}
+use Rattle.world.specs.Lent.{WhyStays}
+use Rattle.world.specs.Tenants.{TenantIs, pages_in}
+use Rattle.world.specs.Victims.{stat_of, IsNextResident}
+use Rattle.world.proofs.Victims.{least_at, only_pages, fewer, none_free}
+use Rattle.world.proofs.world.World.evict_one.Goals as goal
+
+pub drawn_page-p-requires : goal.drawn_page-p-requires
+drawn_page-p-requires g c =
+    let ts = c.args.self.now.tenants in
+    let all : c.deref.result.now ≡ map stat_of ts = c.deref.ensures.value ∙ c.in-Ok.ensures ∙ ap (map stat_of) c.tenants.ensures in
+    let inside : c.in-Some.g < length ts = omega (arith, c.in-Some.ensures.within, ap length all, length-map ts stat_of) in
+    let least = (c.victim.ensures.least c.in-Some.g).0 c.in-Some.is in
+    let eligible : IsEligible (stat_of c.guest.result.now) = least_at c.args.tax.percent ts c.deref.result.now c.in-Some.g c.guest.result.now all inside (c.guest.ensures c.guest.result.now) least in
+    omega (arith, eligible)
+
+pub returns-in-Ok-evict_of-clause-moves : goal.returns-in-Ok-evict_of-clause-moves
+returns-in-Ok-evict_of-clause-moves g c =
+    let ts = c.args.self.now.tenants in
+    let all : c.deref.result.now ≡ map stat_of ts = c.deref.ensures.value ∙ c.in-Ok.ensures ∙ ap (map stat_of) c.tenants.ensures in
+    let inside : c.in-Some.g < length ts = omega (arith, c.in-Some.ensures.within, ap length all, length-map ts stat_of) in
+    only_pages c.in-Some.g ts c.evict_of.new.self.tenants inside c.evict_of.ensures.moves
+
+pub returns-in-Ok-evict_of-clause-policy : goal.returns-in-Ok-evict_of-clause-policy
+returns-in-Ok-evict_of-clause-policy g c =
+    let ts = c.args.self.now.tenants in
+    let all : c.deref.result.now ≡ map stat_of ts = c.deref.ensures.value ∙ c.in-Ok.ensures ∙ ap (map stat_of) c.tenants.ensures in
+    let inside : c.in-Some.g < length ts = omega (arith, c.in-Some.ensures.within, ap length all, length-map ts stat_of) in
+    let word = (next_u32 (g.R.Rng.stream c.args.rng.now)).0 in
+    record {
+      g = c.in-Some.g;
+      p = c.drawn_page-p.result;
+      victim = ap (victim_of c.args.tax.percent) (sym all) ∙ sym c.victim.ensures.value ∙ c.in-Some.is;
+      page = λ t. subst (λ (u : TenantIs). IsNextResident (pages_in u) (word % length (pages_in u)) c.drawn_page-p.result) (c.guest.ensures t) c.drawn_page-p.ensures.page;
+      evicted = c.in-Ok-evict_of.ensures.page;
+    }
+
+pub returns-in-Ok-evict_of-clause-fewer : goal.returns-in-Ok-evict_of-clause-fewer
+returns-in-Ok-evict_of-clause-fewer g c =
+    let ts = c.args.self.now.tenants in
+    let all : c.deref.result.now ≡ map stat_of ts = c.deref.ensures.value ∙ c.in-Ok.ensures ∙ ap (map stat_of) c.tenants.ensures in
+    let inside : c.in-Some.g < length ts = omega (arith, c.in-Some.ensures.within, ap length all, length-map ts stat_of) in
+    fewer c.in-Some.g c.drawn_page-p.result ts c.evict_of.new.self.tenants c.args.self.now.slots inside c.evict_of.ensures.moves
+    (λ t. subst (λ (u : TenantIs). c.drawn_page-p.result < length (pages_in u)) (c.guest.ensures t) c.drawn_page-p.ensures.page.there) c.in-Ok-evict_of.ensures.page
+
+pub returns-in-Err-NoSwap-clause-err : goal.returns-in-Err-NoSwap-clause-err
+returns-in-Err-NoSwap-clause-err g c =
+    let old = c.args.self.now in
+    let new = c.evict_of.new.self in (
+      ap (λ (l : FreeList). l.free) c.in-Err-NoSwap.ensures.pool_unchanged ∙ c.requires,
+      none_free old.slots new.slots (subst (λ (e : EvictError). WhyStays old.slots (g.S.SwapStore.failed new.store ≡ one_more (g.S.SwapStore.failed old.store)) e) c.in-Err-NoSwap.field-0-is c.in-Err-NoSwap.ensures.err) c.in-Err-NoSwap.ensures.slots_unchanged,
+    )

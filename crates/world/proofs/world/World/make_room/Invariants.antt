@@ -1,0 +1,19 @@
+use Rattle.std.proofs.Common.{◌≡◌, ◌↔◌}
+use Rattle.world.specs.Victims.{OnlyPagesMove, all_resident}
+use Rattle.world.proofs.world.World.make_room.Given as goal
+
+-- only pages have moved, and no call of the store has failed
+abbrev pub invariant-loop-alloc : goal.invariant-loop-alloc
+invariant-loop-alloc g l = record {
+  moves : OnlyPagesMove l.fn.self.tenants l.self.tenants;
+  failed : g.S.SwapStore.failed l.self.store ≡ g.S.SwapStore.failed l.fn.self.store;
+  hints : l.self.shares.hints ≡ l.fn.self.shares.hints;
+  frames : l.self.frames ≡ l.fn.self.frames;
+  slots : g.S.SwapStore.slots l.self.store ≡ g.S.SwapStore.slots l.fn.self.store;
+  honest : g.S.SwapStore.honest l.self.store ↔ g.S.SwapStore.honest l.fn.self.store;
+  trust : g.S.SwapStore.true_to_digests l.self.store ↔ g.S.SwapStore.true_to_digests l.fn.self.store;
+}
+
+-- each turn a page of a guest has left its frame
+abbrev pub decreases-loop-alloc : goal.decreases-loop-alloc
+decreases-loop-alloc g l = all_resident l.self.tenants

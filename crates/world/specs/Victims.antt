@@ -1,0 +1,67 @@
+-- Which page leaves its frame so that another gets one.
+use Rattle.std.specs.Prelude.{◌≡◌, ℕ, ◌%◌, ◌<◌, ◌≤◌, ◌⊎◌, true, false, List, [], Option, Some, All, length, map, sum_by, slice_index_or}
+use Rattle.std.proofs.Common.{lit<, lit≤}
+use Rattle.rand_core.specs.Stream.{Stream, next_u32}
+use Rattle.dev_balloon.specs.Balloon.{given_count}
+use Rattle.frames.specs.FreeList.{FreeList}
+use Rattle.physmap.specs.declared.page.Page.{Page}
+use Rattle.physmap.specs.Pages.{kind_at, is_resident}
+use Rattle.physmap.specs.Holdings.{resident_pages}
+use Rattle.taxpolicy.specs.declared.stat.Stat.{Stat}
+use Rattle.taxpolicy.specs.Victim.{IsEligible, victim_of}
+use Rattle.world.specs.Evictions.{IsEvicted}
+use Rattle.world.specs.Tenants.{TenantIs, pages_in, beside_pages}
+use Rattle.world.specs.Worlds.{Changes, PagesMove}
+use Rattle.world.specs.declared.faulting.FaultError.{FaultError}
+use Rattle.world.specs.declared.faulting.FaultError.TheVariants.{NoFrame, NoSwap, SwapRead, SwapDamaged, Memory}
+
+-- what the policy knows of a guest of which no sample was taken: all of its pages count as active
+abbrev pub stat_of : TenantIs → Stat
+stat_of t = record {
+  shares = t.shares;
+  pages = length (pages_in t);
+  resident = resident_pages (pages_in t);
+  given = given_count t.guest.bus.devices.balloon;
+  active = 100;
+  sample = 100;
+  minimum = 2;
+  sampled = lit< tt;
+  touched = lit≤ tt;
+}
+
+-- no page from one number on to below another is in a frame
+abbrev pub NoneResident : List Page → ℕ → ℕ → Type 0
+NoneResident pages from to = (p : ℕ) → from ≤ p → p < to → is_resident (kind_at pages p) ≡ false
+
+-- the first page at or after a place that is in a frame, going round
+pub record IsNextResident (pages : List Page) (start p : ℕ) : Type 0 where
+  pub there : p < length pages
+  pub resident : is_resident (kind_at pages p) ≡ true
+  pub first : ((start ≤ p) × NoneResident pages start p) ⊎ ((p < start) × NoneResident pages start (length pages) × NoneResident pages 0 p)
+
+-- The victim of the guests has lost a page: the first resident one at or after the generator's next word modulo its pages.
+pub record IsPolicys (tax : ℕ) (words : Stream) (tenants tenants' : List TenantIs) (slots : FreeList) : Type 0 where
+  pub g : ℕ
+  pub p : ℕ
+  pub victim : victim_of tax (map stat_of tenants) ≡ Some g
+  pub page : (t : TenantIs) → IsNextResident (pages_in (slice_index_or tenants g t)) ((next_u32 words).0 % length (pages_in (slice_index_or tenants g t))) p
+  pub evicted : (t : TenantIs) → IsEvicted p (pages_in (slice_index_or tenants g t)) (pages_in (slice_index_or tenants' g t)) slots
+
+-- of the guests only pages have moved: their logs, and so their views, are as before, and each has as many pages
+pub record OnlyPagesMove (tenants tenants' : List TenantIs) : Type 0 where
+  pub beside : map beside_pages tenants' ≡ map beside_pages tenants
+  pub counts : map (λ t. length (pages_in t)) tenants' ≡ map (λ t. length (pages_in t)) tenants
+
+-- how many pages of all guests are in frames
+abbrev pub all_resident : List TenantIs → ℕ
+all_resident tenants = sum_by (λ t. resident_pages (pages_in t)) tenants
+
+-- Why a page that is needed has no frame. No frame is free, and the store failed to write a page or nobody is eligible; or no slot is
+-- free either; or the store failed to read the page; or what it read is not the page's, and the store isn't honest; or a request for
+-- memory was refused.
+abbrev pub WhyLacking : FreeList → FreeList → List Stat → Type 0 → Type 0 → FaultError → Type 0
+WhyLacking pool slots stats failed damaged NoFrame = (pool.free ≡ []) × (failed ⊎ All (λ s. ¬ IsEligible s) stats)
+WhyLacking pool slots stats failed damaged NoSwap = (pool.free ≡ []) × (slots.free ≡ [])
+WhyLacking pool slots stats failed damaged SwapRead = failed
+WhyLacking pool slots stats failed damaged SwapDamaged = damaged
+WhyLacking pool slots stats failed damaged Memory = Unit {0}

@@ -1,0 +1,192 @@
+//! Pages that guests need, and frames for them.
+ghost use Rattle.std.specs.Prelude.{◌≡◌, ◌%◌, ◌<◌, ◌≤◌, ℕ, true, IfSome, IfNone, IfOk, length, map};
+ghost use Rattle.rand_core.specs.Stream.{next_u32};
+ghost use Rattle.physmap.specs.Pages.{kind_at, is_resident};
+ghost use Rattle.physmap.specs.Holdings.{resident_pages};
+ghost use Rattle.world.specs.Tenants.{TenantIs, pages_in};
+ghost use Rattle.world.specs.Victims.{stat_of, NoneResident, IsNextResident};
+
+use crate::{EvictError, Tenant, World};
+use paging::{Pages, SupplyError};
+use rand_core::Rng;
+use std::alloc::{AllocError, Global};
+use swapstore::SwapStore;
+use taxpolicy::{Stat, Tax, victim};
+use word32::Ppn;
+
+/// Why a page that a guest needs gets no frame.
+#[derive(Clone, Copy, Debug, PartialEq, Eq)]
+pub enum FaultError {
+    /// No frame is free, and no guest has more than two resident pages, or the store failed to write one of them.
+    NoFrame,
+    /// No frame is free, and no slot.
+    NoSwap,
+    /// The store failed to read the page's slot.
+    SwapRead,
+    /// What was read from the page's slot has another SHA-256 than the page.
+    SwapDamaged,
+    /// A request for memory was refused.
+    Memory,
+}
+
+// The first page from one number on to below another that is in a frame.
+fn first_resident(tenant: &Tenant, from: u32, to: u32) -> Option<Ppn>
+    requires { to ≤ length (pages_in tenant.now) }
+    ensures within { IfSome result (λ p. (from ≤ p) × (p < to)) }
+    ensures resident { IfSome result (λ p. is_resident (kind_at (pages_in tenant.now) p) ≡ true) }
+    ensures first { IfSome result (λ p. NoneResident (pages_in tenant.now) from p) }
+    ensures none { IfNone result (NoneResident (pages_in tenant.now) from to) }
+{
+    let _count = tenant.page_count();
+    for p in from..to {
+        let page = Ppn::new(p);
+        if tenant.kind(page).is_resident() {
+            return Some(page);
+        }
+    }
+    None
+}
+
+// The first page at or after one that is in a frame, going round.
+fn next_resident(tenant: &Tenant, start: u32) -> Ppn
+    requires start { start < length (pages_in tenant.now) }
+    requires some { 0 < resident_pages (pages_in tenant.now) }
+    ensures { IsNextResident (pages_in tenant.now) start result }
+{
+    if let Some(page) = first_resident(tenant, start, tenant.page_count()) {
+        return page;
+    }
+    match first_resident(tenant, 0, start) {
+        Some(page) => page,
+        None => unreachable!(),
+    }
+}
+
+// A page of a guest's for the generator's next word.
+fn drawn_page<R: Rng>(tenant: &Tenant, rng: &mut R) -> Ppn
+    requires { 0 < resident_pages (pages_in tenant.now) }
+    ensures page { IsNextResident (pages_in tenant.now) ((next_u32 (R.stream rng.old)).0 % length (pages_in tenant.now)) result }
+    ensures rest { R.stream rng.new ≡ (next_u32 (R.stream rng.old)).1 }
+{
+    let _resident = tenant.resident();
+    next_resident(tenant, rng.next_u32() % tenant.page_count())
+}
+
+// What the policy knows of each guest.
+fn stats_of(alloc: Global, tenants: &[Tenant]) -> Result<Vec<Stat>, AllocError>
+    ensures { IfOk result (λ stats. stats.items ≡ map stat_of tenants.now) }
+{
+    let mut stats = Vec::with_capacity(alloc, tenants.len())?;
+    for tenant in tenants {
+        stats.push_reserved(tenant.stat());
+    }
+    Ok(stats)
+}
+
+impl<S: SwapStore> World<S> {
+    ghost use Rattle.std.specs.Prelude.{◌≡◌, ◌+◌, ◌<◌, ◌↔◌, ℕ, [], Some, None, OnOk, IfErr, length, map, slice_index_or};
+    ghost use Rattle.mips_step.specs.Accesses.{accesses, first_lack};
+    ghost use Rattle.mips_step.specs.declared.access.Why.{Why};
+    ghost use Rattle.paged_bus.specs.Lacking.{lacks_in};
+    ghost use Rattle.paged_guest.specs.Guests.{view_of};
+    ghost use Rattle.physmap.specs.declared.page.PageKind.{PageKind};
+    ghost use Rattle.physmap.specs.Pages.{kind_at};
+    ghost use Rattle.swapstore.specs.Failures.{one_more};
+    ghost use Rattle.world.specs.Tenants.{TenantIs, pages_in};
+    ghost use Rattle.world.specs.Victims.{stat_of, IsPolicys, OnlyPagesMove, WhyLacking, all_resident};
+
+    /// A page of the policy's victim leaves its frame for a slot: of the guests with more than two resident pages the victim is the
+    /// one of the least ratio of shares to pages, taxed for idle ones, and its page is the first resident one at or after the
+    /// generator's next word modulo its pages, going round. The frame is free then but where other pages read it too.
+    ///
+    /// `NoFrame` where nobody has more than two resident pages, for which no word is drawn, or where the store failed to write the
+    /// page; `NoSwap` where no slot is free; `Memory` where a request for memory was refused. Then no page has moved.
+    pub fn evict_one<R: Rng>(&mut self, alloc: Global, tax: Tax, rng: &mut R) -> Result<(), FaultError>
+        requires { self.old.pool.free ≡ [] }
+        ensures moves { OnlyPagesMove self.old.tenants self.new.tenants }
+        ensures policy { OnOk result (IsPolicys tax.percent (R.stream rng.old) self.old.tenants self.new.tenants self.old.slots) }
+        ensures fewer { OnOk result (all_resident self.new.tenants + 1 ≡ all_resident self.old.tenants) }
+        ensures err { IfErr result (WhyLacking self.new.pool self.new.slots (map stat_of self.new.tenants) (S.failed self.new.store ≡ one_more (S.failed self.old.store)) ⊥) }
+        ensures no_failure { OnOk result (S.failed self.new.store ≡ S.failed self.old.store) }
+        ensures hints { self.new.shares.hints ≡ self.old.shares.hints }
+        ensures frames { self.new.frames ≡ self.old.frames }
+        ensures slots { S.slots self.new.store ≡ S.slots self.old.store }
+        ensures honest { S.honest self.new.store ↔ S.honest self.old.store }
+        ensures true_to_digests { S.true_to_digests self.new.store ↔ S.true_to_digests self.old.store }
+    {
+        let Ok(stats) = stats_of(alloc, self.tenants()) else {
+            return Err(FaultError::Memory);
+        };
+        let Some(g) = victim(&stats, tax) else {
+            return Err(FaultError::NoFrame);
+        };
+        let p = drawn_page(self.guest(g), rng);
+        match self.evict_of(g, p) {
+            Ok(()) => Ok(()),
+            Err(EvictError::NoSwap) => Err(FaultError::NoSwap),
+            Err(EvictError::SwapWrite) => Err(FaultError::NoFrame),
+        }
+    }
+
+    // Pages of victims leave their frames until one is free.
+    fn make_room<R: Rng>(&mut self, alloc: Global, tax: Tax, rng: &mut R) -> Result<(), FaultError>
+        ensures moves { OnlyPagesMove self.old.tenants self.new.tenants }
+        ensures room { OnOk result (0 < length self.new.pool.free) }
+        ensures err { IfErr result (WhyLacking self.new.pool self.new.slots (map stat_of self.new.tenants) (S.failed self.new.store ≡ one_more (S.failed self.old.store)) ⊥) }
+        ensures no_failure { OnOk result (S.failed self.new.store ≡ S.failed self.old.store) }
+        ensures hints { self.new.shares.hints ≡ self.old.shares.hints }
+        ensures frames { self.new.frames ≡ self.old.frames }
+        ensures slots { S.slots self.new.store ≡ S.slots self.old.store }
+        ensures honest { S.honest self.new.store ↔ S.honest self.old.store }
+        ensures true_to_digests { S.true_to_digests self.new.store ↔ S.true_to_digests self.old.store }
+    {
+        while self.free() == 0 {
+            self.evict_one(alloc, tax, rng)?;
+        }
+        Ok(())
+    }
+
+    /// The page that a guest's next step needs gets a frame of its own, with its bytes. Where none is free, pages of victims leave
+    /// theirs one after another (`evict_one`) until one is. Where no page is needed it does nothing.
+    ///
+    /// `NoFrame` where none is free and the store failed to write a victim's page or nobody has more than two resident pages;
+    /// `NoSwap` where neither frame nor slot is free; `SwapRead` where the store failed to read the page's slot; `SwapDamaged` where
+    /// what was read has another SHA-256 than the page, which an honest store never does; `Memory` where a request for memory was
+    /// refused. Pages of victims that have left their frames before that stay in their slots.
+    pub fn fault<R: Rng>(
+        &mut self,
+        alloc: Global,
+        g: usize,
+        tax: Tax,
+        rng: &mut R,
+    ) -> Result<(), FaultError>
+        requires { g < length self.old.tenants }
+        ensures moves { OnlyPagesMove self.old.tenants self.new.tenants }
+        ensures supplied { OnOk result (S.true_to_digests self.old.store → (t : TenantIs) (p : ℕ) (why : Why) →
+            first_lack (lacks_in (pages_in (slice_index_or self.old.tenants g t))) (accesses (view_of (slice_index_or self.old.tenants g t).guest)) ≡ Some (p, why) →
+            kind_at (pages_in (slice_index_or self.new.tenants g t)) p ≡ PageKind.Private) }
+        ensures nothing { S.true_to_digests self.old.store → (t : TenantIs) →
+            first_lack (lacks_in (pages_in (slice_index_or self.old.tenants g t))) (accesses (view_of (slice_index_or self.old.tenants g t).guest)) ≡ None →
+            self.new ≡ self.old }
+        ensures err { IfErr result (WhyLacking self.new.pool self.new.slots (map stat_of self.new.tenants)
+            (S.failed self.new.store ≡ one_more (S.failed self.old.store)) (S.honest self.old.store → ⊥)) }
+        ensures hints { self.new.shares.hints ≡ self.old.shares.hints }
+        ensures frames { self.new.frames ≡ self.old.frames }
+        ensures slots { S.slots self.new.store ≡ S.slots self.old.store }
+        ensures honest { S.honest self.new.store ↔ S.honest self.old.store }
+        ensures true_to_digests { S.true_to_digests self.new.store ↔ S.true_to_digests self.old.store }
+    {
+        self.is_sound();
+        let Some(needed) = self.guest(g).need() else {
+            return Ok(());
+        };
+        self.make_room(alloc, tax, rng)?;
+        match self.supply(alloc, g, needed.0) {
+            Ok(()) => Ok(()),
+            Err(SupplyError::NoFrame) => Err(FaultError::NoFrame),
+            Err(SupplyError::Memory) => Err(FaultError::Memory),
+            Err(SupplyError::SwapRead) => Err(FaultError::SwapRead),
+            Err(SupplyError::SwapDamaged) => Err(FaultError::SwapDamaged),
+        }
+    }
+}
