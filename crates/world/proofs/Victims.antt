@@ -1,7 +1,7 @@
 -- Pages that are needed, and frames for them.
-use Rattle.std.proofs.Common.{ℕ, zero, suc, ◌≡◌, ◌+◌, ◌<◌, ◌≤◌, ◌⊎◌, inl, inr, true, false, List, [], ◌∷◌, length, set, get_or, map, refl, sym, ap, subst, ◌∙◌, arith, length-set, Option, Some, None}
-use Rattle.std.proofs.lemmas.Bool.{cases_eq, cases_lt}
-use Rattle.std.proofs.lemmas.List.{length-map}
+use Rattle.std.proofs.Common.{ℕ, zero, suc, ◌≡◌, ◌+◌, ◌<◌, inl, inr, true, false, List, [], ◌∷◌, ◌++◌, length, set, get_or, map, refl, sym, ap, subst, ◌∙◌, arith, Some, None}
+use Rattle.std.proofs.lemmas.Bool.{cases_lt}
+use Rattle.std.proofs.lemmas.List.{length-map, append-nil}
 use Rattle.std.proofs.lemmas.Option.{same_Some, get_or_from_slice_get}
 use Rattle.std.proofs.lemmas.List.Sums.{sum_by-cons, sum_by-set}
 use Rattle.std.specs.List.{sum_by}
@@ -11,17 +11,17 @@ use Rattle.frames.proofs.Counting.{count_cons, one_same}
 use Rattle.physmap.specs.declared.page.Page.{Page}
 use Rattle.physmap.specs.declared.page.Page.TheVariants as page
 use Rattle.physmap.specs.Pages.{kind_of, page_at, kind_at, is_resident}
-use Rattle.physmap.specs.Holdings.{one_private, one_shared, private_pages, shared_pages, resident_pages}
+use Rattle.physmap.specs.Holdings.{one_private, one_shared, resident_pages}
 use Rattle.paging.specs.Moves.{SameNumbers}
 use Rattle.paging.proofs.Exchanging.{exchanged}
 use Rattle.taxpolicy.specs.declared.stat.Stat.{Stat}
 use Rattle.taxpolicy.specs.Victim.{IsEligible, IsLeast}
+use Rattle.items.specs.declared.item.Item.{Item}
 use Rattle.mips_step.specs.declared.access.Why.{Why}
 use Rattle.world.specs.Evictions.{IsEvicted}
 use Rattle.world.specs.Tenants.{TenantIs, pages_in, beside_pages}
-use Rattle.world.specs.Worlds.{Changes, PagesMove}
+use Rattle.world.specs.Worlds.{Changes, PagesMove, items_of, boot_of, log_at}
 use Rattle.world.specs.Victims.{stat_of, NoneResident, OnlyPagesMove, all_resident}
-use Rattle.world.proofs.Worlds.{any_default}
 
 -- ---- resident pages
 
@@ -102,8 +102,12 @@ pub fewer : (g p : ℕ) (ts ts' : List TenantIs) (slots : FreeList) → g < leng
     → all_resident ts' + 1 ≡ all_resident ts
 fewer g p ts ts' slots inside c there evicted =
     let d = some_tenant ts g inside in
-    omega (arith, ap all_resident (c.one d), sum_by-set (λ t. resident_pages (pages_in t)) ts g (get_or ts' g d) d inside,
-    one_less p (pages_in (get_or ts g d)) (pages_in (get_or ts' g d)) slots (there d) (evicted d))
+    omega (
+      arith,
+      ap all_resident (c.one d),
+      sum_by-set (λ t. resident_pages (pages_in t)) ts g (get_or ts' g d) d inside,
+      one_less p (pages_in (get_or ts g d)) (pages_in (get_or ts' g d)) slots (there d) (evicted d),
+    )
 
 -- ---- the victim
 
@@ -133,3 +137,18 @@ some_none needed e = cc
 
 pub first_of : (needed : ℕ × Why) (p : ℕ) (why : Why) → Some needed ≡ Some (p, why) → needed.0 ≡ p
 first_of needed p why e = ap (λ (n : ℕ × Why). n.0) (same_Some needed (p, why) e)
+
+-- ---- logs and boots of guests of which only pages have moved
+
+beside_map : {Y : Type 0} (f : TenantIs → Y) → ((t : TenantIs) → f (beside_pages t) ≡ f t) → (ts : List TenantIs) → map f (map beside_pages ts) ≡ map f ts
+beside_map f same [] = refl
+beside_map f same (t ∷ ts) = λ i. same t i ∷ beside_map f same ts i
+
+pub stays_beside : {Y : Type 0} (f : TenantIs → Y) → ((t : TenantIs) → f (beside_pages t) ≡ f t) → (ts ts' : List TenantIs) → OnlyPagesMove ts ts' → map f ts' ≡ map f ts
+stays_beside f same ts ts' m = sym (beside_map f same ts') ∙ ap (map f) m.beside ∙ beside_map f same ts
+
+pub fault_logs : (ts ts' : List TenantIs) → OnlyPagesMove ts ts' → (h : ℕ) → log_at ts' h ≡ log_at ts h ++ []
+fault_logs ts ts' m h = ap (λ (logs : List (List Item)). get_or logs h []) (stays_beside items_of (λ t. refl) ts ts' m) ∙ sym (append-nil (log_at ts h))
+
+pub fault_boots : (ts ts' : List TenantIs) → OnlyPagesMove ts ts' → map boot_of ts' ≡ map boot_of ts
+fault_boots ts ts' m = stays_beside boot_of (λ t. refl) ts ts' m

@@ -19,6 +19,7 @@ abbrev pub IsProper : Event → Type 0
 IsProper (event.Step g) = Unit {0}
 IsProper (event.Input g item) = is_step item.what ≡ false
 IsProper (event.Supply g p) = Unit {0}
+IsProper (event.Fault g) = Unit {0}
 IsProper (event.Evict g p) = Unit {0}
 IsProper (event.Scan g p) = Unit {0}
 
@@ -32,6 +33,7 @@ abbrev pub items_stepped : ℕ → ℕ → Answer → List Item
 items_stepped h g (answer.Stepped stepped) = step_items h g stepped
 items_stepped h g (answer.Input done) = []
 items_stepped h g (answer.Supplied done) = []
+items_stepped h g (answer.Faulted done) = []
 items_stepped h g (answer.Evicted done) = []
 items_stepped h g (answer.Scanned scan) = []
 items_stepped h g answer.Nowhere = []
@@ -45,6 +47,7 @@ abbrev pub items_input : ℕ → ℕ → Item → Answer → List Item
 items_input h g item (answer.Input done) = input_items h g item done
 items_input h g item (answer.Stepped stepped) = []
 items_input h g item (answer.Supplied done) = []
+items_input h g item (answer.Faulted done) = []
 items_input h g item (answer.Evicted done) = []
 items_input h g item (answer.Scanned scan) = []
 items_input h g item answer.Nowhere = []
@@ -55,6 +58,7 @@ abbrev pub own_items : ℕ → Event → Answer → List Item
 own_items h (event.Step g) a = items_stepped h g a
 own_items h (event.Input g item) a = items_input h g item a
 own_items h (event.Supply g p) a = []
+own_items h (event.Fault g) a = []
 own_items h (event.Evict g p) a = []
 own_items h (event.Scan g p) a = []
 

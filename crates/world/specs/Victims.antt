@@ -1,5 +1,5 @@
 -- Which page leaves its frame so that another gets one.
-use Rattle.std.specs.Prelude.{◌≡◌, ℕ, ◌%◌, ◌<◌, ◌≤◌, ◌⊎◌, true, false, List, [], Option, Some, All, length, map, sum_by, slice_index_or}
+use Rattle.std.specs.Prelude.{◌≡◌, ℕ, ◌%◌, ◌<◌, ◌≤◌, ◌⊎◌, true, false, List, [], Some, All, length, map, sum_by, slice_index_or}
 use Rattle.std.proofs.Common.{lit<, lit≤}
 use Rattle.rand_core.specs.Stream.{Stream, next_u32}
 use Rattle.dev_balloon.specs.Balloon.{given_count}
@@ -11,7 +11,6 @@ use Rattle.taxpolicy.specs.declared.stat.Stat.{Stat}
 use Rattle.taxpolicy.specs.Victim.{IsEligible, victim_of}
 use Rattle.world.specs.Evictions.{IsEvicted}
 use Rattle.world.specs.Tenants.{TenantIs, pages_in, beside_pages}
-use Rattle.world.specs.Worlds.{Changes, PagesMove}
 use Rattle.world.specs.declared.faulting.FaultError.{FaultError}
 use Rattle.world.specs.declared.faulting.FaultError.TheVariants.{NoFrame, NoSwap, SwapRead, SwapDamaged, Memory}
 

@@ -4,8 +4,10 @@ ghost use Rattle.std.specs.Prelude.{◌≡◌};
 use crate::{Answer, Event, World};
 use items::Item;
 use paging::Pages;
+use rand_core::Rng;
 use std::alloc::{AllocError, Global};
 use swapstore::SwapStore;
+use taxpolicy::Tax;
 use word32::Ppn;
 
 impl<S: SwapStore> World<S> {
@@ -60,6 +62,21 @@ impl<S: SwapStore> World<S> {
         Answer::Supplied(self.supply(alloc, g, p))
     }
 
+    fn apply_fault<R: Rng>(&mut self, alloc: Global, g: usize, tax: Tax, rng: &mut R) -> Answer
+        ensures logs { (h : ℕ) → log_at self.new.tenants h ≡ log_at self.old.tenants h ++ [] }
+        ensures boots { map boot_of self.new.tenants ≡ map boot_of self.old.tenants }
+        ensures frames { self.new.frames ≡ self.old.frames }
+        ensures slots { S.slots self.new.store ≡ S.slots self.old.store }
+        ensures honest { S.honest self.new.store ↔ S.honest self.old.store }
+        ensures true_to_digests { S.true_to_digests self.new.store ↔ S.true_to_digests self.old.store }
+    {
+        if g < self.count() {
+            Answer::Faulted(self.fault(alloc, g, tax, rng))
+        } else {
+            Answer::Nowhere
+        }
+    }
+
     fn apply_evict(&mut self, g: usize, p: Ppn) -> Answer
         ensures logs { (h : ℕ) → log_at self.new.tenants h ≡ log_at self.old.tenants h ++ [] }
         ensures boots { map boot_of self.new.tenants ≡ map boot_of self.old.tenants }
@@ -90,8 +107,9 @@ impl<S: SwapStore> World<S> {
         Answer::Scanned(self.scan(g, p))
     }
 
-    /// One event. Its items are added to its guest's log, and no other log changes; the machines that the guests booted stay.
-    pub fn apply(&mut self, alloc: Global, event: Event) -> Answer
+    /// One event. Its items are added to its guest's log, and no other log changes; the machines that the guests booted stay. The tax
+    /// and the generator are those of `evict_one`, which a fault may call.
+    pub fn apply<R: Rng>(&mut self, alloc: Global, event: Event, tax: Tax, rng: &mut R) -> Answer
         requires { IsProper event }
         ensures logs { (h : ℕ) → log_at self.new.tenants h ≡ log_at self.old.tenants h ++ own_items h event result }
         ensures boots { map boot_of self.new.tenants ≡ map boot_of self.old.tenants }
@@ -104,6 +122,7 @@ impl<S: SwapStore> World<S> {
             Event::Step(g) => self.apply_step(g),
             Event::Input(g, item) => self.apply_input(g, item),
             Event::Supply(g, p) => self.apply_supply(alloc, g, p),
+            Event::Fault(g) => self.apply_fault(alloc, g, tax, rng),
             Event::Evict(g, p) => self.apply_evict(g, p),
             Event::Scan(g, p) => self.apply_scan(g, p),
         }
@@ -114,7 +133,13 @@ impl<S: SwapStore> World<S> {
     /// world, each guest's view is the run of its own items; and the books are exact (`is_sound`).
     ///
     /// `AllocError` where there is no memory for the answers: nothing has happened then.
-    pub fn run(&mut self, alloc: Global, events: Vec<Event>) -> Result<Vec<Answer>, AllocError>
+    pub fn run<R: Rng>(
+        &mut self,
+        alloc: Global,
+        events: Vec<Event>,
+        tax: Tax,
+        rng: &mut R,
+    ) -> Result<Vec<Answer>, AllocError>
         requires { All IsProper events.items }
         ensures logs { IfOk result (λ answers. (h : ℕ) → log_at self.new.tenants h ≡ log_at self.old.tenants h ++ own h events.items answers.items) }
         ensures count { IfOk result (λ answers. length answers.items ≡ length events.items) }
@@ -127,7 +152,7 @@ impl<S: SwapStore> World<S> {
     {
         let mut answers = Vec::with_capacity(alloc, events.len())?;
         for event in events {
-            let answer = self.apply(alloc, event);
+            let answer = self.apply(alloc, event, tax, rng);
             answers.push_reserved(answer);
         }
         Ok(answers)

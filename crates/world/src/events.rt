@@ -1,5 +1,5 @@
 //! What may happen in a world, and what is answered.
-use crate::{EvictError, Evicted};
+use crate::{EvictError, Evicted, FaultError};
 use flatvm::Reply;
 use items::Item;
 use mips_step::StepOut;
@@ -16,6 +16,8 @@ pub enum Event {
     Input(usize, Item),
     /// A page of a guest is to get a frame of its own.
     Supply(usize, Ppn),
+    /// The page that a guest's next step needs is to get a frame of its own, if need be a victim's.
+    Fault(usize),
     /// A page of a guest is to leave its frame for a slot.
     Evict(usize, Ppn),
     /// A page of a guest is to be scanned for one of equal bytes.
@@ -31,6 +33,8 @@ pub enum Answer {
     Input(Result<Reply, Refused>),
     /// The page is supplied, or why not.
     Supplied(Result<(), SupplyError>),
+    /// The page that was needed is supplied, or none was needed; or why not.
+    Faulted(Result<(), FaultError>),
     /// What became of the page.
     Evicted(Result<Evicted, EvictError>),
     /// What the scan of the page was answered.

@@ -101,7 +101,12 @@ impl<S: SwapStore> World<S> {
     ///
     /// `NoFrame` where nobody has more than two resident pages, for which no word is drawn, or where the store failed to write the
     /// page; `NoSwap` where no slot is free; `Memory` where a request for memory was refused. Then no page has moved.
-    pub fn evict_one<R: Rng>(&mut self, alloc: Global, tax: Tax, rng: &mut R) -> Result<(), FaultError>
+    pub fn evict_one<R: Rng>(
+        &mut self,
+        alloc: Global,
+        tax: Tax,
+        rng: &mut R,
+    ) -> Result<(), FaultError>
         requires { self.old.pool.free ≡ [] }
         ensures moves { OnlyPagesMove self.old.tenants self.new.tenants }
         ensures policy { OnOk result (IsPolicys tax.percent (R.stream rng.old) self.old.tenants self.new.tenants self.old.slots) }

@@ -4,17 +4,19 @@ ghost use Rattle.std.specs.Prelude.{◌≡◌, false, All};
 ghost use Rattle.items.specs.Items.{is_step};
 ghost use Rattle.world.specs.Events.{IsProper};
 
-use crate::{Answer, Event, EvictError, Evicted, World};
+use crate::{Answer, Event, EvictError, Evicted, FaultError, World};
 use elf32::Image;
 use items::{Item, SeatNo, What};
 use mips_step::{StepOut, Why};
 use paging::{Scan, SupplyError};
 use physmap::PageKind;
+use rand_pcg::Pcg32;
 use std::alloc::Global;
 use std::fmt::Debug;
 use std::process::Abort;
 use std::sync::Arc;
 use swapstore::MemStore;
+use taxpolicy::Tax;
 use word32::Ppn;
 
 /// Asserts one case. The tests share it, since each assertion in a function's own body makes its proof much longer.
@@ -114,6 +116,15 @@ fn kind(rt: &impl Abort, world: &World<MemStore>, g: usize, number: u32) -> Opti
     world.kind(g, page(rt, number))
 }
 
+const TAX: Tax = Tax { percent: 75 };
+
+/// What an event is answered for which no word is drawn.
+fn apply(alloc: Global, world: &mut World<MemStore>, event: Event) -> Answer
+    requires { IsProper event }
+{
+    world.apply(alloc, event, TAX, &mut Pcg32::new(42, 54))
+}
+
 /// The page that a step needs, if it needs one.
 fn need(out: StepOut) -> Option<(u32, Why)> {
     match out {
@@ -129,7 +140,7 @@ fn step(
     world: &mut World<MemStore>,
     g: usize,
 ) -> Option<(u32, Why)> {
-    match world.apply(alloc, Event::Step(g)) {
+    match apply(alloc, world, Event::Step(g)) {
         Answer::Stepped(Ok(out)) => need(out),
         _ => panic!(rt; "no step"),
     }
@@ -142,7 +153,7 @@ fn supply(
     g: usize,
     number: u32,
 ) -> Result<(), SupplyError> {
-    match world.apply(alloc, Event::Supply(g, page(rt, number))) {
+    match apply(alloc, world, Event::Supply(g, page(rt, number))) {
         Answer::Supplied(answer) => answer,
         _ => panic!(rt; "no supply"),
     }
@@ -155,7 +166,7 @@ fn evict(
     g: usize,
     number: u32,
 ) -> Result<Evicted, EvictError> {
-    match world.apply(alloc, Event::Evict(g, page(rt, number))) {
+    match apply(alloc, world, Event::Evict(g, page(rt, number))) {
         Answer::Evicted(answer) => answer,
         _ => panic!(rt; "no eviction"),
     }
@@ -168,7 +179,7 @@ fn scan(
     g: usize,
     number: u32,
 ) -> Scan {
-    match world.apply(alloc, Event::Scan(g, page(rt, number))) {
+    match apply(alloc, world, Event::Scan(g, page(rt, number))) {
         Answer::Scanned(answer) => answer,
         _ => panic!(rt; "no scan"),
     }
@@ -378,7 +389,7 @@ fn in_turn(rt: &impl Abort, alloc: Global) -> Vec<Event>
     add(rt, &mut events, Event::Step(1));
     add(rt, &mut events, Event::Scan(0, page(rt, 0)));
     add(rt, &mut events, Event::Step(0));
-    add(rt, &mut events, Event::Supply(0, page(rt, 1)));
+    add(rt, &mut events, Event::Fault(0));
     add(rt, &mut events, Event::Step(0));
     add(rt, &mut events, Event::Step(2));
     events
@@ -394,6 +405,8 @@ fn word(answer: &Answer) -> &'static str {
         Answer::Input(Err(_)) => "refused",
         Answer::Supplied(Ok(())) => "supplied",
         Answer::Supplied(Err(_)) => "not supplied",
+        Answer::Faulted(Ok(())) => "there",
+        Answer::Faulted(Err(_)) => "not there",
         Answer::Evicted(_) => "evicted",
         Answer::Scanned(_) => "scanned",
         Answer::Nowhere => "nowhere",
@@ -401,7 +414,7 @@ fn word(answer: &Answer) -> &'static str {
 }
 
 static IN_TURN: [&'static str; 8] = [
-    "done", "accepted", "done", "scanned", "need", "supplied", "done", "nowhere",
+    "done", "accepted", "done", "scanned", "need", "there", "done", "nowhere",
 ];
 
 fn log_len(rt: &impl Abort, world: &World<MemStore>, g: usize) -> u64 {
@@ -415,7 +428,8 @@ fn log_len(rt: &impl Abort, world: &World<MemStore>, g: usize) -> u64 {
 fn each_guest_has_its_own_items(rt: HostRuntime) {
     let mut world = started(&rt, rt.alloc(), 4);
     let events = in_turn(&rt, rt.alloc());
-    let Ok(answers) = world.run(rt.alloc(), events) else {
+    let mut rng = Pcg32::new(42, 54);
+    let Ok(answers) = world.run(rt.alloc(), events, TAX, &mut rng) else {
         panic!(&rt; "no memory for the answers");
     };
     expect(&rt, "eight answers", answers.len(), 8);
@@ -424,5 +438,53 @@ fn each_guest_has_its_own_items(rt: HostRuntime) {
     }
     expect(&rt, "guest 0", log_len(&rt, &world, 0), 2);
     expect(&rt, "guest 1", log_len(&rt, &world, 1), 2);
+    let _store = world.close();
+}
+
+/// What a fault is answered. The first words of this generator are a15c02b7, 7b47f409 and ba1d3330, as PCG's reference code has them.
+fn fault(
+    rt: &impl Abort,
+    alloc: Global,
+    world: &mut World<MemStore>,
+    rng: &mut Pcg32,
+    g: usize,
+) -> Result<(), FaultError> {
+    match world.apply(alloc, Event::Fault(g), TAX, rng) {
+        Answer::Faulted(answer) => answer,
+        _ => panic!(rt; "no fault"),
+    }
+}
+
+/// All four frames are out: three are guest 0's, one is guest 1's, whose next step loads from page 1.
+fn filled(rt: &impl Abort, alloc: Global) -> World<MemStore> {
+    let mut world = started(rt, alloc, 4);
+    expect(rt, "page 1", supply(rt, alloc, &mut world, 0, 1), Ok(()));
+    expect(rt, "page 2", supply(rt, alloc, &mut world, 0, 2), Ok(()));
+    expect(rt, "the first word", step(rt, alloc, &mut world, 1), None);
+    world
+}
+
+#[test]
+fn a_fault_takes_a_frame_from_the_victim(rt: HostRuntime) {
+    let mut rng = Pcg32::new(42, 54);
+    let mut world = filled(&rt, rt.alloc());
+    let answer = fault(&rt, rt.alloc(), &mut world, &mut rng, 1);
+    expect(&rt, "page 1 of guest 1", answer, Ok(()));
+    // a15c02b7 is a multiple of 3
+    expect(
+        &rt,
+        "page 0 of guest 0",
+        kind(&rt, &world, 0, 0),
+        Some(PageKind::Swapped),
+    );
+    expect(
+        &rt,
+        "guest 1 loads",
+        step(&rt, rt.alloc(), &mut world, 1),
+        None,
+    );
+    let answer = fault(&rt, rt.alloc(), &mut world, &mut rng, 0);
+    expect(&rt, "two pages each", answer, Err(FaultError::NoFrame));
+    expect(&rt, "one slot", room(&world), (0, 1));
     let _store = world.close();
 }

@@ -228,7 +228,7 @@ impl<S: SwapStore> World<S> {
     pub fn tenants(&self) -> &[Tenant]
         ensures { result.now ≡ self.now.tenants }
     {
-        &self.tenants
+        self.tenants.as_slice()
     }
 
     /// A guest.

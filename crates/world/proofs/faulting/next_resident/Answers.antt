@@ -1,4 +1,4 @@
-use Rattle.std.proofs.Common.{ℕ, subst}
+use Rattle.std.proofs.Common.{subst}
 use Rattle.world.specs.Tenants.{pages_in}
 use Rattle.world.specs.Victims.{NoneResident}
 use Rattle.world.proofs.Victims.{none_at_all}

@@ -1,9 +1,8 @@
-use Rattle.std.proofs.Common.{ℕ, ◌≡◌, ◌%◌, ◌<◌, List, map, length, refl, sym, ap, subst, ◌∙◌, arith, Some}
+use Rattle.std.proofs.Common.{◌≡◌, ◌%◌, ◌<◌, map, length, sym, ap, subst, ◌∙◌, arith}
 use Rattle.std.proofs.lemmas.List.{length-map}
 use Rattle.rand_core.specs.Stream.{next_u32}
 use Rattle.frames.specs.FreeList.{FreeList}
 use Rattle.swapstore.specs.Failures.{one_more}
-use Rattle.taxpolicy.specs.declared.stat.Stat.{Stat}
 use Rattle.taxpolicy.specs.Victim.{IsEligible, victim_of}
 use Rattle.world.specs.declared.moves.EvictError.{EvictError}
 use Rattle.world.specs.Lent.{WhyStays}

@@ -1,6 +1,5 @@
-use Rattle.std.proofs.Common.{ℕ, ◌≡◌, ◌<◌, get_or, length, sym, ap, subst, ◌∙◌, Option, Some, None}
+use Rattle.std.proofs.Common.{ℕ, ◌≡◌, ◌<◌, get_or, length, sym, ap, subst, ◌∙◌}
 use Rattle.mips_step.specs.Accesses.{accesses, first_lack}
-use Rattle.mips_step.specs.declared.access.Why.{Why}
 use Rattle.paged_bus.specs.Lacking.{lacks_in}
 use Rattle.paged_guest.specs.Guests.{view_of}
 use Rattle.physmap.specs.declared.page.PageKind.TheVariants.{Private}
@@ -16,9 +15,9 @@ returns-in_default-clause-supplied g c = λ trust t p why some.
     let ts = w.tenants in
     let tenant = c.guest.result.now in
     let kept = kept_of w.frames (g.S.SwapStore.slots w.store) (g.S.SwapStore.true_to_digests w.store) (g.S.SwapStore.held w.store) ts c.args.g tenant w.pool w.slots w.shares.entries
-        c.requires (c.guest.ensures tenant) trust c.is_sound.ensures in
+    c.requires (c.guest.ensures tenant) trust c.is_sound.ensures in
     let need : c.need.result ≡ first_lack (lacks_in (pages_in (get_or ts c.args.g t))) (accesses (view_of (get_or ts c.args.g t).guest)) =
-        subst (λ (u : TenantIs). c.need.result ≡ first_lack (lacks_in (pages_in u)) (accesses (view_of u.guest))) (c.guest.ensures t) (c.need.ensures.need (g.S.SwapStore.held w.store) kept) in
+    subst (λ (u : TenantIs). c.need.result ≡ first_lack (lacks_in (pages_in u)) (accesses (view_of u.guest))) (c.guest.ensures t) (c.need.ensures.need (g.S.SwapStore.held w.store) kept) in
     absurd (some_none (p, why) (sym some ∙ sym need ∙ c.in_default.is))
 
 pub supply-requires-clause-page : goal.supply-requires-clause-page
@@ -41,9 +40,9 @@ returns-in-Ok-clause-supplied g c = λ trust t p why some.
     let ts = w.tenants in
     let tenant = c.guest.result.now in
     let kept = kept_of w.frames (g.S.SwapStore.slots w.store) (g.S.SwapStore.true_to_digests w.store) (g.S.SwapStore.held w.store) ts c.args.g tenant w.pool w.slots w.shares.entries
-        c.requires (c.guest.ensures tenant) trust c.is_sound.ensures in
+    c.requires (c.guest.ensures tenant) trust c.is_sound.ensures in
     let need : c.need.result ≡ first_lack (lacks_in (pages_in (get_or ts c.args.g t))) (accesses (view_of (get_or ts c.args.g t).guest)) =
-        subst (λ (u : TenantIs). c.need.result ≡ first_lack (lacks_in (pages_in u)) (accesses (view_of u.guest))) (c.guest.ensures t) (c.need.ensures.need (g.S.SwapStore.held w.store) kept) in
+    subst (λ (u : TenantIs). c.need.result ≡ first_lack (lacks_in (pages_in u)) (accesses (view_of u.guest))) (c.guest.ensures t) (c.need.ensures.need (g.S.SwapStore.held w.store) kept) in
     subst (λ (q : ℕ). kind_at (pages_in (get_or c.supply.new.self.tenants c.args.g t)) q ≡ Private)
     (first_of c.in-Some.needed p why (sym c.in-Some.is ∙ need ∙ some)) (c.in-Ok.ensures.private t)
 
@@ -53,9 +52,9 @@ returns-in_err-make_room-clause-nothing g c = λ trust t none.
     let ts = w.tenants in
     let tenant = c.guest.result.now in
     let kept = kept_of w.frames (g.S.SwapStore.slots w.store) (g.S.SwapStore.true_to_digests w.store) (g.S.SwapStore.held w.store) ts c.args.g tenant w.pool w.slots w.shares.entries
-        c.requires (c.guest.ensures tenant) trust c.is_sound.ensures in
+    c.requires (c.guest.ensures tenant) trust c.is_sound.ensures in
     let need : c.need.result ≡ first_lack (lacks_in (pages_in (get_or ts c.args.g t))) (accesses (view_of (get_or ts c.args.g t).guest)) =
-        subst (λ (u : TenantIs). c.need.result ≡ first_lack (lacks_in (pages_in u)) (accesses (view_of u.guest))) (c.guest.ensures t) (c.need.ensures.need (g.S.SwapStore.held w.store) kept) in
+    subst (λ (u : TenantIs). c.need.result ≡ first_lack (lacks_in (pages_in u)) (accesses (view_of u.guest))) (c.guest.ensures t) (c.need.ensures.need (g.S.SwapStore.held w.store) kept) in
     absurd (some_none c.in-Some.needed (sym c.in-Some.is ∙ need ∙ none))
 
 pub returns-in-Ok-clause-nothing : goal.returns-in-Ok-clause-nothing
@@ -64,9 +63,9 @@ returns-in-Ok-clause-nothing g c = λ trust t none.
     let ts = w.tenants in
     let tenant = c.guest.result.now in
     let kept = kept_of w.frames (g.S.SwapStore.slots w.store) (g.S.SwapStore.true_to_digests w.store) (g.S.SwapStore.held w.store) ts c.args.g tenant w.pool w.slots w.shares.entries
-        c.requires (c.guest.ensures tenant) trust c.is_sound.ensures in
+    c.requires (c.guest.ensures tenant) trust c.is_sound.ensures in
     let need : c.need.result ≡ first_lack (lacks_in (pages_in (get_or ts c.args.g t))) (accesses (view_of (get_or ts c.args.g t).guest)) =
-        subst (λ (u : TenantIs). c.need.result ≡ first_lack (lacks_in (pages_in u)) (accesses (view_of u.guest))) (c.guest.ensures t) (c.need.ensures.need (g.S.SwapStore.held w.store) kept) in
+    subst (λ (u : TenantIs). c.need.result ≡ first_lack (lacks_in (pages_in u)) (accesses (view_of u.guest))) (c.guest.ensures t) (c.need.ensures.need (g.S.SwapStore.held w.store) kept) in
     absurd (some_none c.in-Some.needed (sym c.in-Some.is ∙ need ∙ none))
 
 pub returns-in-Err-Memory-clause-nothing : goal.returns-in-Err-Memory-clause-nothing
@@ -75,9 +74,9 @@ returns-in-Err-Memory-clause-nothing g c = λ trust t none.
     let ts = w.tenants in
     let tenant = c.guest.result.now in
     let kept = kept_of w.frames (g.S.SwapStore.slots w.store) (g.S.SwapStore.true_to_digests w.store) (g.S.SwapStore.held w.store) ts c.args.g tenant w.pool w.slots w.shares.entries
-        c.requires (c.guest.ensures tenant) trust c.is_sound.ensures in
+    c.requires (c.guest.ensures tenant) trust c.is_sound.ensures in
     let need : c.need.result ≡ first_lack (lacks_in (pages_in (get_or ts c.args.g t))) (accesses (view_of (get_or ts c.args.g t).guest)) =
-        subst (λ (u : TenantIs). c.need.result ≡ first_lack (lacks_in (pages_in u)) (accesses (view_of u.guest))) (c.guest.ensures t) (c.need.ensures.need (g.S.SwapStore.held w.store) kept) in
+    subst (λ (u : TenantIs). c.need.result ≡ first_lack (lacks_in (pages_in u)) (accesses (view_of u.guest))) (c.guest.ensures t) (c.need.ensures.need (g.S.SwapStore.held w.store) kept) in
     absurd (some_none c.in-Some.needed (sym c.in-Some.is ∙ need ∙ none))
 
 pub returns-in-Err-SwapRead-clause-nothing : goal.returns-in-Err-SwapRead-clause-nothing
@@ -86,9 +85,9 @@ returns-in-Err-SwapRead-clause-nothing g c = λ trust t none.
     let ts = w.tenants in
     let tenant = c.guest.result.now in
     let kept = kept_of w.frames (g.S.SwapStore.slots w.store) (g.S.SwapStore.true_to_digests w.store) (g.S.SwapStore.held w.store) ts c.args.g tenant w.pool w.slots w.shares.entries
-        c.requires (c.guest.ensures tenant) trust c.is_sound.ensures in
+    c.requires (c.guest.ensures tenant) trust c.is_sound.ensures in
     let need : c.need.result ≡ first_lack (lacks_in (pages_in (get_or ts c.args.g t))) (accesses (view_of (get_or ts c.args.g t).guest)) =
-        subst (λ (u : TenantIs). c.need.result ≡ first_lack (lacks_in (pages_in u)) (accesses (view_of u.guest))) (c.guest.ensures t) (c.need.ensures.need (g.S.SwapStore.held w.store) kept) in
+    subst (λ (u : TenantIs). c.need.result ≡ first_lack (lacks_in (pages_in u)) (accesses (view_of u.guest))) (c.guest.ensures t) (c.need.ensures.need (g.S.SwapStore.held w.store) kept) in
     absurd (some_none c.in-Some.needed (sym c.in-Some.is ∙ need ∙ none))
 
 pub returns-in-Err-SwapDamaged-clause-nothing : goal.returns-in-Err-SwapDamaged-clause-nothing
@@ -97,7 +96,7 @@ returns-in-Err-SwapDamaged-clause-nothing g c = λ trust t none.
     let ts = w.tenants in
     let tenant = c.guest.result.now in
     let kept = kept_of w.frames (g.S.SwapStore.slots w.store) (g.S.SwapStore.true_to_digests w.store) (g.S.SwapStore.held w.store) ts c.args.g tenant w.pool w.slots w.shares.entries
-        c.requires (c.guest.ensures tenant) trust c.is_sound.ensures in
+    c.requires (c.guest.ensures tenant) trust c.is_sound.ensures in
     let need : c.need.result ≡ first_lack (lacks_in (pages_in (get_or ts c.args.g t))) (accesses (view_of (get_or ts c.args.g t).guest)) =
-        subst (λ (u : TenantIs). c.need.result ≡ first_lack (lacks_in (pages_in u)) (accesses (view_of u.guest))) (c.guest.ensures t) (c.need.ensures.need (g.S.SwapStore.held w.store) kept) in
+    subst (λ (u : TenantIs). c.need.result ≡ first_lack (lacks_in (pages_in u)) (accesses (view_of u.guest))) (c.guest.ensures t) (c.need.ensures.need (g.S.SwapStore.held w.store) kept) in
     absurd (some_none c.in-Some.needed (sym c.in-Some.is ∙ need ∙ none))

@@ -1,0 +1,8 @@
+use Rattle.world.proofs.Victims.{fault_logs, fault_boots}
+use Rattle.world.proofs.world.World.apply_fault.Goals as goal
+
+pub returns-then-g-count-clause-logs : goal.returns-then-g-count-clause-logs
+returns-then-g-count-clause-logs g c = fault_logs c.args.self.now.tenants c.fault.new.self.tenants c.fault.ensures.moves
+
+pub returns-then-g-count-clause-boots : goal.returns-then-g-count-clause-boots
+returns-then-g-count-clause-boots g c = fault_boots c.args.self.now.tenants c.fault.new.self.tenants c.fault.ensures.moves
