@@ -7,3 +7,4 @@ pub mod OneOwner
 pub mod Scanning
 pub mod Starting
 pub mod Supplying
+pub mod Totals

@@ -1,14 +1,14 @@
 //! Laws of the books.
-ghost use Rattle.std.specs.Prelude.{◌≡◌, ℕ, ◌<◌, List, [], ◌∷◌, ◌++◌, Option, None, length, replicate, slice_index_or, slice_set};
+ghost use Rattle.std.specs.Prelude.{◌≡◌, ℕ, ◌+◌, ◌<◌, List, [], ◌∷◌, ◌++◌, Option, None, length, replicate, slice_index_or, slice_set, sum_by};
 ghost use Rattle.frames.specs.Counts.{count_of, below};
 ghost use Rattle.frames.specs.FreeList.{FreeList};
-ghost use Rattle.sharetab.specs.Entries.{EntriesAre, count_at};
+ghost use Rattle.sharetab.specs.Entries.{EntriesAre, count_at, entry_count, ticket_count};
 ghost use Rattle.physmap.specs.declared.page.Page.{Page};
 ghost use Rattle.physmap.specs.declared.page.Page.TheVariants.{Zero};
 ghost use Rattle.physmap.specs.declared.page.PageKind.TheVariants.{Private, Shared, Swapped};
 ghost use Rattle.swapstore.specs.Holding.{AllStay, OthersStay};
 ghost use Rattle.physmap.specs.Pages.{page_at, kind_at, slot_of, ticket_of, digest_of, handed_back};
-ghost use Rattle.physmap.specs.Holdings.{slots_held};
+ghost use Rattle.physmap.specs.Holdings.{slots_held, private_pages, shared_pages, swapped_pages};
 ghost use Rattle.paging.specs.Moves.{Takes, Gives, MovesFrames, MovesSlots, Conserves, Reads, Covered, OwnOnce};
 ghost use Rattle.paging.specs.Books.{Books, pages_of};
 ghost use Rattle.paging.specs.Faith.{Kept};
@@ -94,4 +94,20 @@ pub fn books_begin()
         ((k : ℕ) → count_of k book.free ≡ below k slots) → book.out ≡ 0 → Books frames slots [] (replicate frames None) pool book }
     ensures owner { (frames slots : ℕ) (all : List (List Page)) (es : EntriesAre) (pool book : FreeList) (n : ℕ) →
         Books frames slots all es pool book → Books frames slots (all ++ replicate n Zero ∷ []) es pool book }
+{}
+
+/// A law: exact books add up. Frames that are free, pages' own, and entries' are all the frames, so those that are out and
+/// those that are free are; slots that are free and pages' are all the slots, and so for slots; tickets that are out are the
+/// pages that read shared frames.
+pub fn exact_books_add_up()
+    ensures frames { (frames slots : ℕ) (all : List (List Page)) (entries : EntriesAre) (pool book : FreeList) → Books frames slots all entries pool book →
+        length pool.free + sum_by private_pages all + entry_count entries ≡ frames }
+    ensures pool_out { (frames slots : ℕ) (all : List (List Page)) (entries : EntriesAre) (pool book : FreeList) → Books frames slots all entries pool book →
+        pool.out + length pool.free ≡ frames }
+    ensures slots { (frames slots : ℕ) (all : List (List Page)) (entries : EntriesAre) (pool book : FreeList) → Books frames slots all entries pool book →
+        length book.free + sum_by swapped_pages all ≡ slots }
+    ensures slots_out { (frames slots : ℕ) (all : List (List Page)) (entries : EntriesAre) (pool book : FreeList) → Books frames slots all entries pool book →
+        book.out + length book.free ≡ slots }
+    ensures tickets { (frames slots : ℕ) (all : List (List Page)) (entries : EntriesAre) (pool book : FreeList) → Books frames slots all entries pool book →
+        ticket_count entries ≡ sum_by shared_pages all }
 {}
