@@ -96,9 +96,9 @@ pub fn books_begin()
         Books frames slots all es pool book → Books frames slots (all ++ replicate n Zero ∷ []) es pool book }
 {}
 
-/// A law: exact books add up. Frames that are free, pages' own, and entries' are all the frames, so those that are out and
-/// those that are free are; slots that are free and pages' are all the slots, and so for slots; tickets that are out are the
-/// pages that read shared frames.
+/// A law: exact books add up. Frames that are free, pages' own, and entries' are all the frames; slots that are free and pages'
+/// are all the slots; of each, those that are out and those that are free are all; tickets that are out are the pages that
+/// read shared frames.
 pub fn exact_books_add_up()
     ensures frames { (frames slots : ℕ) (all : List (List Page)) (entries : EntriesAre) (pool book : FreeList) → Books frames slots all entries pool book →
         length pool.free + sum_by private_pages all + entry_count entries ≡ frames }
