@@ -81,6 +81,18 @@ impl PhysMap {
         self.replace(p, Page::Swapped(slot, digest)).release()
     }
 
+    /// A page that was never touched is from then on in a slot, to which its bytes were written; `digest` is their SHA-256. The
+    /// page shows zeros until it is supplied.
+    #[tactic(auto, using(crate::proofs::Replacing::memory_same, crate::proofs::Replacing::shows_zeros))]
+    pub fn put_away(&mut self, p: Ppn, slot: SlotTicket, digest: [u8; 32])
+        requires there { p < length self.old }
+        requires kind { kind_at self.old p ≡ PageKind.Zero }
+        ensures pages { self.new ≡ slice_set self.old p (Page.Swapped slot digest) }
+        ensures memory { memory_of self.new ≡ memory_of self.old }
+    {
+        self.put_page(p, Page::Swapped(slot, digest));
+    }
+
     /// A page leaves its own frame for a shared one of the same bytes, of which `ticket` is a ticket. Its frame comes back.
     #[tactic(auto, using(crate::proofs::Replacing::memory_same))]
     pub fn share(&mut self, p: Ppn, share: SharePage, ticket: ShareTicket) -> Frame

@@ -126,6 +126,14 @@ fn swap_out(rt: &impl Abort, map: &mut PhysMap, number: u32, slot: SlotTicket) -
     }
 }
 
+fn put_away(rt: &impl Abort, map: &mut PhysMap, number: u32, slot: SlotTicket, digest: [u8; 32]) {
+    let p = page(rt, map, number);
+    match map.kind(p) {
+        PageKind::Zero => map.put_away(p, slot, digest),
+        other => panic!(rt; "page {number} is {other:?}"),
+    }
+}
+
 fn share(rt: &impl Abort, map: &mut PhysMap, number: u32, shared: &mut SharedFrame) -> Frame {
     let p = page(rt, map, number);
     match map.kind(p) {
@@ -378,6 +386,34 @@ fn a_page_leaves_its_frame_and_comes_back(rt: HostRuntime) -> Result<(), Fail> {
     expect(&rt, "back", kinds(&rt, &map), supplied);
     expect(&rt, "the bytes again", ends(&rt, &map, 0), Some([1, 0x5a]));
     expect(&rt, "the other page", ends(&rt, &map, 3), Some([0, 0]));
+    map.close();
+    ended(&rt, numbers);
+    Ok(())
+}
+
+#[test]
+fn a_page_begins_in_a_slot(rt: HostRuntime) -> Result<(), Fail> {
+    let mut map = PhysMap::new(rt.alloc(), 4)?;
+    let mut numbers = Numbers::below(2);
+    let slot = slot_ticket(&rt, &mut numbers);
+    put_away(&rt, &mut map, 2, slot, DIGEST);
+    let away_alone = [
+        PageKind::Zero,
+        PageKind::Zero,
+        PageKind::Swapped,
+        PageKind::Zero,
+    ];
+    expect(&rt, "put away", kinds(&rt, &map), away_alone);
+    expect(&rt, "one slot, no frame", counts(&map), [0, 0, 1, 0]);
+    expect(&rt, "its slot and digest", away(&rt, &map, 2), (0, DIGEST));
+    expect(&rt, "in no frame", ends(&rt, &map, 2), None);
+    expect(&rt, "zeros", get_byte(&rt, &map, 2 * 4096), 0);
+
+    let frame = with_ends(&rt, rt.alloc(), &mut numbers, [1, 0x5a]);
+    let slot = supply_swapped(&rt, &mut map, 2, frame);
+    expect(&rt, "the slot again", slot.close(), 0);
+    expect(&rt, "its bytes", ends(&rt, &map, 2), Some([1, 0x5a]));
+    expect(&rt, "one frame", counts(&map), [1, 0, 0, 1]);
     map.close();
     ended(&rt, numbers);
     Ok(())
