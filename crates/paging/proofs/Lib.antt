@@ -4,6 +4,7 @@ pub mod Exchanging
 pub mod GoingBack
 pub mod Keeping
 pub mod OneOwner
+pub mod PuttingAway
 pub mod Scanning
 pub mod Starting
 pub mod Supplying

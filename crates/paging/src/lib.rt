@@ -6,8 +6,8 @@
 //! frame, slot and ticket is (`Books`); `specs/Faith.antt` that pages are as their owner has them (`Faithful`), and their slots
 //! too (`Kept`); `specs/Supplies.antt`, `specs/Returns.antt` and `specs/Scans.antt` what each call answers and what becomes of its page.
 //!
-//! The crates above use `supply_first`, `supply_copy`, `supply_swapped`, `evict_in`, `scan_in` and `give_back`, and the laws of
-//! the books in `laws`: a move that conserves keeps the books, and books give each move what it asks for.
+//! The crates above use `supply_first`, `supply_copy`, `supply_swapped`, `evict_in`, `store_first`, `scan_in` and `give_back`,
+//! and the laws of the books in `laws`: a move that conserves keeps the books, and books give each move what it asks for.
 #![tactic(auto)]
 
 pub mod evict;
@@ -16,6 +16,7 @@ pub mod pages;
 pub mod returning;
 pub mod scan;
 mod stored;
+pub mod storing;
 pub mod supply;
 #[cfg(test)]
 mod tests;
@@ -24,4 +25,5 @@ pub use evict::evict_in;
 pub use pages::Pages;
 pub use returning::give_back;
 pub use scan::{Scan, scan_in};
+pub use storing::store_first;
 pub use supply::{SupplyError, supply_copy, supply_first, supply_swapped};

@@ -90,6 +90,13 @@ pub trait Pages {
         ensures returned { result ≡ handed_back (page_at (pages self.old) p) }
         ensures rest { rest self.new ≡ rest self.old };
 
+    /// A page that was never touched is from then on in a slot, to which its bytes were written; `digest` is their SHA-256.
+    fn put_away(&mut self, p: Ppn, slot: SlotTicket, digest: [u8; 32])
+        requires there { p < length (pages self.old) }
+        requires kind { kind_at (pages self.old) p ≡ PageKind.Zero }
+        ensures pages { pages self.new ≡ slice_set (pages self.old) p (Page.Swapped slot digest) }
+        ensures rest { rest self.new ≡ rest self.old };
+
     /// A page leaves its own frame for a shared one of the same bytes, of which `ticket` is a ticket. Its frame comes back.
     fn share(&mut self, p: Ppn, share: SharePage, ticket: ShareTicket) -> Frame
         requires there { p < length (pages self.old) }
@@ -157,6 +164,10 @@ impl Pages for PhysMap {
 
     fn swap_out(&mut self, p: Ppn, slot: SlotTicket, digest: [u8; 32]) -> Returned {
         PhysMap::swap_out(self, p, slot, digest)
+    }
+
+    fn put_away(&mut self, p: Ppn, slot: SlotTicket, digest: [u8; 32]) {
+        PhysMap::put_away(self, p, slot, digest);
     }
 
     fn share(&mut self, p: Ppn, share: SharePage, ticket: ShareTicket) -> Frame {

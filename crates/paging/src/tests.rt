@@ -4,14 +4,14 @@ ghost use Rattle.frames.specs.Counts.{count_of, below};
 ghost use Rattle.physmap.specs.declared.page.Page.TheVariants.{Zero};
 ghost use Rattle.paging.specs.Books.{Books};
 
-use crate::{SupplyError, evict_in, supply_first, supply_swapped};
+use crate::{SupplyError, evict_in, store_first, supply_first, supply_swapped};
 use framepool::Pool;
 use physmap::{PageKind, PhysMap};
 use sharetab::Shares;
 use std::alloc::Global;
 use std::fmt::Debug;
 use std::process::Abort;
-use swapstore::{Damage, MemStore, SlotBook, SwapStore};
+use swapstore::{Damage, FaultStore, MemStore, Op, SlotBook, SwapStore};
 use word32::Ppn;
 
 /// Asserts one case. The tests share it, since each assertion in a function's own body makes its proof much longer.
@@ -20,12 +20,12 @@ fn expect<T: PartialEq + Debug + Drop>(rt: &impl Abort, case: &'static str, got:
 }
 
 /// Four pages, three frames and two slots.
-struct Parts {
+struct Parts<S> {
     map: PhysMap,
     pool: Pool,
     slots: SlotBook,
     shares: Shares,
-    store: MemStore,
+    store: S,
 }
 
 fn new_map(rt: &impl Abort, alloc: Global) -> PhysMap
@@ -73,7 +73,7 @@ fn new_store(rt: &impl Abort, alloc: Global) -> MemStore {
     }
 }
 
-fn started(rt: &impl Abort, alloc: Global) -> Parts
+fn started<S>(rt: &impl Abort, alloc: Global, store: S) -> Parts<S>
     ensures { Books 3 2 (result.map ∷ []) result.shares.entries result.pool result.slots }
 {
     Parts {
@@ -81,11 +81,11 @@ fn started(rt: &impl Abort, alloc: Global) -> Parts
         pool: new_pool(rt, alloc),
         slots: new_slots(rt, alloc),
         shares: new_shares(rt, alloc),
-        store: new_store(rt, alloc),
+        store,
     }
 }
 
-fn closed(parts: Parts) {
+fn closed<S: Drop>(parts: Parts<S>) {
     let Parts {
         map,
         pool,
@@ -113,7 +113,7 @@ fn page(rt: &impl Abort, map: &PhysMap, p: u32) -> Ppn
 }
 
 /// A page gets a frame of zeros.
-fn first(rt: &impl Abort, alloc: Global, parts: &mut Parts, p: u32)
+fn first(rt: &impl Abort, alloc: Global, parts: &mut Parts<MemStore>, p: u32)
     requires { Books 3 2 (parts.old.map ∷ []) parts.old.shares.entries parts.old.pool parts.old.slots }
     ensures { Books 3 2 (parts.new.map ∷ []) parts.new.shares.entries parts.new.pool parts.new.slots }
 {
@@ -129,7 +129,7 @@ fn first(rt: &impl Abort, alloc: Global, parts: &mut Parts, p: u32)
 }
 
 /// A resident page goes to the lowest slot that is free, and the frame that came free to the pool. Whether one did.
-fn evicted(rt: &impl Abort, parts: &mut Parts, p: u32) -> bool
+fn evicted(rt: &impl Abort, parts: &mut Parts<MemStore>, p: u32) -> bool
     requires { Books 3 2 (parts.old.map ∷ []) parts.old.shares.entries parts.old.pool parts.old.slots }
     ensures { Books 3 2 (parts.new.map ∷ []) parts.new.shares.entries parts.new.pool parts.new.slots }
 {
@@ -159,8 +159,39 @@ fn evicted(rt: &impl Abort, parts: &mut Parts, p: u32) -> bool
     }
 }
 
+/// A page that was never touched goes to the lowest slot that is free, with these bytes. Where the slot is not written, it is
+/// free again. Whether the page went.
+fn stored<S: SwapStore>(rt: &impl Abort, parts: &mut Parts<S>, p: u32, bytes: &[u8; 4096]) -> bool
+    requires { Books 3 2 (parts.old.map ∷ []) parts.old.shares.entries parts.old.pool parts.old.slots }
+    ensures { Books 3 2 (parts.new.map ∷ []) parts.new.shares.entries parts.new.pool parts.new.slots }
+{
+    let page = page(rt, &parts.map, p);
+    match parts.map.kind(page) {
+        PageKind::Zero => {}
+        other => panic!(rt; "page {p} is {other:?}"),
+    }
+    let Some(slot) = parts.slots.take() else {
+        panic!(rt; "no slot is free");
+    };
+    if slot.number() >= parts.store.slot_count() {
+        panic!(rt; "no slot {}", slot.close());
+    }
+    match store_first(&mut parts.map, page, bytes, slot, &mut parts.store) {
+        Ok(()) => true,
+        Err(slot) => {
+            parts.slots.give(slot);
+            false
+        }
+    }
+}
+
 /// A page comes back from its slot, or not.
-fn back(rt: &impl Abort, alloc: Global, parts: &mut Parts, p: u32) -> Result<(), SupplyError>
+fn back(
+    rt: &impl Abort,
+    alloc: Global,
+    parts: &mut Parts<MemStore>,
+    p: u32,
+) -> Result<(), SupplyError>
     requires { Books 3 2 (parts.old.map ∷ []) parts.old.shares.entries parts.old.pool parts.old.slots }
     ensures { Books 3 2 (parts.new.map ∷ []) parts.new.shares.entries parts.new.pool parts.new.slots }
 {
@@ -191,9 +222,25 @@ fn damage(rt: &impl Abort, store: &mut MemStore) {
     store.damage(0, 0);
 }
 
+/// Whether a page is in a frame and has these bytes.
+fn shows<S>(rt: &impl Abort, parts: &Parts<S>, p: u32, bytes: &[u8; 4096]) -> bool {
+    match parts.map.peek(page(rt, &parts.map, p)) {
+        Some(shown) => shown == bytes.as_slice(),
+        None => false,
+    }
+}
+
+/// A page whose bytes differ at both ends and between.
+fn some_bytes() -> [u8; 4096] {
+    let mut bytes = [0x5a; 4096];
+    bytes[0] = 1;
+    bytes[4095] = 2;
+    bytes
+}
+
 /// How many frames are free, how many pages are private, shared and swapped, how many entries and tickets there are, and how
 /// many slots are used.
-fn counts(parts: &Parts) -> ([u32; 6], u64) {
+fn counts<S>(parts: &Parts<S>) -> ([u32; 6], u64) {
     let counts = [
         parts.pool.free(),
         parts.map.private(),
@@ -207,7 +254,7 @@ fn counts(parts: &Parts) -> ([u32; 6], u64) {
 
 #[test]
 fn a_page_goes_to_a_slot_and_comes_back(rt: HostRuntime) {
-    let mut parts = started(&rt, rt.alloc());
+    let mut parts = started(&rt, rt.alloc(), new_store(&rt, rt.alloc()));
     first(&rt, rt.alloc(), &mut parts, 0);
     first(&rt, rt.alloc(), &mut parts, 3);
     let free = evicted(&rt, &mut parts, 3);
@@ -223,5 +270,33 @@ fn a_page_goes_to_a_slot_and_comes_back(rt: HostRuntime) {
     let answer = back(&rt, rt.alloc(), &mut parts, 3);
     expect(&rt, "undamaged", answer, Ok(()));
     expect(&rt, "back", counts(&parts), ([1, 2, 0, 0, 0, 0], 0));
+    closed(parts);
+}
+
+#[test]
+fn a_page_begins_in_a_slot_and_comes_back(rt: HostRuntime) {
+    let mut parts = started(&rt, rt.alloc(), new_store(&rt, rt.alloc()));
+    let went = stored(&rt, &mut parts, 2, &some_bytes());
+    expect(&rt, "written", went, true);
+    expect(&rt, "in a slot", counts(&parts), ([3, 0, 0, 1, 0, 1], 0));
+    let answer = back(&rt, rt.alloc(), &mut parts, 2);
+    expect(&rt, "supplied", answer, Ok(()));
+    expect(&rt, "in a frame", counts(&parts), ([2, 1, 0, 0, 0, 0], 0));
+    let same = shows(&rt, &parts, 2, &some_bytes());
+    expect(&rt, "its bytes", same, true);
+    closed(parts);
+}
+
+#[test]
+fn a_slot_that_is_not_written_comes_back(rt: HostRuntime) {
+    let store = FaultStore::new(new_store(&rt, rt.alloc()), Op::Write, 1);
+    let mut parts = started(&rt, rt.alloc(), store);
+    let went = stored(&rt, &mut parts, 2, &some_bytes());
+    expect(&rt, "not written", went, false);
+    expect(&rt, "untouched", counts(&parts), ([3, 0, 0, 0, 0, 0], 0));
+    expect(&rt, "one failure", parts.store.failures(), 1);
+    let went = stored(&rt, &mut parts, 2, &some_bytes());
+    expect(&rt, "written", went, true);
+    expect(&rt, "in a slot", counts(&parts), ([3, 0, 0, 1, 0, 1], 0));
     closed(parts);
 }
