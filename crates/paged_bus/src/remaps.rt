@@ -92,6 +92,18 @@ impl PagedBus {
         self.map.swap_out(p, slot, digest)
     }
 
+    /// A page that was never touched is from then on in a slot, to which its bytes were written; `digest` is their SHA-256. The
+    /// world shows zeros until the page is supplied.
+    pub fn put_away(&mut self, p: Ppn, slot: SlotTicket, digest: [u8; 32])
+        requires settled { IsSettled self.old }
+        requires there { p < length self.old.pages }
+        requires kind { kind_at self.old.pages p ≡ PageKind.Zero }
+        ensures bus { self.new ≡ with_page p (Page.Swapped slot digest) self.old }
+        ensures world { world_of self.new ≡ world_of self.old }
+    {
+        self.map.put_away(p, slot, digest);
+    }
+
     /// A page leaves its own frame for a shared one of the same bytes, of which `ticket` is a ticket. Its frame comes back.
     pub fn share(&mut self, p: Ppn, share: SharePage, ticket: ShareTicket) -> Frame
         requires settled { IsSettled self.old }

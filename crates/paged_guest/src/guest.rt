@@ -63,7 +63,7 @@ impl Guest {
     ghost use Rattle.physmap.specs.declared.page.Page.{Page};
     ghost use Rattle.physmap.specs.declared.page.PageKind.{PageKind};
     ghost use Rattle.physmap.specs.Pages.{page_at, kind_at, own_frame};
-    ghost use Rattle.physmap.specs.Holdings.{resident_pages};
+    ghost use Rattle.physmap.specs.Holdings.{private_pages, shared_pages, swapped_pages, resident_pages};
     ghost use Rattle.physmap.specs.Outline.{outline};
     ghost use Rattle.paging.specs.Faith.{Kept};
     ghost use Rattle.paged_bus.specs.Lacking.{lacks_in};
@@ -194,6 +194,27 @@ impl Guest {
         ensures small { result ≤ 2 ^ 20 }
     {
         self.bus.pages()
+    }
+
+    /// How many of its pages are in frames of their own.
+    pub fn private(&self) -> u32
+        ensures { result ≡ private_pages self.now.bus.pages }
+    {
+        self.bus.private()
+    }
+
+    /// How many of its pages are in shared frames.
+    pub fn shared(&self) -> u32
+        ensures { result ≡ shared_pages self.now.bus.pages }
+    {
+        self.bus.shared()
+    }
+
+    /// How many of its pages are in slots of the swap store.
+    pub fn swapped(&self) -> u32
+        ensures { result ≡ swapped_pages self.now.bus.pages }
+    {
+        self.bus.swapped()
     }
 
     /// How many of its pages are in a frame, their own or a shared one.

@@ -52,6 +52,10 @@ impl Pages for Guest {
         self.bus.swap_out(p, slot, digest)
     }
 
+    fn put_away(&mut self, p: Ppn, slot: SlotTicket, digest: [u8; 32]) {
+        self.bus.put_away(p, slot, digest);
+    }
+
     fn share(&mut self, p: Ppn, share: SharePage, ticket: ShareTicket) -> Frame {
         self.bus.share(p, share, ticket)
     }
