@@ -115,7 +115,7 @@ slot_inside frames slots all es pool book i p b inside there kind =
     counted_below t slots (count_of t book.free + sum_by (slots_held t) all) (b.each_slot t)
     (omega (arith, one, one_same t, get_or-le-sum_by (slot_in t) ps p page.Zero there, one_of_all (slots_held t) all i inside))
 
-below_one : (k total : ℕ) → below k total ≤ 1
+pub below_one : (k total : ℕ) → below k total ≤ 1
 below_one k total =
     elim (cases_lt k total) [
       | inl h ↦ omega (arith, below_yes k total h)

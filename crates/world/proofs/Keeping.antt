@@ -52,7 +52,7 @@ still_kept held t t' l items k =
     record { intact = record { shows = new.shows; accepted = new.accepted }; pages = new.pages }
 
 -- each slot that isn't free holds what it held, so what a guest has in slots lies there
-used_held : (book : FreeList) (held held' : ℕ → Option (List ℕ)) (b : List ℕ) (q : Page) → UsedStay book held held' → ((slot : ℕ) → 0 < slot_in slot q → count_of slot book.free ≡ 0)
+pub used_held : (book : FreeList) (held held' : ℕ → Option (List ℕ)) (b : List ℕ) (q : Page) → UsedStay book held held' → ((slot : ℕ) → 0 < slot_in slot q → count_of slot book.free ≡ 0)
     → IsHeld held b q → IsHeld held' b q
 used_held book held held' b page.Zero used apart lies = tt
 used_held book held held' b page.Given used apart lies = tt

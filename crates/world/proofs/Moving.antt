@@ -25,6 +25,11 @@ pub evicted_conserves : (ps ps' : List Page) (pool pool' book book' : FreeList) 
 evicted_conserves ps ps' pool pool' book book' es es' slot frames takes slots tickets =
     record { frames = frames; slots = slot_taken ps book book' ps' slot takes slots; tickets = tickets }
 
+-- a page that was never touched has come into a slot that was taken
+pub stored_conserves : (ps ps' : List Page) (pool book book' : FreeList) (es : EntriesAre) (slot : ℕ) → MovesFrames ps pool es ps' pool es []
+    → Takes book slot book' → MovesSlots ps book' ps' book' (slot ∷ []) → MovesTickets ps es ps' es → Conserves ps pool book es ps' pool book' es
+stored_conserves ps ps' pool book book' es slot frames takes slots tickets = evicted_conserves ps ps' pool pool book book' es es slot frames takes slots tickets
+
 -- a page was scanned
 pub scanned_conserves : (ps ps' : List Page) (pool pool' book : FreeList) (es es' : EntriesAre) → MovesFrames ps pool es ps' pool' es' []
     → MovesSlots ps book ps' book [] → MovesTickets ps es ps' es' → Conserves ps pool book es ps' pool' book es'

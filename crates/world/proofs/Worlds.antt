@@ -190,6 +190,9 @@ moved_boot t t' m = ap boot_of m.beside
 pub tenants_of : {Store : Type 0} (w w' : WorldIs Store) → w ≡ w' → w.tenants ≡ w'.tenants
 tenants_of w w' e = ap (λ (x : WorldIs _). x.tenants) e
 
+pub shares_of : {Store : Type 0} (w w' : WorldIs Store) → w ≡ w' → w.shares ≡ w'.shares
+shares_of w w' e = ap (λ (x : WorldIs _). x.shares) e
+
 pub guest_inside : (ts ts' : List TenantIs) (g : ℕ) → ts ≡ ts' → g < length ts' → g < length ts
 guest_inside ts ts' g e inside = omega (arith, inside, ap length e)
 
@@ -248,22 +251,32 @@ pub get_last : {X : Type 0} (xs : List X) (a d : X) → get_or (xs ++ a ∷ []) 
 get_last [] a d = refl
 get_last (x ∷ xs) a d = get_last xs a d
 
-pub sound_add : (frames slots n : ℕ) (trusted : Type 0) (held : ℕ → Option (List ℕ)) (ts : List TenantIs) (t : TenantIs) (pool pool' book : FreeList) (es : EntriesAre)
-    → Conserves (replicate n page.Zero) pool book es (pages_in t) pool' book es → Reads es (pages_in t) → (trusted → IsKept held t)
-    → Sound frames slots trusted held ts pool book es → Sound frames slots trusted held (ts ++ t ∷ []) pool' book es
-sound_add frames slots n trusted held ts t pool pool' book es conserves reads kept s =
+-- a slot that is free is one of them all, and is free once
+pub slots_once : (frames slots : ℕ) (trusted : Type 0) (held : ℕ → Option (List ℕ)) (ts : List TenantIs) (pool book : FreeList) (es : EntriesAre)
+    → Sound frames slots trusted held ts pool book es → (k : ℕ) → count_of k book.free ≤ below k slots
+slots_once frames slots trusted held ts pool book es s k = omega (arith, s.books.each_slot k)
+
+pub sound_add : (frames slots n : ℕ) (trusted trusted' : Type 0) (held held' : ℕ → Option (List ℕ)) (ts : List TenantIs) (t : TenantIs) (pool pool' book book' : FreeList) (es : EntriesAre)
+    → Conserves (replicate n page.Zero) pool book es (pages_in t) pool' book' es → Reads es (pages_in t)
+    → (trusted' → trusted) → (trusted → IsKept held' t) → (trusted → UsedStay book held held')
+    → Sound frames slots trusted held ts pool book es → Sound frames slots trusted' held' (ts ++ t ∷ []) pool' book' es
+sound_add frames slots n trusted trusted' held held' ts t pool pool' book book' es conserves reads trust kept used s =
     let all = map pages_in ts in
     let new = replicate n page.Zero in
     let last = length all in
     let inside : last < length (all ++ new ∷ []) = omega (arith, length-append all (new ∷ [])) in
     let at : get_or (all ++ new ∷ []) last [] ≡ new = get_last all new [] in
     record {
-      books = subst (λ (l : List (List Page)). Books frames slots l es pool' book) (set_last all new (pages_in t) ∙ sym (last_pages ts t))
-          (books_after frames slots (all ++ new ∷ []) last (pages_in t) es es pool pool' book book inside
-          (subst (λ (ps : List Page). Conserves ps pool book es (pages_in t) pool' book es) (sym at) conserves) reads
+      books = subst (λ (l : List (List Page)). Books frames slots l es pool' book') (set_last all new (pages_in t) ∙ sym (last_pages ts t))
+          (books_after frames slots (all ++ new ∷ []) last (pages_in t) es es pool pool' book book' inside
+          (subst (λ (ps : List Page). Conserves ps pool book es (pages_in t) pool' book' es) (sym at) conserves) reads
           (books_with_owner frames slots all es pool book n s.books));
-      kept = λ trust. All-push (IsKept held) ts t (s.kept trust) (kept trust);
+      kept = λ trust'. All-push (IsKept held') ts t (All-from_get_or (IsKept held') ts t (λ j h. others (trust trust') j h)) (kept (trust trust'));
     }
+  where
+    others : trusted → (j : ℕ) → j < length ts → IsKept held' (get_or ts j t)
+    others now j h =
+        used_kept book held held' (get_or ts j t) (used now) (λ slot some. not_free frames slots ts j t pool book es slot h s.books some) (All-get_or (IsKept held) ts j t h (s.kept now))
 
 -- an item that is no step leaves where pages are
 pub input_sound : (frames slots : ℕ) (trusted : Type 0) (held : ℕ → Option (List ℕ)) (ts : List TenantIs) (g : ℕ) (t t' : TenantIs) (pool book : FreeList) (es : EntriesAre)

@@ -1,22 +1,52 @@
 -- Pages of an image that are being loaded.
-use Rattle.std.specs.Prelude.{◌≡◌, ℕ, ◌<◌, ◌≤◌, List, length}
+use Rattle.std.specs.Prelude.{◌≡◌, ℕ, ◌<◌, ◌≤◌, List, [], Option, length}
+use Rattle.frames.specs.FreeList.{FreeList}
 use Rattle.elf32.specs.declared.image.Image.{Image}
 use Rattle.mips_step.specs.World.{page_bytes}
 use Rattle.flatvm.specs.Boot.{boot_memory}
 use Rattle.physmap.specs.declared.page.Page.{Page}
-use Rattle.physmap.specs.declared.page.Page.TheVariants.{Zero, Swapped}
-use Rattle.physmap.specs.Pages.{page_at, shown}
+use Rattle.physmap.specs.declared.page.Page.TheVariants.{Zero}
+use Rattle.physmap.specs.declared.page.PageKind.TheVariants.{Private, Swapped}
+use Rattle.physmap.specs.Pages.{page_at, kind_of, kind_at}
+use Rattle.paging.specs.Faith.{IsFaithful, IsHeld}
+use Rattle.paged_guest.specs.Loading.{IsBeside}
+use Rattle.world.specs.declared.loading.BootError.{BootError}
+use Rattle.world.specs.declared.loading.BootError.TheVariants.{Room, Store, Memory}
 
 -- the bytes of a page as an image boots in a memory of so many pages
 abbrev pub boot_page : Image → ℕ → ℕ → List ℕ
 boot_page image count p = page_bytes p (boot_memory image count)
 
--- a page in no slot shows these bytes
-abbrev pub IsHere : List ℕ → Page → Type 0
-IsHere bytes (Swapped slot digest) = ⊥
-IsHere bytes page = shown page ≡ bytes
+-- each page from a number on, and each that the image doesn't reach, was never touched
+pub record AreUntouched (image : Image) (next : ℕ) (pages : List Page) : Type 0 where
+  pub further : (p : ℕ) → next ≤ p → page_at pages p ≡ Zero
+  pub beside : (p : ℕ) → IsBeside image p → page_at pages p ≡ Zero
 
--- each page below a number shows its bytes, and each from there on was never touched
-pub record AreLoaded (next : ℕ) (bytes : ℕ → List ℕ) (pages : List Page) : Type 0 where
-  pub loaded : (p : ℕ) → p < next → p < length pages → IsHere (bytes p) (page_at pages p)
-  pub untouched : (p : ℕ) → next ≤ p → page_at pages p ≡ Zero
+-- Each page below a number has its bytes of the image in a memory of so many pages: it shows them, or they lie in its slot, and it
+-- has their SHA-256.
+pub record AreLoaded (held : ℕ → Option (List ℕ)) (image : Image) (count next : ℕ) (pages : List Page) : Type 0 where
+  pub faithful : (p : ℕ) → p < next → p < length pages → IsFaithful (boot_page image count p) (page_at pages p)
+  pub lies : (p : ℕ) → p < next → p < length pages → IsHeld held (boot_page image count p) (page_at pages p)
+
+-- one page has these bytes, and no other page has changed
+pub record IsLoaded (trusted : Type 0) (held : ℕ → Option (List ℕ)) (p : ℕ) (bytes : List ℕ) (old new : List Page) : Type 0 where
+  pub others : (o : ℕ) → (o ≡ p → ⊥) → page_at new o ≡ page_at old o
+  pub faithful : IsFaithful bytes (page_at new p)
+  pub lies : trusted → IsHeld held bytes (page_at new p)
+
+-- a page got a frame where one was free, and else a slot
+pub record IsFrameFirst (pool pool' : FreeList) (page : Page) : Type 0 where
+  pub free : kind_of page ≡ Private → 0 < length pool.free
+  pub full : kind_of page ≡ Swapped → pool'.free ≡ []
+  pub stays : pool.free ≡ [] → pool'.free ≡ []
+
+-- no frame is free where a page is in a slot, and the pages in frames are below those in slots
+pub record FramesFirst (pool : FreeList) (pages : List Page) : Type 0 where
+  pub full : (p : ℕ) → kind_at pages p ≡ Swapped → pool.free ≡ []
+  pub below : (p q : ℕ) → kind_at pages p ≡ Private → kind_at pages q ≡ Swapped → p < q
+
+-- why a page of an image has no place: neither a frame nor a slot is free, or no frame and the store failed to write one
+abbrev pub WhyNotLoaded : FreeList → FreeList → Type 0 → BootError → Type 0
+WhyNotLoaded pool slots failed Room = (pool.free ≡ []) × (slots.free ≡ [])
+WhyNotLoaded pool slots failed Store = (pool.free ≡ []) × (0 < length slots.free) × failed
+WhyNotLoaded pool slots failed Memory = Unit {0}

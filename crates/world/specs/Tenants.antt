@@ -5,8 +5,11 @@ use Rattle.elf32.specs.declared.image.Image.{Image}
 use Rattle.flatvm.specs.Boot.{boot_machine}
 use Rattle.loghead.specs.Heads.{SeatIs}
 use Rattle.physmap.specs.declared.page.Page.{Page}
+use Rattle.physmap.specs.declared.page.Page.TheVariants.{Zero}
+use Rattle.physmap.specs.Pages.{page_at}
 use Rattle.paging.specs.Faith.{Kept}
 use Rattle.paged_guest.specs.Guests.{GuestIs, view_of, Intact, without_pages}
+use Rattle.paged_guest.specs.Loading.{IsBeside}
 use Rattle.paged_guest.specs.Views.{pages_seen}
 
 -- what is seen of a guest in a world
@@ -57,3 +60,5 @@ pub record IsBooted (image : Image) (count shares log_runs : ℕ) (t : TenantIs)
   pub limit : t.guest.log.limit ≡ log_runs
   pub shares_are : t.shares ≡ shares
   pub size : length (pages_in t) ≡ count
+  -- a page that the image doesn't reach was never touched
+  pub beside : (p : ℕ) → IsBeside image p → page_at (pages_in t) p ≡ Zero

@@ -3,7 +3,6 @@ ghost use Rattle.std.specs.Prelude.{◌≡◌};
 
 use crate::{Answer, Event, World};
 use items::Item;
-use paging::Pages;
 use rand_core::Rng;
 use std::alloc::{AllocError, Global};
 use swapstore::SwapStore;
@@ -11,7 +10,7 @@ use taxpolicy::Tax;
 use word32::Ppn;
 
 impl<S: SwapStore> World<S> {
-    ghost use Rattle.std.specs.Prelude.{◌≡◌, ◌↔◌, ◌++◌, ℕ, [], false, All, IfOk, OnErr, List, length, map};
+    ghost use Rattle.std.specs.Prelude.{◌≡◌, ◌↔◌, ◌++◌, ℕ, [], false, All, IfOk, OnErr, length, map};
     ghost use Rattle.items.specs.declared.item.Item.{Item};
     ghost use Rattle.items.specs.Items.{is_step};
     ghost use Rattle.world.specs.declared.events.Event.{Event};

@@ -10,16 +10,19 @@
 #![tactic(auto)]
 
 mod applying;
+pub mod books;
 pub mod events;
 pub mod faulting;
-mod loading;
+pub mod loading;
 mod moves;
 mod stepping;
 pub mod tenant;
 pub mod world;
 
+pub use books::BookCounts;
 pub use events::{Answer, Event};
 pub use faulting::FaultError;
+pub use loading::BootError;
 pub use moves::EvictError;
 pub use tenant::Tenant;
 pub use world::{Evicted, World};

@@ -2,6 +2,7 @@
 ghost use Rattle.std.specs.Prelude.{◌≡◌, ℕ, ◌<◌, ◌≤◌, ◌↔◌, IsTrue, All, List, [], ◌∷◌, Option, Some, OnOk, OnErr, IfErr, IsErrOf, length, slice_set};
 ghost use Rattle.std.specs.Option.{option_to_list};
 ghost use Rattle.sha2.specs.Sha256.{sha256};
+ghost use Rattle.frames.specs.Counts.{count_of};
 ghost use Rattle.frames.specs.FreeList.{FreeList};
 ghost use Rattle.sharetab.specs.Entries.{EntriesAre};
 ghost use Rattle.swapstore.specs.Failures.{one_more};
@@ -10,14 +11,15 @@ ghost use Rattle.physmap.specs.declared.page.PageKind.{PageKind};
 ghost use Rattle.physmap.specs.Pages.{page_at, kind_at, is_resident, shown, slot_of, digest_of};
 ghost use Rattle.paging.specs.Moves.{SameNumbers, MovesFrames, Conserves, Reads, Covered, OwnOnce};
 ghost use Rattle.paging.specs.Faith.{Kept};
-ghost use Rattle.paging.specs.Scans.{Answered, HintsAfter};
+ghost use Rattle.paging.specs.Scans.{Answered, Comes, HintsAfter};
 ghost use Rattle.paging.specs.Supplies.{WhyAway, IsDamaged};
 ghost use Rattle.world.specs.Lent.{Lent, UsedStay, WhyStays};
 
 use framepool::Pool;
 use frames::FrameNo;
 use paging::{
-    Pages, Scan, SupplyError, evict_in, scan_in, supply_copy, supply_first, supply_swapped,
+    Pages, Scan, SupplyError, evict_in, scan_in, store_first, supply_copy, supply_first,
+    supply_swapped,
 };
 use physmap::PageKind;
 use sharetab::{GuestNo, Shares};
@@ -96,6 +98,49 @@ pub(crate) fn evict_page<P: Pages, S: SwapStore>(
     }
 }
 
+/// A page that was never touched gets the free slot of the lowest number, to which these bytes of it are written. Where it is
+/// refused, no page has changed, and the same slots are free.
+pub(crate) fn store_page<P: Pages, S: SwapStore>(
+    pages: &mut P,
+    p: Ppn,
+    bytes: &[u8],
+    slots: &mut SlotBook,
+    store: &mut S,
+) -> Result<(), EvictError>
+    requires there { p < length (P.pages pages.old) }
+    requires untouched { kind_at (P.pages pages.old) p ≡ PageKind.Zero }
+    requires size { length bytes.now ≡ 4096 }
+    requires inside { (slot : ℕ) → 0 < count_of slot slots.old.free → slot < S.slots store.old }
+    ensures conserves { (pool : FreeList) (entries : EntriesAre) →
+        Conserves (P.pages pages.old) pool slots.old entries (P.pages pages.new) pool slots.new entries }
+    ensures reads { (entries : EntriesAre) → Reads entries (P.pages pages.old) → Reads entries (P.pages pages.new) }
+    ensures used { S.true_to_digests store.old → UsedStay slots.old (S.held store.old) (S.held store.new) }
+    ensures count { length (P.pages pages.new) ≡ length (P.pages pages.old) }
+    ensures rest { P.rest pages.new ≡ P.rest pages.old }
+    ensures page { OnOk result (P.pages pages.new ≡ slice_set (P.pages pages.old) p
+        (Page.Swapped (slot_of (page_at (P.pages pages.new) p)) (sha256 bytes.now))) }
+    ensures lowest { OnOk result (All (λ other. slot_of (page_at (P.pages pages.new) p) ≤ other) slots.old.free) }
+    ensures written { OnOk result (S.true_to_digests store.old → S.held store.new (slot_of (page_at (P.pages pages.new) p)) ≡ Some bytes.now) }
+    ensures err { IfErr result (WhyStays slots.old (S.failed store.new ≡ one_more (S.failed store.old))) }
+    ensures no_failure { OnOk result (S.failed store.new ≡ S.failed store.old) }
+    ensures unchanged { OnErr result (P.pages pages.new ≡ P.pages pages.old) }
+    ensures slots_unchanged { OnErr result (SameNumbers slots.old slots.new) }
+    ensures slots { S.slots store.new ≡ S.slots store.old }
+    ensures honest { S.honest store.new ↔ S.honest store.old }
+    ensures true_to_digests { S.true_to_digests store.new ↔ S.true_to_digests store.old }
+{
+    match slots.take() {
+        Some(slot) => match store_first(pages, p, bytes, slot, store) {
+            Ok(()) => Ok(()),
+            Err(unused) => {
+                slots.give(unused);
+                Err(EvictError::SwapWrite)
+            }
+        },
+        None => Err(EvictError::NoSwap),
+    }
+}
+
 /// A page gets a frame of its own, with its bytes: zeros where it was never touched or was given to the balloon, those of the
 /// frame that it shares, or those of its slot. A page that has one keeps it. The errors are those of `paging`'s supplies; where
 /// one comes, no page and no slot has changed, and the same frames are free.
@@ -159,6 +204,7 @@ pub(crate) fn scan_page<P: Pages>(
     ensures count { length (P.pages pages.new) ≡ length (P.pages pages.old) }
     ensures rest { P.rest pages.new ≡ P.rest pages.old }
     ensures answer { Answered shares.old (P.pages pages.old) (record { guest = guest; page = p }) result }
+    ensures comes { (came_free : List ℕ) × Comes shares.old.entries (P.pages pages.old) p result shares.new.entries (P.pages pages.new) came_free }
     ensures hints { HintsAfter shares.old.hints (sha256 (shown (page_at (P.pages pages.old) p))) (record { guest = guest; page = p }) result shares.new.hints }
 {
     let (scan, came_free) = scan_in(pages, guest, p, shares);

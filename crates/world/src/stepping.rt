@@ -1,6 +1,5 @@
 //! A step of a guest, with what lies around its pages.
-ghost use Rattle.std.specs.Prelude.{◌≡◌, ◌≢◌, ◌↔◌, ◌<◌, ℕ, List, Option, None, IfOk, OnErr, IsErrOf, length};
-ghost use Rattle.frames.specs.FreeList.{FreeList};
+ghost use Rattle.std.specs.Prelude.{◌≡◌, ◌≢◌, ◌↔◌, ◌<◌, ℕ, List, Option, None, IfOk, OnErr, IsErrOf};
 ghost use Rattle.items.specs.Entries.{step_by};
 ghost use Rattle.guest_log.specs.Logs.{IsFull};
 ghost use Rattle.mips_step.specs.Accesses.{accesses, first_lack};

@@ -40,11 +40,10 @@ impl Model for Tenant {
 }
 
 impl Tenant {
-    ghost use Rattle.std.specs.Prelude.{◌≡◌, ◌≢◌, ◌<◌, ◌≤◌, ◌^◌, ℕ, true, false, List, [], Option, None, OnOk, OnErr, IfOk, IfSome, IsErrOf, ◌↔◌, length, slice_set};
+    ghost use Rattle.std.specs.Prelude.{◌≡◌, ◌≢◌, ◌<◌, ◌≤◌, ◌^◌, ℕ, true, false, List, Option, None, OnOk, OnErr, IfOk, IfSome, IsErrOf, ◌↔◌, length, slice_set};
     ghost use Rattle.elf32.specs.Images.{FitsPages};
     ghost use Rattle.items.specs.Items.{is_step};
     ghost use Rattle.items.specs.Entries.{step_by};
-    ghost use Rattle.items.specs.declared.item.What.TheVariants.{Step};
     ghost use Rattle.guest_log.specs.Logs.{IsFull};
     ghost use Rattle.mips_step.specs.Given.{step_given};
     ghost use Rattle.mips_step.specs.Accesses.{accesses, first_lack};
@@ -56,7 +55,7 @@ impl Tenant {
     ghost use Rattle.physmap.specs.declared.page.Page.{Page};
     ghost use Rattle.physmap.specs.declared.page.PageKind.{PageKind};
     ghost use Rattle.physmap.specs.Pages.{page_at, kind_at, own_frame};
-    ghost use Rattle.physmap.specs.Holdings.{resident_pages};
+    ghost use Rattle.physmap.specs.Holdings.{private_pages, shared_pages, swapped_pages, resident_pages};
     ghost use Rattle.physmap.specs.Outline.{outline};
     ghost use Rattle.paged_bus.specs.Lacking.{lacks_in};
     ghost use Rattle.paged_bus.specs.Writes.{WritesTo};
@@ -108,6 +107,27 @@ impl Tenant {
         ensures within { result ≤ length (pages_in self.now) }
     {
         self.guest.resident()
+    }
+
+    /// How many of its pages are in frames of their own.
+    pub fn private(&self) -> u32
+        ensures { result ≡ private_pages (pages_in self.now) }
+    {
+        self.guest.private()
+    }
+
+    /// How many of its pages are in shared frames.
+    pub fn shared(&self) -> u32
+        ensures { result ≡ shared_pages (pages_in self.now) }
+    {
+        self.guest.shared()
+    }
+
+    /// How many of its pages are in slots.
+    pub fn swapped(&self) -> u32
+        ensures { result ≡ swapped_pages (pages_in self.now) }
+    {
+        self.guest.swapped()
     }
 
     /// What the policy knows of it: no sample was taken, so all of its pages count as active.
@@ -249,6 +269,10 @@ impl Pages for Tenant {
 
     fn swap_out(&mut self, p: Ppn, slot: SlotTicket, digest: [u8; 32]) -> Returned {
         self.guest.swap_out(p, slot, digest)
+    }
+
+    fn put_away(&mut self, p: Ppn, slot: SlotTicket, digest: [u8; 32]) {
+        self.guest.put_away(p, slot, digest);
     }
 
     fn share(&mut self, p: Ppn, share: SharePage, ticket: ShareTicket) -> Frame {

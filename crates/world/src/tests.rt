@@ -1,10 +1,9 @@
 //! Worlds of two guests over four frames and two slots. An instruction is written as the word that the manual encodes it to, with
 //! its text beside; what it leads to is worked out by hand.
-ghost use Rattle.std.specs.Prelude.{◌≡◌, false, All};
-ghost use Rattle.items.specs.Items.{is_step};
+ghost use Rattle.std.specs.Prelude.{All};
 ghost use Rattle.world.specs.Events.{IsProper};
 
-use crate::{Answer, Event, EvictError, Evicted, FaultError, World};
+use crate::{Answer, BookCounts, BootError, Event, EvictError, Evicted, FaultError, World};
 use elf32::Image;
 use items::{Item, SeatNo, What};
 use mips_step::{StepOut, Why};
@@ -15,7 +14,7 @@ use std::alloc::Global;
 use std::fmt::Debug;
 use std::process::Abort;
 use std::sync::Arc;
-use swapstore::MemStore;
+use swapstore::{FaultStore, MemStore, Op, SwapStore};
 use taxpolicy::Tax;
 use word32::Ppn;
 
@@ -67,7 +66,7 @@ fn with_guest(
     alloc: Global,
     world: World<MemStore>,
     words: &[u32],
-) -> Result<World<MemStore>, SupplyError> {
+) -> Result<World<MemStore>, BootError> {
     let image = image_of(rt, alloc, words);
     if !image.fits(3) {
         panic!(rt; "the image has no room");
@@ -341,19 +340,96 @@ fn frames_and_slots_run_out(rt: HostRuntime) {
     let _store = world.close();
 }
 
+/// What the books count of a world of one frame and two slots: free frames, pages in frames of their own, and pages in slots.
+fn counted(free: u64, private: u64, swapped: u64) -> BookCounts {
+    BookCounts {
+        frames: 1,
+        free,
+        private,
+        shared: 0,
+        references: 0,
+        swapped,
+        slots: 2,
+    }
+}
+
 #[test]
-fn a_guest_without_a_frame_for_its_image_is_not_added(rt: HostRuntime) {
-    let world = empty(&rt, rt.alloc(), 1);
+fn an_image_page_that_finds_no_frame_lies_in_a_slot(rt: HostRuntime) {
+    let mut world = started(&rt, rt.alloc(), 1);
+    expect(
+        &rt,
+        "of guest 0",
+        kind(&rt, &world, 0, 0),
+        Some(PageKind::Private),
+    );
+    expect(
+        &rt,
+        "of guest 1",
+        kind(&rt, &world, 1, 0),
+        Some(PageKind::Swapped),
+    );
+    expect(&rt, "one of each", world.books(), counted(0, 1, 1));
+    let need = step(&rt, rt.alloc(), &mut world, 1);
+    expect(&rt, "its page 0", need, Some((0, Why::Swapped)));
+    expect(
+        &rt,
+        "guest 0 leaves",
+        evict(&rt, rt.alloc(), &mut world, 0, 0),
+        Ok(Evicted::Done),
+    );
+    expect(&rt, "both away", world.books(), counted(1, 0, 2));
+    expect(
+        &rt,
+        "guest 1 comes",
+        supply(&rt, rt.alloc(), &mut world, 1, 0),
+        Ok(()),
+    );
+    expect(&rt, "one back", world.books(), counted(0, 1, 1));
+    expect(&rt, "its bytes", step(&rt, rt.alloc(), &mut world, 1), None);
+    let need = step(&rt, rt.alloc(), &mut world, 1);
+    expect(&rt, "its second word", need, Some((1, Why::First)));
+    let _store = world.close();
+}
+
+#[test]
+fn a_guest_without_room_for_its_image_is_not_added(rt: HostRuntime) {
+    let world = started(&rt, rt.alloc(), 1);
     let world = match with_guest(&rt, rt.alloc(), world, &WORDS) {
         Ok(world) => world,
-        Err(error) => panic!(&rt; "no first guest: {error:?}"),
+        Err(error) => panic!(&rt; "no third guest: {error:?}"),
     };
     match with_guest(&rt, rt.alloc(), world, &WORDS) {
         Ok(world) => {
             let _store = world.close();
-            panic!(&rt; "a second guest")
+            panic!(&rt; "a fourth guest")
         }
-        Err(error) => expect(&rt, "no frame", error, SupplyError::NoFrame),
+        Err(error) => expect(&rt, "no room", error, BootError::Room),
+    }
+}
+
+#[test]
+fn a_failing_store_refuses_a_guest(rt: HostRuntime) {
+    let image = image_of(&rt, rt.alloc(), &WORDS);
+    let Ok(store) = MemStore::new(rt.alloc(), 2) else {
+        panic!(&rt; "no memory for the store");
+    };
+    let store = FaultStore::new(store, Op::Write, 1);
+    let world = match World::new(rt.alloc(), 0, store) {
+        Ok(world) => world,
+        Err(_store) => panic!(&rt; "no memory for the world"),
+    };
+    if !image.fits(3) {
+        panic!(&rt; "the image has no room");
+    }
+    match world.add(rt.alloc(), image, 3, 100, 8) {
+        Ok(world) => {
+            let _store = world.close();
+            panic!(&rt; "a guest")
+        }
+        Err((error, store)) => {
+            expect(&rt, "the store", error, BootError::Store);
+            expect(&rt, "one failure", store.failures(), 1);
+        }
     }
 }
 

@@ -1,7 +1,7 @@
 //! A world of guests.
 ghost use Rattle.std.specs.Prelude.{◌≡◌, ◌≢◌, ◌<◌};
 
-use crate::loading::loaded;
+use crate::loading::{BootError, loaded};
 use crate::moves::{evict_page, scan_page, supply_page};
 use crate::stepping::step_in;
 use crate::{EvictError, Tenant};
@@ -33,12 +33,12 @@ pub enum Evicted {
 ///
 /// Whatever is called, the books are exact, and while the store is true to digests each guest is its run (`is_sound`).
 pub struct World<S: SwapStore> {
-    tenants: Vec<Tenant>,
-    pool: Pool,
-    slots: SlotBook,
-    shares: Shares,
-    store: S,
-    frames: u32,
+    pub(crate) tenants: Vec<Tenant>,
+    pub(crate) pool: Pool,
+    pub(crate) slots: SlotBook,
+    pub(crate) shares: Shares,
+    pub(crate) store: S,
+    pub(crate) frames: u32,
 }
 
 impl<S: SwapStore> Model for World<S> {
@@ -63,7 +63,7 @@ fn close_parts(mut tenants: Vec<Tenant>, pool: Pool, slots: SlotBook, shares: Sh
 }
 
 impl<S: SwapStore> World<S> {
-    ghost use Rattle.std.specs.Prelude.{◌≡◌, ◌≢◌, ◌<◌, ◌≤◌, ◌^◌, ◌↔◌, ℕ, true, false, IsTrue, List, [], ◌∷◌, ◌++◌, Option, None, IfOk, IfErr, OnOk, OnErr, IfSome, IfNone, IsErrOf, All, length, replicate, slice_index_or};
+    ghost use Rattle.std.specs.Prelude.{◌≡◌, ◌≢◌, ◌<◌, ◌≤◌, ◌^◌, ◌↔◌, ℕ, true, false, IsTrue, List, [], ◌∷◌, ◌++◌, Option, None, IfOk, IfErr, OnOk, OnErr, IfSome, IfNone, IsErrOf, length, replicate, slice_index_or};
     ghost use Rattle.sha2.specs.Sha256.{sha256};
     ghost use Rattle.items.specs.Items.{is_step};
     ghost use Rattle.items.specs.Entries.{step_by};
@@ -78,16 +78,16 @@ impl<S: SwapStore> World<S> {
     ghost use Rattle.sharetab.specs.declared.guest_page.GuestPage.{GuestPage};
     ghost use Rattle.swapstore.specs.Failures.{one_more};
     ghost use Rattle.physmap.specs.declared.page.PageKind.{PageKind};
-    ghost use Rattle.physmap.specs.Pages.{page_at, kind_at, is_resident, shown, slot_of, digest_of};
-    ghost use Rattle.physmap.specs.Outline.{outline};
+    ghost use Rattle.physmap.specs.Pages.{page_at, kind_at, is_resident, shown};
     ghost use Rattle.paging.specs.Moves.{SameNumbers};
-    ghost use Rattle.paging.specs.Scans.{Answered, HintsAfter};
-    ghost use Rattle.paging.specs.Supplies.{WhyAway, IsDamaged};
+    ghost use Rattle.paging.specs.Scans.{Answered, Comes, HintsAfter};
+    ghost use Rattle.paging.specs.Supplies.{WhyAway};
     ghost use Rattle.paged_bus.specs.Lacking.{lacks_in};
     ghost use Rattle.paged_bus.specs.Writes.{WritesTo};
     ghost use Rattle.paged_guest.specs.Guests.{view_of, standing};
     ghost use Rattle.world.specs.Evictions.{Became};
     ghost use Rattle.world.specs.Lent.{WhyStays};
+    ghost use Rattle.world.specs.Loading.{FramesFirst};
     ghost use Rattle.world.specs.Tenants.{TenantIs, pages_in, IsBooted, Stays, Adds, NothingHappens};
     ghost use Rattle.world.specs.Worlds.{WorldIs, Sound, Changes, PagesMove, SameAround};
 
@@ -97,6 +97,9 @@ impl<S: SwapStore> World<S> {
         ensures tenants { IfOk result (λ w. w.tenants ≡ []) }
         ensures store { IfOk result (λ w. w.store ≡ store) }
         ensures frames { IfOk result (λ w. w.frames ≡ frames) }
+        ensures free { IfOk result (λ w. length w.pool.free ≡ frames) }
+        ensures free_slots { IfOk result (λ w. length w.slots.free ≡ S.slots store) }
+        ensures entries { IfOk result (λ w. w.shares.entries ≡ replicate frames None) }
         ensures hints { IfOk result (λ w. (page : GuestPage) → at_page w.shares.hints page ≡ None) }
         ensures back { IfErr result (λ s. s ≡ store) }
     {
@@ -123,10 +126,11 @@ impl<S: SwapStore> World<S> {
     }
 
     /// The same world with one guest more, the last, at the boot of an image in a memory of `pages` pages, with this many shares
-    /// and a log of at most `log_runs` runs. Each page that the image reaches is in a frame with its bytes.
+    /// and a log of at most `log_runs` runs. Each page that the image reaches has its bytes: in rising order in a frame while one
+    /// is free, then in the free slot of the lowest number.
     ///
-    /// `NoFrame` where the pool has too few frames for them, `Memory` where a request for memory was refused: the world is given
-    /// up then, and its store comes back.
+    /// `Room` where neither frame nor slot was free for one of them, `Store` where the store failed to write one, `Memory` where a
+    /// request for memory was refused: the world is given up then, and its store comes back.
     pub fn add(
         self,
         alloc: Global,
@@ -134,26 +138,30 @@ impl<S: SwapStore> World<S> {
         pages: u32,
         shares: u32,
         log_runs: u32,
-    ) -> Result<World<S>, (SupplyError, S)>
+    ) -> Result<World<S>, (BootError, S)>
         requires fits { FitsPages image.value pages }
         requires few { pages ≤ 2 ^ 20 }
         ensures tenants { IfOk result (λ w. (t : TenantIs) → w.tenants ≡ self.tenants ++ slice_index_or w.tenants (length self.tenants) t ∷ []) }
         ensures booted { IfOk result (λ w. (t : TenantIs) → IsBooted image.value pages shares log_runs (slice_index_or w.tenants (length self.tenants) t)) }
-        ensures slots { IfOk result (λ w. w.slots ≡ self.slots) }
+        ensures frames_first { IfOk result (λ w. (t : TenantIs) → FramesFirst w.pool (pages_in (slice_index_or w.tenants (length self.tenants) t))) }
         ensures shares { IfOk result (λ w. w.shares ≡ self.shares) }
-        ensures store { IfOk result (λ w. w.store ≡ self.store) }
         ensures frames { IfOk result (λ w. w.frames ≡ self.frames) }
-        ensures back { IfErr result (λ refused. refused.1 ≡ self.store) }
+        ensures slots { IfOk result (λ w. S.slots w.store ≡ S.slots self.store) }
+        ensures honest { IfOk result (λ w. S.honest w.store ↔ S.honest self.store) }
+        ensures true_to_digests { IfOk result (λ w. S.true_to_digests w.store ↔ S.true_to_digests self.store) }
+        ensures back { IfErr result (λ refused. (S.slots refused.1 ≡ S.slots self.store) × (S.honest refused.1 ↔ S.honest self.store)) }
     {
         let World {
             mut tenants,
             mut pool,
-            slots,
+            mut slots,
             shares: table,
-            store,
+            mut store,
             frames,
         } = self;
-        match loaded(alloc, image, pages, shares, log_runs, &mut pool) {
+        match loaded(
+            alloc, image, pages, shares, log_runs, &mut pool, &mut slots, &mut store,
+        ) {
             Ok(tenant) => match tenants.push(tenant) {
                 Ok(()) => Ok(World {
                     tenants,
@@ -166,7 +174,7 @@ impl<S: SwapStore> World<S> {
                 Err(failed) => {
                     failed.value.close();
                     close_parts(tenants, pool, slots, table);
-                    Err((SupplyError::Memory, store))
+                    Err((BootError::Memory, store))
                 }
             },
             Err(error) => {
@@ -406,6 +414,8 @@ impl<S: SwapStore> World<S> {
         ensures answer { (t : TenantIs) → Answered self.old.shares (pages_in (slice_index_or self.old.tenants g t)) (record { guest = g; page = p }) result }
         ensures hints { (t : TenantIs) →
             HintsAfter self.old.shares.hints (sha256 (shown (page_at (pages_in (slice_index_or self.old.tenants g t)) p))) (record { guest = g; page = p }) result self.new.shares.hints }
+        ensures comes { (t : TenantIs) → (came_free : List ℕ) × Comes self.old.shares.entries (pages_in (slice_index_or self.old.tenants g t)) p result
+            self.new.shares.entries (pages_in (slice_index_or self.new.tenants g t)) came_free }
         ensures slots { self.new.slots ≡ self.old.slots }
         ensures store { self.new.store ≡ self.old.store }
         ensures frames { self.new.frames ≡ self.old.frames }

@@ -1,3 +1,4 @@
+use Rattle.std.specs.Option.{option_to_list}
 use Rattle.world.proofs.Moving.{came_free_out, scanned_conserves}
 use Rattle.world.proofs.moves.scan_page.Goals as goal
 
@@ -15,3 +16,6 @@ returns-clause-conserves g c = λ book.
     let new = c.scan_in-scan.new.shares.entries in
     scanned_conserves ps ps' c.args.pool.now c.frame_back.new.pool book old new
     (c.frame_back.ensures ps ps' old new (c.scan_in-scan.ensures.frames c.args.pool.now)) (c.scan_in-scan.ensures.slots book) c.scan_in-scan.ensures.tickets
+
+pub returns-clause-comes : goal.returns-clause-comes
+returns-clause-comes g c = (option_to_list c.scan_in-scan.result.1, c.scan_in-scan.ensures.comes)
