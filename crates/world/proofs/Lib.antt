@@ -1,3 +1,4 @@
+pub mod BootedGuests
 pub mod Booting
 pub mod Giving
 pub mod Keeping

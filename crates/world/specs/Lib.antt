@@ -1,3 +1,4 @@
+pub mod Boots
 pub mod Events
 pub mod Evictions
 pub mod Lent

@@ -11,7 +11,7 @@ use Rattle.physmap.specs.Pages.{page_at, kind_of, kind_at}
 use Rattle.paging.specs.Faith.{IsFaithful, IsHeld}
 use Rattle.paged_guest.specs.Loading.{IsBeside}
 use Rattle.world.specs.declared.loading.BootError.{BootError}
-use Rattle.world.specs.declared.loading.BootError.TheVariants.{Room, Store, Memory}
+use Rattle.world.specs.declared.loading.BootError.TheVariants.{Limits, Segment, Room, Store, Memory}
 
 -- the bytes of a page as an image boots in a memory of so many pages
 abbrev pub boot_page : Image → ℕ → ℕ → List ℕ
@@ -47,6 +47,16 @@ pub record FramesFirst (pool : FreeList) (pages : List Page) : Type 0 where
 
 -- why a page of an image has no place: neither a frame nor a slot is free, or no frame and the store failed to write one
 abbrev pub WhyNotLoaded : FreeList → FreeList → Type 0 → BootError → Type 0
+WhyNotLoaded pool slots failed Limits = ⊥
+WhyNotLoaded pool slots failed Segment = ⊥
 WhyNotLoaded pool slots failed Room = (pool.free ≡ []) × (slots.free ≡ [])
 WhyNotLoaded pool slots failed Store = (pool.free ≡ []) × (0 < length slots.free) × failed
 WhyNotLoaded pool slots failed Memory = Unit {0}
+
+-- a refusal that a page of an image can bring
+abbrev pub IsOfLoading : BootError → Type 0
+IsOfLoading Limits = ⊥
+IsOfLoading Segment = ⊥
+IsOfLoading Room = Unit {0}
+IsOfLoading Store = Unit {0}
+IsOfLoading Memory = Unit {0}

@@ -11,6 +11,7 @@
 
 mod applying;
 pub mod books;
+pub mod boot;
 pub mod events;
 pub mod faulting;
 pub mod loading;
@@ -20,6 +21,7 @@ pub mod tenant;
 pub mod world;
 
 pub use books::BookCounts;
+pub use boot::{Config, NewGuest};
 pub use events::{Answer, Event};
 pub use faulting::FaultError;
 pub use loading::BootError;
@@ -27,5 +29,7 @@ pub use moves::EvictError;
 pub use tenant::Tenant;
 pub use world::{Evicted, World};
 
+#[cfg(test)]
+mod boot_tests;
 #[cfg(test)]
 mod tests;

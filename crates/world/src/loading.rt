@@ -13,7 +13,7 @@ ghost use Rattle.paged_guest.specs.Loading.{Reaches};
 ghost use Rattle.paging.specs.Moves.{Conserves, Reads};
 ghost use Rattle.paging.specs.Supplies.{Supplies, WantsFrame};
 ghost use Rattle.world.specs.Lent.{UsedStay, WhyStays};
-ghost use Rattle.world.specs.Loading.{boot_page, AreUntouched, AreLoaded, IsLoaded, IsFrameFirst, FramesFirst, WhyNotLoaded};
+ghost use Rattle.world.specs.Loading.{boot_page, AreUntouched, AreLoaded, IsLoaded, IsFrameFirst, FramesFirst, WhyNotLoaded, IsOfLoading};
 ghost use Rattle.world.specs.Tenants.{TenantIs, pages_in, beside_pages, IsKept, IsBooted};
 
 use crate::Tenant;
@@ -27,9 +27,13 @@ use std::sync::Arc;
 use swapstore::{SlotBook, SwapStore};
 use word32::Ppn;
 
-/// Why a guest can't be booted.
+/// Why a guest, or a world with guests, can't be booted.
 #[derive(Clone, Copy, Debug, PartialEq, Eq)]
 pub enum BootError {
+    /// A number is outside its limits, or there are no or too many guests.
+    Limits,
+    /// A guest's pages don't hold its image.
+    Segment,
     /// A page of its image found neither a free frame nor a free slot.
     Room,
     /// A page of its image found no free frame, and the store failed to write it.
@@ -196,6 +200,7 @@ fn load<S: SwapStore>(
     ensures loaded { OnOk result (S.true_to_digests store.old →
         AreLoaded (S.held store.new) image.now (length (pages_in tenant.old)) (length (pages_in tenant.old)) (pages_in tenant.new)) }
     ensures frames_first { OnOk result (FramesFirst pool.new (pages_in tenant.new)) }
+    ensures err { IfErr result IsOfLoading }
     ensures slots { S.slots store.new ≡ S.slots store.old }
     ensures honest { S.honest store.new ↔ S.honest store.old }
     ensures true_to_digests { S.true_to_digests store.new ↔ S.true_to_digests store.old }
@@ -239,6 +244,7 @@ pub(crate) fn loaded<S: SwapStore>(
     ensures booted { IfOk result (IsBooted image.value pages shares log_runs) }
     ensures kept { IfOk result (λ t. S.true_to_digests store.old → IsKept (S.held store.new) t) }
     ensures frames_first { IfOk result (λ t. FramesFirst pool.new (pages_in t)) }
+    ensures err { IfErr result IsOfLoading }
     ensures slots { S.slots store.new ≡ S.slots store.old }
     ensures honest { S.honest store.new ↔ S.honest store.old }
     ensures true_to_digests { S.true_to_digests store.new ↔ S.true_to_digests store.old }

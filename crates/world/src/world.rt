@@ -63,7 +63,7 @@ fn close_parts(mut tenants: Vec<Tenant>, pool: Pool, slots: SlotBook, shares: Sh
 }
 
 impl<S: SwapStore> World<S> {
-    ghost use Rattle.std.specs.Prelude.{◌≡◌, ◌≢◌, ◌<◌, ◌≤◌, ◌^◌, ◌↔◌, ℕ, true, false, IsTrue, List, [], ◌∷◌, ◌++◌, Option, None, IfOk, IfErr, OnOk, OnErr, IfSome, IfNone, IsErrOf, length, replicate, slice_index_or};
+    ghost use Rattle.std.specs.Prelude.{◌≡◌, ◌≢◌, ◌+◌, ◌<◌, ◌≤◌, ◌^◌, ◌↔◌, ℕ, true, false, IsTrue, List, [], ◌∷◌, ◌++◌, Option, None, IfOk, IfErr, OnOk, OnErr, IfSome, IfNone, IsErrOf, length, replicate, slice_index_or};
     ghost use Rattle.sha2.specs.Sha256.{sha256};
     ghost use Rattle.items.specs.Items.{is_step};
     ghost use Rattle.items.specs.Entries.{step_by};
@@ -87,7 +87,7 @@ impl<S: SwapStore> World<S> {
     ghost use Rattle.paged_guest.specs.Guests.{view_of, standing};
     ghost use Rattle.world.specs.Evictions.{Became};
     ghost use Rattle.world.specs.Lent.{WhyStays};
-    ghost use Rattle.world.specs.Loading.{FramesFirst};
+    ghost use Rattle.world.specs.Loading.{FramesFirst, IsOfLoading};
     ghost use Rattle.world.specs.Tenants.{TenantIs, pages_in, IsBooted, Stays, Adds, NothingHappens};
     ghost use Rattle.world.specs.Worlds.{WorldIs, Sound, Changes, PagesMove, SameAround};
 
@@ -142,6 +142,7 @@ impl<S: SwapStore> World<S> {
         requires fits { FitsPages image.value pages }
         requires few { pages ≤ 2 ^ 20 }
         ensures tenants { IfOk result (λ w. (t : TenantIs) → w.tenants ≡ self.tenants ++ slice_index_or w.tenants (length self.tenants) t ∷ []) }
+        ensures count { IfOk result (λ w. length w.tenants ≡ length self.tenants + 1) }
         ensures booted { IfOk result (λ w. (t : TenantIs) → IsBooted image.value pages shares log_runs (slice_index_or w.tenants (length self.tenants) t)) }
         ensures frames_first { IfOk result (λ w. (t : TenantIs) → FramesFirst w.pool (pages_in (slice_index_or w.tenants (length self.tenants) t))) }
         ensures shares { IfOk result (λ w. w.shares ≡ self.shares) }
@@ -149,6 +150,7 @@ impl<S: SwapStore> World<S> {
         ensures slots { IfOk result (λ w. S.slots w.store ≡ S.slots self.store) }
         ensures honest { IfOk result (λ w. S.honest w.store ↔ S.honest self.store) }
         ensures true_to_digests { IfOk result (λ w. S.true_to_digests w.store ↔ S.true_to_digests self.store) }
+        ensures err { IfErr result (λ refused. IsOfLoading refused.0) }
         ensures back { IfErr result (λ refused. (S.slots refused.1 ≡ S.slots self.store) × (S.honest refused.1 ↔ S.honest self.store)) }
     {
         let World {
