@@ -1,17 +1,32 @@
 -- The items that events add to the logs of guests.
-use Rattle.std.specs.Prelude.{◌≡◌, ℕ, false, Result, Ok, Err, List, [], ◌∷◌, ◌++◌}
+use Rattle.std.specs.Prelude.{◌≡◌, ℕ, ◌==◌, if◌then◌else◌, false, Result, Ok, Err, Option, Some, None, List, [], ◌∷◌, ◌++◌, replicate, map, Contains, ◌≢◌}
+use Rattle.frames.specs.FreeList.{FreeList}
 use Rattle.items.specs.declared.item.Item.{Item}
 use Rattle.items.specs.Entries.{step_by}
 use Rattle.items.specs.Items.{is_step}
 use Rattle.guest_log.specs.declared.stop.Stop.{Stop}
+use Rattle.guest_log.specs.declared.stop.Stop.TheVariants as halt
 use Rattle.flatvm.specs.declared.reply.Reply.{Reply}
 use Rattle.mips_step.specs.declared.access.StepOut.{StepOut}
 use Rattle.mips_step.specs.declared.access.StepOut.TheVariants as out
+use Rattle.mips_step.specs.Accesses.{Access, accesses}
+use Rattle.physmap.specs.declared.page.PageKind.TheVariants.{Private}
+use Rattle.physmap.specs.Pages.{kind_at}
+use Rattle.paged_guest.specs.Guests.{view_of}
 use Rattle.paged_guest.specs.declared.refused.Refused.{Refused}
+use Rattle.taxpolicy.specs.declared.stat.Stat.{Stat}
 use Rattle.world.specs.declared.events.Event.{Event}
 use Rattle.world.specs.declared.events.Event.TheVariants as event
 use Rattle.world.specs.declared.events.Answer.{Answer}
 use Rattle.world.specs.declared.events.Answer.TheVariants as answer
+use Rattle.world.specs.declared.faulting.FaultError.{FaultError}
+use Rattle.world.specs.declared.faulting.FaultError.TheVariants as lacking
+use Rattle.world.specs.declared.running.End.{End}
+use Rattle.world.specs.declared.running.End.TheVariants as end
+use Rattle.world.specs.declared.running.RunStop.{RunStop}
+use Rattle.world.specs.declared.running.RunStop.TheVariants as stop
+use Rattle.world.specs.Tenants.{TenantIs, pages_in}
+use Rattle.world.specs.Victims.{WhyLacking}
 use Rattle.world.specs.Worlds.{item_for}
 
 -- an item that is to happen is no step
@@ -67,3 +82,57 @@ abbrev pub own : ℕ → List Event → List Answer → List Item
 own h [] answers = []
 own h (e ∷ events) [] = []
 own h (e ∷ events) (a ∷ answers) = own_items h e a ++ own h events answers
+
+-- ---- many steps
+
+-- so many steps by seat 0, where the guest is the one that made them
+abbrev pub steps_for : ℕ → ℕ → ℕ → List Item
+steps_for h g count = if h == g then replicate count (step_by 0) else []
+
+-- how a run of steps ends at what a step is answered: not at all where the step is made
+abbrev pub end_at : Result StepOut Stop → Option End
+end_at (Ok out.Done) = None
+end_at (Ok (out.Need page why)) = Some (end.Need page why)
+end_at (Err halt.Memory) = Some (end.Stop stop.Memory)
+end_at (Err halt.LogFull) = Some (end.Stop stop.LogFull)
+
+-- what is so where a run of steps stopped
+abbrev pub IfStop : End → (RunStop → Type 0) → Type 0
+IfStop end.Done so = Unit {0}
+IfStop (end.Need page why) so = Unit {0}
+IfStop (end.Stop why) so = so why
+
+-- what stops steps for which no page is supplied: the log has no room
+abbrev pub IsForRoom : RunStop → Type 0
+IsForRoom stop.NoFrame = ⊥
+IsForRoom stop.NoSwap = ⊥
+IsForRoom stop.SwapRead = ⊥
+IsForRoom stop.SwapDamaged = ⊥
+IsForRoom stop.Memory = Unit {0}
+IsForRoom stop.LogFull = Unit {0}
+
+-- A page was supplied for the step that a guest is to make, which needs this other page now: the step accesses it, and it has a frame
+-- of its own.
+pub record IsSupplied (needed : ℕ) (t : TenantIs) : Type 0 where
+  pub page : ℕ
+  pub accessed : Contains (map (λ (a : Access). a.page) (accesses (view_of t.guest))) page
+  pub private : kind_at (pages_in t) page ≡ Private
+  pub other : page ≢ needed
+
+-- the reason for which a run of steps stops, where this is why a page that is needed has no frame
+abbrev pub stop_of : FaultError → RunStop
+stop_of lacking.NoFrame = stop.NoFrame
+stop_of lacking.NoSwap = stop.NoSwap
+stop_of lacking.SwapRead = stop.SwapRead
+stop_of lacking.SwapDamaged = stop.SwapDamaged
+stop_of lacking.Memory = stop.Memory
+
+-- Why a run of steps stopped for which pages are supplied: a page that was needed has no frame, as `WhyLacking` has it, or the log has
+-- no room.
+abbrev pub WhyStopped : FreeList → FreeList → List Stat → Type 0 → Type 0 → RunStop → Type 0
+WhyStopped pool slots stats failed damaged stop.NoFrame = WhyLacking pool slots stats failed damaged lacking.NoFrame
+WhyStopped pool slots stats failed damaged stop.NoSwap = WhyLacking pool slots stats failed damaged lacking.NoSwap
+WhyStopped pool slots stats failed damaged stop.SwapRead = WhyLacking pool slots stats failed damaged lacking.SwapRead
+WhyStopped pool slots stats failed damaged stop.SwapDamaged = WhyLacking pool slots stats failed damaged lacking.SwapDamaged
+WhyStopped pool slots stats failed damaged stop.Memory = Unit {0}
+WhyStopped pool slots stats failed damaged stop.LogFull = Unit {0}

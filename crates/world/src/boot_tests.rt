@@ -1,16 +1,11 @@
 //! Worlds that are booted, and those that are refused.
+use crate::tests::expect;
 use crate::{BookCounts, BootError, Config, NewGuest, World};
 use elf32::Image;
 use std::alloc::Global;
-use std::fmt::Debug;
 use std::process::Abort;
 use std::sync::Arc;
 use swapstore::{FaultStore, MemStore, Op, SwapStore};
-
-/// Asserts one case. The tests share it, since each assertion in a function's own body makes its proof much longer.
-fn expect<T: PartialEq + Debug + Drop>(rt: &impl Abort, case: &str, got: T, wanted: T) {
-    assert!(rt; got == wanted, "{case}: {got:?}, not {wanted:?}");
-}
 
 /// The numbers of a world, and of its guests, which are all alike.
 #[derive(Clone, Copy)]

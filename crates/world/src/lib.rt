@@ -16,6 +16,7 @@ pub mod events;
 pub mod faulting;
 pub mod loading;
 mod moves;
+pub mod running;
 mod stepping;
 pub mod tenant;
 pub mod world;
@@ -26,10 +27,13 @@ pub use events::{Answer, Event};
 pub use faulting::FaultError;
 pub use loading::BootError;
 pub use moves::EvictError;
+pub use running::{End, Ran, RunStop};
 pub use tenant::Tenant;
 pub use world::{Evicted, World};
 
 #[cfg(test)]
 mod boot_tests;
+#[cfg(test)]
+mod running_tests;
 #[cfg(test)]
 mod tests;

@@ -19,7 +19,12 @@ use taxpolicy::Tax;
 use word32::Ppn;
 
 /// Asserts one case. The tests share it, since each assertion in a function's own body makes its proof much longer.
-fn expect<T: PartialEq + Debug + Drop>(rt: &impl Abort, case: &'static str, got: T, wanted: T) {
+pub(crate) fn expect<T: PartialEq + Debug + Drop>(
+    rt: &impl Abort,
+    case: &'static str,
+    got: T,
+    wanted: T,
+) {
     assert!(rt; got == wanted, "{case}: {got:?}, not {wanted:?}");
 }
 
@@ -61,7 +66,7 @@ fn empty(rt: &impl Abort, alloc: Global, frames: u32) -> World<MemStore> {
 }
 
 /// The world with one more guest, of three pages and a log of at most eight runs.
-fn with_guest(
+pub(crate) fn with_guest(
     rt: &impl Abort,
     alloc: Global,
     world: World<MemStore>,
@@ -78,14 +83,14 @@ fn with_guest(
 }
 
 /// A load from page 1, and a store to page 2.
-static WORDS: [u32; 3] = [
+pub(crate) static WORDS: [u32; 3] = [
     0x3c01_8000, // lui $1,0x8000
     0x8c22_1000, // lw $2,0x1000($1)
     0xac22_2000, // sw $2,0x2000($1)
 ];
 
 /// Two guests of one image, whose page 0 has a frame each.
-fn started(rt: &impl Abort, alloc: Global, frames: u32) -> World<MemStore> {
+pub(crate) fn started(rt: &impl Abort, alloc: Global, frames: u32) -> World<MemStore> {
     let mut world = empty(rt, alloc, frames);
     for _ in 0..2 {
         world = match with_guest(rt, alloc, world, &WORDS) {
@@ -104,7 +109,7 @@ fn page(rt: &impl Abort, number: u32) -> Ppn {
 }
 
 /// How many frames are free, and how many slots are used.
-fn room(world: &World<MemStore>) -> (u32, u32) {
+pub(crate) fn room(world: &World<MemStore>) -> (u32, u32) {
     (world.free(), world.slots_used())
 }
 
@@ -115,10 +120,10 @@ fn kind(rt: &impl Abort, world: &World<MemStore>, g: usize, number: u32) -> Opti
     world.kind(g, page(rt, number))
 }
 
-const TAX: Tax = Tax { percent: 75 };
+pub(crate) const TAX: Tax = Tax { percent: 75 };
 
 /// What an event is answered for which no word is drawn.
-fn apply(alloc: Global, world: &mut World<MemStore>, event: Event) -> Answer
+pub(crate) fn apply(alloc: Global, world: &mut World<MemStore>, event: Event) -> Answer
     requires { IsProper event }
 {
     world.apply(alloc, event, TAX, &mut Pcg32::new(42, 54))
@@ -158,7 +163,7 @@ fn supply(
     }
 }
 
-fn evict(
+pub(crate) fn evict(
     rt: &impl Abort,
     alloc: Global,
     world: &mut World<MemStore>,
@@ -445,7 +450,7 @@ fn add(rt: &impl Abort, events: &mut Vec<Event>, event: Event)
 }
 
 /// A byte of input for a guest.
-fn input(g: usize, byte: u8) -> Event
+pub(crate) fn input(g: usize, byte: u8) -> Event
     ensures { IsProper result }
 {
     let item = Item {
@@ -493,7 +498,7 @@ static IN_TURN: [&'static str; 8] = [
     "done", "accepted", "done", "scanned", "need", "there", "done", "nowhere",
 ];
 
-fn log_len(rt: &impl Abort, world: &World<MemStore>, g: usize) -> u64 {
+pub(crate) fn log_len(rt: &impl Abort, world: &World<MemStore>, g: usize) -> u64 {
     if g >= world.count() {
         panic!(rt; "there is no guest {g}");
     }

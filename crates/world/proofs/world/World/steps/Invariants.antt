@@ -1,0 +1,15 @@
+use Rattle.std.proofs.Common.{◌≡◌, ℕ, ◌<◌, ◌++◌, length, map}
+use Rattle.world.specs.Events.{steps_for}
+use Rattle.world.specs.Worlds.{boot_of, log_at}
+use Rattle.world.proofs.world.World.steps.Given as goal
+
+-- the log has the steps so far
+abbrev pub invariant-loop-steps : goal.invariant-loop-steps
+invariant-loop-steps g l = record {
+  inside : l.g < length l.self.tenants;
+  logs : (h : ℕ) → log_at l.self.tenants h ≡ log_at l.fn.self.tenants h ++ steps_for h l.g l.steps;
+  boots : map boot_of l.self.tenants ≡ map boot_of l.fn.self.tenants;
+  hints : l.self.shares.hints ≡ l.fn.self.shares.hints;
+  store : l.self.store ≡ l.fn.self.store;
+  frames : l.self.frames ≡ l.fn.self.frames;
+}

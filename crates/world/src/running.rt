@@ -1,0 +1,224 @@
+//! Many steps of a guest by one call.
+ghost use Rattle.std.specs.Prelude.{◌≡◌};
+ghost use Rattle.world.specs.Events.{stop_of, end_at};
+
+use crate::{FaultError, World};
+use mips_step::{StepOut, Why};
+use paged_guest::Stop;
+use rand_core::Rng;
+use std::alloc::Global;
+use swapstore::SwapStore;
+use taxpolicy::Tax;
+use word32::Ppn;
+
+/// Why a guest's run stopped before all of its steps were made.
+#[derive(Clone, Copy, Debug, PartialEq, Eq)]
+pub enum RunStop {
+    /// No frame is free, and no guest has more than two resident pages, or the store failed to write one of them.
+    NoFrame,
+    /// No frame is free, and no slot.
+    NoSwap,
+    /// The store failed to read the slot of a page that is needed.
+    SwapRead,
+    /// What was read from the slot of a page that is needed has another SHA-256 than the page.
+    SwapDamaged,
+    /// A request for memory was refused.
+    Memory,
+    /// The log has its greatest number of runs, or 2^62 items.
+    LogFull,
+}
+
+/// How a run of steps ended.
+#[derive(Clone, Copy, Debug, PartialEq, Eq)]
+pub enum End {
+    /// Every step was made.
+    Done,
+    /// The next step needs this page.
+    Need(Ppn, Why),
+    /// It stopped.
+    Stop(RunStop),
+}
+
+/// What became of a run of steps.
+#[derive(Clone, Copy, Debug, PartialEq, Eq)]
+pub struct Ran {
+    /// How many steps were made.
+    pub steps: u32,
+    /// How it ended.
+    pub end: End,
+}
+
+/// How many pages at most are supplied between two steps of a guest.
+const SUPPLIES_IN_A_ROW: u32 = 64;
+
+// A fault's error as a reason for a run to stop.
+fn stop_of(error: FaultError) -> RunStop
+    ensures { result ≡ stop_of error }
+{
+    match error {
+        FaultError::NoFrame => RunStop::NoFrame,
+        FaultError::NoSwap => RunStop::NoSwap,
+        FaultError::SwapRead => RunStop::SwapRead,
+        FaultError::SwapDamaged => RunStop::SwapDamaged,
+        FaultError::Memory => RunStop::Memory,
+    }
+}
+
+// How a run of steps ends at what a step is answered: not at all where the step is made.
+fn end_at(answer: Result<StepOut, Stop>) -> Option<End>
+    ensures { result ≡ end_at answer }
+{
+    let out = match answer {
+        Ok(out) => out,
+        Err(Stop::Memory) => return Some(End::Stop(RunStop::Memory)),
+        Err(Stop::LogFull) => return Some(End::Stop(RunStop::LogFull)),
+    };
+    match out {
+        StepOut::Done => None,
+        StepOut::Need(page, why) => Some(End::Need(page, why)),
+    }
+}
+
+impl<S: SwapStore> World<S> {
+    ghost use Rattle.std.specs.Prelude.{◌≡◌, ◌≢◌, ◌<◌, ◌≤◌, ◌↔◌, ◌++◌, ℕ, Some, IfSome, IfNone, length, map, slice_index_or};
+    ghost use Rattle.items.specs.Entries.{step_by};
+    ghost use Rattle.guest_log.specs.Logs.{IsFull};
+    ghost use Rattle.mips_step.specs.Accesses.{accesses, first_lack};
+    ghost use Rattle.mips_step.specs.declared.access.Why.{Why};
+    ghost use Rattle.paged_bus.specs.Lacking.{lacks_in};
+    ghost use Rattle.paged_guest.specs.Guests.{view_of};
+    ghost use Rattle.swapstore.specs.Failures.{one_more};
+    ghost use Rattle.world.specs.Events.{steps_for, IfStop, IsForRoom, IsSupplied, WhyStopped};
+    ghost use Rattle.world.specs.Tenants.{TenantIs, pages_in, Stays, NothingHappens};
+    ghost use Rattle.world.specs.Victims.{stat_of};
+    ghost use Rattle.world.specs.Worlds.{Changes, boot_of, log_at, item_for};
+
+    // One step of a guest, or how a run of steps ends where it is not made.
+    fn step_once(&mut self, g: usize) -> Option<End>
+        requires { g < length self.old.tenants }
+        ensures made { IfNone result ((h : ℕ) → log_at self.new.tenants h ≡ log_at self.old.tenants h ++ item_for h g (step_by 0)) }
+        ensures not_made { IfSome result (λ end. (h : ℕ) → log_at self.new.tenants h ≡ log_at self.old.tenants h) }
+        ensures nothing { IfSome result (λ end. Changes NothingHappens g self.old.tenants self.new.tenants) }
+        ensures stays { Changes Stays g self.old.tenants self.new.tenants }
+        ensures boots { map boot_of self.new.tenants ≡ map boot_of self.old.tenants }
+        ensures early { IfSome result (λ end. end ≢ End.Done) }
+        ensures need { S.true_to_digests self.old.store → (p : ℕ) (why : Why) → result ≡ Some (End.Need p why) → (t : TenantIs) →
+            first_lack (lacks_in (pages_in (slice_index_or self.new.tenants g t))) (accesses (view_of (slice_index_or self.new.tenants g t).guest)) ≡ Some (p, why) }
+        ensures full { result ≡ Some (End.Stop RunStop.LogFull) → (t : TenantIs) → IsFull (slice_index_or self.new.tenants g t).guest.log }
+        ensures room { IfSome result (λ end. end ≢ End.Stop RunStop.LogFull → (t : TenantIs) → IsFull (slice_index_or self.new.tenants g t).guest.log → ⊥) }
+        ensures stop { IfSome result (λ end. IfStop end IsForRoom) }
+        ensures hints { self.new.shares.hints ≡ self.old.shares.hints }
+        ensures store { self.new.store ≡ self.old.store }
+        ensures frames { self.new.frames ≡ self.old.frames }
+    {
+        end_at(self.step(g))
+    }
+
+    /// At most `count` steps of a guest with no page supplied: those that it makes before one needs a page, or before its log has no
+    /// room, which is `Stop(LogFull)`, or `Stop(Memory)` where a request for memory was refused. After the last step it is not
+    /// asked what the next one needs.
+    pub fn steps(&mut self, g: usize, count: u32) -> Ran
+        requires { g < length self.old.tenants }
+        ensures logs { (h : ℕ) → log_at self.new.tenants h ≡ log_at self.old.tenants h ++ steps_for h g result.steps }
+        ensures boots { map boot_of self.new.tenants ≡ map boot_of self.old.tenants }
+        ensures most { result.steps ≤ count }
+        ensures done { result.end ≡ End.Done ↔ result.steps ≡ count }
+        ensures need { S.true_to_digests self.old.store → (p : ℕ) (why : Why) → result.end ≡ End.Need p why → (t : TenantIs) →
+            first_lack (lacks_in (pages_in (slice_index_or self.new.tenants g t))) (accesses (view_of (slice_index_or self.new.tenants g t).guest)) ≡ Some (p, why) }
+        ensures full { result.end ≡ End.Stop RunStop.LogFull → (t : TenantIs) → IsFull (slice_index_or self.new.tenants g t).guest.log }
+        ensures room { result.end ≢ End.Done → result.end ≢ End.Stop RunStop.LogFull → (t : TenantIs) → IsFull (slice_index_or self.new.tenants g t).guest.log → ⊥ }
+        ensures stop { IfStop result.end IsForRoom }
+        ensures hints { self.new.shares.hints ≡ self.old.shares.hints }
+        ensures store { self.new.store ≡ self.old.store }
+        ensures frames { self.new.frames ≡ self.old.frames }
+    {
+        for steps in 0..count {
+            if let Some(end) = self.step_once(g) {
+                return Ran { steps, end };
+            }
+        }
+        Ran {
+            steps: count,
+            end: End::Done,
+        }
+    }
+
+    // One step of a guest, for which pages are supplied, at most 64 of them, or how a run of steps ends where it is not made.
+    fn step_supplied<R: Rng>(
+        &mut self,
+        alloc: Global,
+        g: usize,
+        tax: Tax,
+        rng: &mut R,
+    ) -> Option<End>
+        requires { g < length self.old.tenants }
+        ensures made { IfNone result ((h : ℕ) → log_at self.new.tenants h ≡ log_at self.old.tenants h ++ item_for h g (step_by 0)) }
+        ensures not_made { IfSome result (λ end. (h : ℕ) → log_at self.new.tenants h ≡ log_at self.old.tenants h) }
+        ensures boots { map boot_of self.new.tenants ≡ map boot_of self.old.tenants }
+        ensures early { IfSome result (λ end. end ≢ End.Done) }
+        ensures need { S.true_to_digests self.old.store → (p : ℕ) (why : Why) → result ≡ Some (End.Need p why) → (t : TenantIs) →
+            first_lack (lacks_in (pages_in (slice_index_or self.new.tenants g t))) (accesses (view_of (slice_index_or self.new.tenants g t).guest)) ≡ Some (p, why) }
+        ensures supplied { S.true_to_digests self.old.store → (p : ℕ) (why : Why) → result ≡ Some (End.Need p why) → (t : TenantIs) → IsSupplied p (slice_index_or self.new.tenants g t) }
+        ensures full { result ≡ Some (End.Stop RunStop.LogFull) → (t : TenantIs) → IsFull (slice_index_or self.new.tenants g t).guest.log }
+        ensures room { IfSome result (λ end. end ≢ End.Stop RunStop.LogFull → (t : TenantIs) → IsFull (slice_index_or self.new.tenants g t).guest.log → ⊥) }
+        ensures stop { IfSome result (λ end. IfStop end (WhyStopped self.new.pool self.new.slots (map stat_of self.new.tenants)
+            ((before : ℕ) × (S.failed self.new.store ≡ one_more before)) (S.honest self.old.store → ⊥))) }
+        ensures hints { self.new.shares.hints ≡ self.old.shares.hints }
+        ensures frames { self.new.frames ≡ self.old.frames }
+        ensures slots { S.slots self.new.store ≡ S.slots self.old.store }
+        ensures honest { S.honest self.new.store ↔ S.honest self.old.store }
+        ensures true_to_digests { S.true_to_digests self.new.store ↔ S.true_to_digests self.old.store }
+    {
+        for _ in 0..SUPPLIES_IN_A_ROW {
+            match self.step_once(g) {
+                Some(End::Need(_, _)) => {}
+                other => return other,
+            }
+            if let Err(error) = self.fault(alloc, g, tax, rng) {
+                return Some(End::Stop(stop_of(error)));
+            }
+        }
+        self.step_once(g)
+    }
+
+    /// At most `count` steps of a guest, where the page that a step needs is supplied as by `fault` each time. It ends early where a
+    /// fault stops, by its error, and where the log has no room; and where a step needs a page though 64 pages were supplied in a row
+    /// since the last step: it is tried once more then, and what it needs is the end. After the last step it is not asked what the
+    /// next one needs.
+    pub fn run_steps<R: Rng>(
+        &mut self,
+        alloc: Global,
+        g: usize,
+        count: u32,
+        tax: Tax,
+        rng: &mut R,
+    ) -> Ran
+        requires { g < length self.old.tenants }
+        ensures logs { (h : ℕ) → log_at self.new.tenants h ≡ log_at self.old.tenants h ++ steps_for h g result.steps }
+        ensures boots { map boot_of self.new.tenants ≡ map boot_of self.old.tenants }
+        ensures most { result.steps ≤ count }
+        ensures done { result.end ≡ End.Done ↔ result.steps ≡ count }
+        ensures need { S.true_to_digests self.old.store → (p : ℕ) (why : Why) → result.end ≡ End.Need p why → (t : TenantIs) →
+            first_lack (lacks_in (pages_in (slice_index_or self.new.tenants g t))) (accesses (view_of (slice_index_or self.new.tenants g t).guest)) ≡ Some (p, why) }
+        ensures supplied { S.true_to_digests self.old.store → (p : ℕ) (why : Why) → result.end ≡ End.Need p why → (t : TenantIs) → IsSupplied p (slice_index_or self.new.tenants g t) }
+        ensures full { result.end ≡ End.Stop RunStop.LogFull → (t : TenantIs) → IsFull (slice_index_or self.new.tenants g t).guest.log }
+        ensures room { result.end ≢ End.Done → result.end ≢ End.Stop RunStop.LogFull → (t : TenantIs) → IsFull (slice_index_or self.new.tenants g t).guest.log → ⊥ }
+        ensures stop { IfStop result.end (WhyStopped self.new.pool self.new.slots (map stat_of self.new.tenants)
+            ((before : ℕ) × (S.failed self.new.store ≡ one_more before)) (S.honest self.old.store → ⊥)) }
+        ensures hints { self.new.shares.hints ≡ self.old.shares.hints }
+        ensures frames { self.new.frames ≡ self.old.frames }
+        ensures slots { S.slots self.new.store ≡ S.slots self.old.store }
+        ensures honest { S.honest self.new.store ↔ S.honest self.old.store }
+        ensures true_to_digests { S.true_to_digests self.new.store ↔ S.true_to_digests self.old.store }
+    {
+        for steps in 0..count {
+            if let Some(end) = self.step_supplied(alloc, g, tax, rng) {
+                return Ran { steps, end };
+            }
+        }
+        Ran {
+            steps: count,
+            end: End::Done,
+        }
+    }
+}
