@@ -4,6 +4,7 @@ pub mod Keeping
 pub mod Logging
 pub mod Looking
 pub mod PartOfPage
+pub mod Placing
 pub mod Reaching
 pub mod Showing
 pub mod Stepping

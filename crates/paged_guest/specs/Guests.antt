@@ -1,9 +1,11 @@
 -- What is seen of a guest, and what becomes of it.
-use Rattle.std.specs.Prelude.{◌≡◌, ℕ, Option, Some, None, List, []}
+use Rattle.std.specs.Prelude.{◌≡◌, ℕ, ◌*◌, Option, Some, None, List, [], length}
+use Rattle.word32.specs.Pages.{page_number}
 use Rattle.items.specs.declared.item.Item.{Item}
 use Rattle.mips_step.specs.Processor.{Processor}
 use Rattle.mips_step.specs.Step.{Machine, in_world}
 use Rattle.flatvm.specs.Items.{run, AllAccepted}
+use Rattle.flatvm.specs.Replies.{probe}
 use Rattle.guest_log.specs.Logs.{LogIs}
 use Rattle.loghead.specs.Heads.{HeadId, SeatIs}
 use Rattle.journal.specs.Journals.{JournalIs, Adds}
@@ -45,6 +47,14 @@ standing g = in_world g.cpu (world_of g.bus)
 pub record Intact (g : GuestIs) : Type 0 where
   pub shows : Shows (view_of g) g.cpu g.bus
   pub accepted : AllAccepted g.log.items g.boot
+
+-- the byte at a virtual address lies in a page
+abbrev pub LiesIn : Machine → ℕ → ℕ → Type 0
+LiesIn m address page = (at : ℕ) × (probe m address ≡ Some at) × (page_number at ≡ page)
+
+-- the memory of the guest as it stands has 4,096 bytes for each page
+abbrev pub IsSized : GuestIs → Type 0
+IsSized g = length (standing g).world.memory ≡ length g.bus.pages * 4096
 
 -- all of a guest but its pages
 abbrev pub without_pages : GuestIs → GuestIs

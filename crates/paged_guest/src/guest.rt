@@ -2,7 +2,8 @@
 ghost use Rattle.std.specs.Prelude.{◌≡◌};
 
 use crate::loading::load_page;
-use crate::step::{input_pages, need_pages, read_pages, step_pages};
+use crate::placed::pages_reached;
+use crate::step::{input_pages, need_pages, read_pages, step_pages, whole};
 use crate::{Head, Log, Refused, Seat, Stepped, Stop};
 use elf32::Image;
 use flatvm::{Reply, Unreached, View};
@@ -42,7 +43,7 @@ impl Model for Guest {
 }
 
 impl Guest {
-    ghost use Rattle.std.specs.Prelude.{◌≡◌, ◌≢◌, ◌+◌, ◌<◌, ◌≤◌, ◌^◌, ℕ, true, false, List, [], OnOk, OnErr, IsErrOf, ◌↔◌, IfOk, IfSome, None, Some, Option};
+    ghost use Rattle.std.specs.Prelude.{◌≡◌, ◌≢◌, ◌+◌, ◌<◌, ◌≤◌, ◌^◌, ◌⊎◌, ℕ, true, false, List, [], OnOk, OnErr, IsErrOf, ◌↔◌, IfOk, IfSome, IsNone, None, Some, Option};
     ghost use Rattle.std.specs.Prelude.{length, replicate, slice_set};
     ghost use Rattle.elf32.specs.Images.{FitsPages};
     ghost use Rattle.items.specs.Items.{is_step};
@@ -68,7 +69,7 @@ impl Guest {
     ghost use Rattle.paging.specs.Faith.{Kept};
     ghost use Rattle.paged_bus.specs.Lacking.{lacks_in};
     ghost use Rattle.paged_bus.specs.Writes.{WritesTo};
-    ghost use Rattle.paged_guest.specs.Guests.{GuestIs, view_of, standing, Intact, need_of, without_pages, HandsBack, Logs, LogsOnly};
+    ghost use Rattle.paged_guest.specs.Guests.{GuestIs, view_of, standing, Intact, IsSized, need_of, without_pages, HandsBack, Logs, LogsOnly};
     ghost use Rattle.paged_guest.specs.Views.{pages_seen};
 
     /// A guest with a memory of `pages` pages, at most 2^20, which hold the image, and a log of at most `log_runs` runs. No page
@@ -280,6 +281,8 @@ impl Guest {
         ensures accepted { OnOk result (Intact self.old → accepts item.what (view_of self.old) ≡ true) }
         ensures reply { IfOk result (λ r. Intact self.old → replied r ≡ reply item.what (view_of self.old)) }
         ensures refused { IsErrOf result Refused.Machine → Intact self.old → accepts item.what (view_of self.old) ≡ false }
+        ensures refused_as_it_stands { IsErrOf result Refused.Machine → accepts item.what (standing self.old) ≡ false }
+        ensures reply_as_it_stands { IfOk result (λ r. replied r ≡ reply item.what (standing self.old)) }
         ensures away { (page : ℕ) → IsErrOf result (Refused.Away page) → lacks_in self.old.bus.pages page Store ≢ None }
         ensures its_page { (page : ℕ) → IsErrOf result (Refused.Away page) → WritesTo item.what (standing self.old) page }
         ensures full { IsErrOf result (Refused.Stop Stop.LogFull) ↔ IsFull self.old.log }
@@ -322,6 +325,8 @@ impl Guest {
         ensures away { (page : ℕ) → IsErrOf result (Refused.Away page) → kind_at self.now.bus.pages page ≡ PageKind.Swapped }
         ensures its_page { (page : ℕ) → IsErrOf result (Refused.Away page) →
             Intact self.now → SomePlaceIn (view_of self.now) address (length bytes.old) page }
+        ensures not_placed { IsErrOf result Refused.Machine ↔ (bytes_at (standing self.now) address (length bytes.old) ≡ None) }
+        ensures placed_in { (page : ℕ) → IsErrOf result (Refused.Away page) → SomePlaceIn (standing self.now) address (length bytes.old) page }
         ensures never_stops { (stop : Stop) → IsErrOf result (Refused.Stop stop) → ⊥ }
         ensures unchanged { OnErr result (bytes.new ≡ bytes.old) }
     {
@@ -332,6 +337,27 @@ impl Guest {
                 Unreached::Away(page) => Err(Refused::Away(page)),
             },
         }
+    }
+
+    /// The pages that `count` bytes from a virtual address on lie in, by the addresses that a debugger's reads lead to: the lower
+    /// number first, one page twice where they lie in one. None exactly where one of the bytes has no place in memory.
+    pub fn debug_pages(&self, address: u32, count: u32) -> Option<(Ppn, Ppn)>
+        requires some { 0 < count }
+        requires few { count ≤ 1024 }
+        ensures none { IsNone result ↔ (bytes_at (standing self.now) address count ≡ None) }
+        ensures reached { IfSome result (λ pages. (page : ℕ) →
+            (SomePlaceIn (standing self.now) address count page ↔ ((page ≡ pages.0) ⊎ (page ≡ pages.1)))) }
+        ensures order { IfSome result (λ pages. pages.0 ≤ pages.1) }
+        ensures there { IfSome result (λ pages. pages.1 < length self.now.bus.pages) }
+    {
+        pages_reached(&self.cpu, &self.bus, address, count)
+    }
+
+    /// Its memory as it stands has 4,096 bytes for each page. It does nothing: its clause says what every guest keeps.
+    pub fn is_sized(&self)
+        ensures { IsSized self.now }
+    {
+        whole(&self.bus);
     }
 
     /// Gives the guest up, and with it what its pages hold.

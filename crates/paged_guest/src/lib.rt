@@ -12,6 +12,7 @@ pub mod guest;
 pub mod laws;
 pub mod loading;
 pub mod pages;
+mod placed;
 pub mod refused;
 mod step;
 pub mod stepped;

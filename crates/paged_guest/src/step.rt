@@ -100,6 +100,8 @@ pub(crate) fn input_pages(
         (held : ℕ → Option (List ℕ)) → Kept held (pages_seen m) bus.old.pages → Kept held (pages_seen (after what.now m)) bus.new.pages) }
     ensures reply { IfOk result (λ r. (m : Machine) → Shows m cpu.old bus.old → replied r ≡ reply what.now m) }
     ensures refused { IsErrOf result InputError.Machine → (m : Machine) → Shows m cpu.old bus.old → accepts what.now m ≡ false }
+    ensures refused_as_it_stands { IsErrOf result InputError.Machine → accepts what.now (in_world cpu.old (world_of bus.old)) ≡ false }
+    ensures reply_as_it_stands { IfOk result (λ r. replied r ≡ reply what.now (in_world cpu.old (world_of bus.old))) }
     ensures outline { outline bus.new.pages ≡ outline bus.old.pages }
     ensures memory { IsErrOf result InputError.Memory → what.now ≡ Drain }
     ensures away { (page : ℕ) → IsErrOf result (InputError.Away page) → lacks_in bus.old.pages page Store ≢ None }
@@ -131,6 +133,8 @@ pub(crate) fn read_pages(
     ensures away { (page : ℕ) → IsErrOf result (Unreached.Away page) → kind_at bus.now.pages page ≡ PageKind.Swapped }
     ensures its_page { (page : ℕ) → IsErrOf result (Unreached.Away page) →
         (m : Machine) → Shows m cpu.now bus.now → SomePlaceIn m address (length bytes.old) page }
+    ensures not_placed { IsErrOf result Unreached.NoPlace ↔ (bytes_at (in_world cpu.now (world_of bus.now)) address (length bytes.old) ≡ None) }
+    ensures placed_in { (page : ℕ) → IsErrOf result (Unreached.Away page) → SomePlaceIn (in_world cpu.now (world_of bus.now)) address (length bytes.old) page }
     ensures unchanged { OnErr result (bytes.new ≡ bytes.old) }
 {
     whole(bus);

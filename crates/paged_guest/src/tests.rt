@@ -1,6 +1,6 @@
 //! Guests whose pages are supplied as steps and items need them. An instruction is written as the word that the manual encodes
 //! it to, with its text beside; what it leads to is worked out by hand.
-ghost use Rattle.std.specs.Prelude.{◌≡◌, ◌<◌, ℕ, false, length};
+ghost use Rattle.std.specs.Prelude.{◌≡◌, ◌<◌, ◌≤◌, ℕ, false, length};
 ghost use Rattle.elf32.specs.Images.{FitsPages};
 ghost use Rattle.items.specs.Items.{is_step};
 ghost use Rattle.physmap.specs.Holdings.{tickets_held};
@@ -275,6 +275,15 @@ impl Parts {
         (answer, bytes)
     }
 
+    /// The pages that so many bytes lie in.
+    fn pages_of(&self, address: u32, count: u32) -> Option<(u32, u32)>
+        requires some { 0 < count }
+        requires few { count ≤ 1024 }
+    {
+        let (first, last) = self.guest.debug_pages(address, count)?;
+        Some((first.number(), last.number()))
+    }
+
     fn close(self) {
         let Parts {
             guest,
@@ -522,6 +531,11 @@ fn read(rt: &impl Abort, parts: &Parts) {
     expect(rt, "untouched", parts.kind(rt, 3), PageKind::Zero);
     let answer = parts.two_bytes(0xc000_0000);
     expect(rt, "no place", answer, (Err(Refused::Machine), [0xa5; 2]));
+    let across = parts.pages_of(0x8000_1fff, 2);
+    expect(rt, "pages 1 and 2", across, Some((1, 2)));
+    let inside = parts.pages_of(0x8000_1000, 1024);
+    expect(rt, "page 1", inside, Some((1, 1)));
+    expect(rt, "no pages", parts.pages_of(0x8000_3fff, 2), None);
 }
 
 #[test]

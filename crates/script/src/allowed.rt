@@ -53,7 +53,7 @@ pub fn is_allowed(guests: &[GuestLine], slots: u32, event: &Event) -> bool
             ..
         } => { has_guest(guests, *guest) && *register <= LAST_REGISTER }
         Event::Write { guest, bytes, .. } => {
-            has_guest(guests, *guest) && bytes.len() <= MOST_BYTES
+            has_guest(guests, *guest) && 1 <= bytes.len() && bytes.len() <= MOST_BYTES
         }
         Event::Probe { guest, length, .. } => {
             has_guest(guests, *guest) && 1 <= *length && *length as usize <= MOST_BYTES

@@ -3,6 +3,7 @@ pub mod Booting
 pub mod Giving
 pub mod Keeping
 pub mod Moving
+pub mod Reached
 pub mod Runs
 pub mod Totals
 pub mod Victims

@@ -212,7 +212,7 @@ not_private pages (a ∷ xs) q p why here e = λ same. by (λ f. not_private pag
         absurd (cc)
 
 -- what only the pages that move do not touch
-moved_same : {Y : Type 0} (f : TenantIs → Y) → ((t : TenantIs) → f (beside_pages t) ≡ f t) → (ts ts' : List TenantIs) (g : ℕ) (d : TenantIs) → g < length ts → OnlyPagesMove ts ts'
+pub moved_same : {Y : Type 0} (f : TenantIs → Y) → ((t : TenantIs) → f (beside_pages t) ≡ f t) → (ts ts' : List TenantIs) (g : ℕ) (d : TenantIs) → g < length ts → OnlyPagesMove ts ts'
     → f (get_or ts' g d) ≡ f (get_or ts g d)
 moved_same f same ts ts' g d inside m =
     sym (map_at f ts' g d (f d) (still_inside ts ts' g inside m)) ∙ ap (λ (ys : List _). get_or ys g (f d)) (stays_beside f same ts ts' m) ∙ map_at f ts g d (f d) inside

@@ -1,7 +1,7 @@
 -- Pages that are needed, and frames for them.
-use Rattle.std.proofs.Common.{ℕ, zero, suc, ◌≡◌, ◌+◌, ◌<◌, inl, inr, true, false, List, [], ◌∷◌, ◌++◌, length, set, get_or, map, refl, sym, ap, subst, ◌∙◌, arith, Some, None}
-use Rattle.std.proofs.lemmas.Bool.{cases_lt}
-use Rattle.std.proofs.lemmas.List.{length-map, append-nil}
+use Rattle.std.proofs.Common.{ℕ, zero, suc, ◌≡◌, ◌≢◌, ◌+◌, ◌<◌, ◌≤◌, ◌==◌, ◌&&◌, ◌||◌, not, ne_eqb, length-set, inl, inr, Bool, true, false, Option, List, [], ◌∷◌, ◌++◌, length, set, get_or, map, refl, sym, ap, subst, ◌∙◌, arith, Some, None}
+use Rattle.std.proofs.lemmas.Bool.{cases_lt, cases_eq}
+use Rattle.std.proofs.lemmas.List.{length-map, append-nil, get_or-set_other}
 use Rattle.std.proofs.lemmas.Option.{same_Some, get_or_from_slice_get}
 use Rattle.std.proofs.lemmas.List.Sums.{sum_by-cons, sum_by-set}
 use Rattle.std.specs.List.{sum_by}
@@ -21,7 +21,8 @@ use Rattle.mips_step.specs.declared.access.Why.{Why}
 use Rattle.world.specs.Evictions.{IsEvicted}
 use Rattle.world.specs.Tenants.{TenantIs, pages_in, beside_pages}
 use Rattle.world.specs.Worlds.{Changes, PagesMove, items_of, boot_of, log_at}
-use Rattle.world.specs.Victims.{stat_of, NoneResident, OnlyPagesMove, all_resident}
+use Rattle.world.specs.declared.faulting.Spared.{Spared}
+use Rattle.world.specs.Victims.{stat_of, is_one_of, spared_of, may_leave, NoneResident, OnlyPagesMove, SparedStay, OtherSparedStay, all_resident}
 
 -- ---- resident pages
 
@@ -43,16 +44,102 @@ sum_zero : (f : Page → ℕ) (ps : List Page) → ((p : ℕ) → p < length ps 
 sum_zero f [] none = refl
 sum_zero f (q ∷ ps) none = omega (arith, sum_by-cons f q ps, none 0 (omega arith), sum_zero f ps (λ p h. none (suc p) (omega (arith, h))))
 
-pub none_at_all : (ps : List Page) (start : ℕ) → NoneResident ps start (length ps) → NoneResident ps 0 start → 0 < resident_pages ps → ⊥
-none_at_all ps start later before some =
-    omega (arith, some, sum_zero one_private ps (λ p h. (not_counted (page_at ps p) (none p h)).0), sum_zero one_shared ps (λ p h. (not_counted (page_at ps p) (none p h)).1))
+abbrev in_frame : Page → ℕ
+in_frame q = one_private q + one_shared q
+
+sum_of_both : (ps : List Page) → sum_by one_private ps + sum_by one_shared ps ≡ sum_by in_frame ps
+sum_of_both [] = refl
+sum_of_both (q ∷ ps) = omega (arith, sum_by-cons one_private q ps, sum_by-cons one_shared q ps, sum_by-cons in_frame q ps, sum_of_both ps)
+
+all_in_frames : (ps : List Page) → resident_pages ps ≡ sum_by in_frame ps
+all_in_frames ps = sum_of_both ps
+
+at_most_one : (q : Page) → in_frame q ≤ 1
+at_most_one page.Zero = omega arith
+at_most_one page.Given = omega arith
+at_most_one (page.Private frame) = omega arith
+at_most_one (page.Shared share ticket) = omega arith
+at_most_one (page.Swapped slot digest) = omega arith
+
+-- one page fewer is in a frame where one is taken away
+one_away : (ps : List Page) (a : ℕ) → sum_by in_frame ps ≤ sum_by in_frame (set ps a page.Zero) + 1
+one_away [] a = omega arith
+one_away (q ∷ ps) zero = omega (arith, sum_by-cons in_frame q ps, sum_by-cons in_frame page.Zero ps, at_most_one q)
+one_away (q ∷ ps) (suc a) = omega (arith, sum_by-cons in_frame q ps, sum_by-cons in_frame q (set ps a page.Zero), one_away ps a)
+
+taken : (ps : List Page) (a : ℕ) → page_at (set ps a page.Zero) a ≡ page.Zero
+taken [] a = refl
+taken (q ∷ ps) zero = refl
+taken (q ∷ ps) (suc a) = taken ps a
+
+none_but : (ps : List Page) (a : ℕ) (Rest : ℕ → Type 0) → ((p : ℕ) → Rest p → p ≢ a → in_frame (page_at ps p) ≡ 0) → (p : ℕ) → Rest p → in_frame (page_at (set ps a page.Zero) p) ≡ 0
+none_but ps a Rest none p rest =
+    elim (cases_eq p a) [
+      | inl e ↦ ap in_frame (ap (page_at (set ps a page.Zero)) e ∙ taken ps a)
+      | inr apart ↦ ap in_frame (get_or-set_other ps a p page.Zero page.Zero apart) ∙ none p rest apart
+    ]
+
+-- at most two pages are in frames where none is but two
+two_at_most : (ps : List Page) (a b : ℕ) → ((p : ℕ) → p < length ps → p ≢ a → p ≢ b → in_frame (page_at ps p) ≡ 0) → resident_pages ps ≤ 2
+two_at_most ps a b none =
+    let first = set ps a page.Zero in
+    let both = set first b page.Zero in
+    let long : length both ≡ length ps = length-set first b page.Zero ∙ length-set ps a page.Zero in
+    let left : sum_by in_frame both ≡ 0 =
+    sum_zero in_frame both (λ p h.
+    none_but first b (λ q. q < length ps) (λ q inside other.
+    none_but ps a (λ r. (r < length ps) × (r ≢ b)) (λ r rest apart. none r rest.0 apart rest.1) q (inside, other)) p (omega (arith, h, long))) in
+    omega (arith, all_in_frames ps, one_away ps a, one_away first b, left)
+
+stays_unless : (r x y : Bool) → (r && not (x || y)) ≡ false → x ≡ false → y ≡ false → r ≡ false
+stays_unless true x y e f g = absurd (cc)
+stays_unless false x y e f g = refl
+
+stays_alone : (r : Bool) → (r && not false) ≡ false → r ≡ false
+stays_alone true e = absurd (cc)
+stays_alone false e = refl
+
+not_in_frame : (q : Page) → is_resident (kind_of q) ≡ false → in_frame q ≡ 0
+not_in_frame q e = omega (arith, (not_counted q e).0, (not_counted q e).1)
+
+-- where more than two pages are in frames, one of them is not spared
+pub none_at_all : (spared : Option (ℕ × ℕ)) (ps : List Page) (start : ℕ) → NoneResident spared ps start (length ps) → NoneResident spared ps 0 start → 2 < resident_pages ps → ⊥
+none_at_all spared ps start later before some = by spared refl
   where
-    none : (p : ℕ) → p < length ps → is_resident (kind_at ps p) ≡ false
+    none : (p : ℕ) → p < length ps → may_leave spared ps p ≡ false
     none p h =
         elim (cases_lt p start) [
           | inl low ↦ before p (omega arith) low
           | inr high ↦ later p high h
         ]
+
+    by : (s : Option (ℕ × ℕ)) → spared ≡ s → ⊥
+    by None is =
+        omega (
+          arith,
+          some,
+          two_at_most ps 0 0 (λ p h a b. not_in_frame (page_at ps p) (stays_alone (is_resident (kind_at ps p)) (subst (λ (s : Option (ℕ × ℕ)). may_leave s ps p ≡ false) is (none p h)))),
+        )
+    by (Some pages) is =
+        omega (
+          arith,
+          some,
+          two_at_most ps pages.0 pages.1 (λ p h a b.
+              not_in_frame (page_at ps p)
+              (stays_unless (is_resident (kind_at ps p)) (pages.0 == p) (pages.1 == p) (subst (λ (s : Option (ℕ × ℕ)). may_leave s ps p ≡ false) is (none p h))
+              (ne_eqb pages.0 p (λ e. a (sym e))) (ne_eqb pages.1 p (λ e. b (sym e))))),
+        )
+
+both_true : (r s : Bool) → (r && not s) ≡ true → (r ≡ true) × (s ≡ false)
+both_true true true e = absurd (cc)
+both_true true false e = (refl, refl)
+both_true false s e = absurd (cc)
+
+pub leaves_resident : (spared : Option (ℕ × ℕ)) (ps : List Page) (p : ℕ) → may_leave spared ps p ≡ true → is_resident (kind_at ps p) ≡ true
+leaves_resident spared ps p e = (both_true (is_resident (kind_at ps p)) (is_one_of spared p) e).0
+
+leaves_apart : (spared : Option (ℕ × ℕ)) (ps : List Page) (p : ℕ) → may_leave spared ps p ≡ true → is_one_of spared p ≡ false
+leaves_apart spared ps p e = (both_true (is_resident (kind_at ps p)) (is_one_of spared p) e).1
 
 -- a page that has left its frame
 pub one_less : (p : ℕ) (ps ps' : List Page) (slots : FreeList) → p < length ps → IsEvicted p ps ps' slots → resident_pages ps' + 1 ≡ resident_pages ps
@@ -71,7 +158,7 @@ map_at f [] g d e inside = absurd (omega (arith, inside))
 map_at f (t ∷ ts) zero d e inside = refl
 map_at f (t ∷ ts) (suc g) d e inside = map_at f ts g d e (omega (arith, inside))
 
-some_tenant : (ts : List TenantIs) (g : ℕ) → g < length ts → TenantIs
+pub some_tenant : (ts : List TenantIs) (g : ℕ) → g < length ts → TenantIs
 some_tenant [] g inside = absurd (omega (arith, inside))
 some_tenant (t ∷ ts) g inside = t
 
@@ -108,6 +195,53 @@ fewer g p ts ts' slots inside c there evicted =
       sum_by-set (λ t. resident_pages (pages_in t)) ts g (get_or ts' g d) d inside,
       one_less p (pages_in (get_or ts g d)) (pages_in (get_or ts' g d)) slots (there d) (evicted d),
     )
+
+-- ---- pages that are spared
+
+no_true : true ≡ false → ⊥
+no_true e = cc
+
+-- the pages of another guest
+of_another : (g h q : ℕ) (ts ts' : List TenantIs) (t : TenantIs) → Changes PagesMove g ts ts' → h ≢ g → page_at (pages_in (get_or ts' h t)) q ≡ page_at (pages_in (get_or ts h t)) q
+of_another g h q ts ts' t c apart =
+    ap (λ (l : List TenantIs). page_at (pages_in (get_or l h t)) q) (c.one t) ∙ ap (λ (u : TenantIs). page_at (pages_in u) q) (get_or-set_other ts g h (get_or ts' g t) t apart)
+
+pub evicted_spares : (g p : ℕ) (ts ts' : List TenantIs) (slots : FreeList) (spared : Option Spared) → Changes PagesMove g ts ts'
+    → ((t : TenantIs) → may_leave (spared_of spared g) (pages_in (get_or ts g t)) p ≡ true)
+    → ((t : TenantIs) → IsEvicted p (pages_in (get_or ts g t)) (pages_in (get_or ts' g t)) slots) → SparedStay spared ts ts'
+evicted_spares g p ts ts' slots spared c leaves evicted = λ t h q is.
+    elim (cases_eq h g) [
+      | inl e ↦ same t h q is e
+      | inr apart ↦ of_another g h q ts ts' t c apart
+    ]
+  where
+    same : (t : TenantIs) (h q : ℕ) → is_one_of (spared_of spared h) q ≡ true → h ≡ g → page_at (pages_in (get_or ts' h t)) q ≡ page_at (pages_in (get_or ts h t)) q
+    same t h q is e =
+        let not_it : is_one_of (spared_of spared g) p ≡ false = leaves_apart (spared_of spared g) (pages_in (get_or ts g t)) p (leaves t) in
+        let it : is_one_of (spared_of spared g) q ≡ true = subst (λ (n : ℕ). is_one_of (spared_of spared n) q ≡ true) e is in
+        let other : q ≢ p = λ same. no_true (sym it ∙ ap (is_one_of (spared_of spared g)) same ∙ not_it) in
+        subst (λ (n : ℕ). page_at (pages_in (get_or ts' n t)) q ≡ page_at (pages_in (get_or ts n t)) q) (sym e)
+        (ap (λ (ps : List Page). page_at ps q) (evicted t).pages ∙ get_or-set_other (pages_in (get_or ts g t)) p q _ page.Zero other)
+
+pub spared_same : (spared : Option Spared) (ts ts' : List TenantIs) → ts' ≡ ts → SparedStay spared ts ts'
+spared_same spared ts ts' same = λ t h q is. ap (λ (l : List TenantIs). page_at (pages_in (get_or l h t)) q) same
+
+pub spared_then : (spared : Option Spared) (ts mid ts' : List TenantIs) → SparedStay spared ts mid → SparedStay spared mid ts' → SparedStay spared ts ts'
+spared_then spared ts mid ts' a b = λ t h q is. b t h q is ∙ a t h q is
+
+pub spared_others : (g p : ℕ) (spared : Option Spared) (ts ts' : List TenantIs) → SparedStay spared ts ts' → OtherSparedStay g p spared ts ts'
+spared_others g p spared ts ts' a = λ t h q apart is. a t h q is
+
+pub supplied_spares : (g p : ℕ) (spared : Option Spared) (ts mid ts' : List TenantIs) → SparedStay spared ts mid → Changes PagesMove g mid ts'
+    → ((t : TenantIs) (other : ℕ) → (other ≡ p → ⊥) → page_at (pages_in (get_or ts' g t)) other ≡ page_at (pages_in (get_or mid g t)) other) → OtherSparedStay g p spared ts ts'
+supplied_spares g p spared ts mid ts' a c others = λ t h q apart is.
+    elim (cases_eq h g) [
+      | inl e ↦ same t h q (apart e) e ∙ a t h q is
+      | inr away ↦ of_another g h q mid ts' t c away ∙ a t h q is
+    ]
+  where
+    same : (t : TenantIs) (h q : ℕ) → q ≢ p → h ≡ g → page_at (pages_in (get_or ts' h t)) q ≡ page_at (pages_in (get_or mid h t)) q
+    same t h q other e = subst (λ (n : ℕ). page_at (pages_in (get_or ts' n t)) q ≡ page_at (pages_in (get_or mid n t)) q) (sym e) (others t q other)
 
 -- ---- the victim
 

@@ -29,6 +29,14 @@ pub record AreBooted (log_runs : ℕ) (guests : List NewGuest) (tenants : List T
   pub each : (g : ℕ) (guest : NewGuest) (t : TenantIs) → g < length guests →
       IsBooted (slice_index_or guests g guest).image.value (slice_index_or guests g guest).pages (slice_index_or guests g guest).shares log_runs (slice_index_or tenants g t)
 
+-- the number by which the refusal of a world is known
+abbrev pub boot_number : BootError → ℕ
+boot_number Limits = 1
+boot_number Segment = 2
+boot_number Room = 3
+boot_number Store = 4
+boot_number Memory = 5
+
 -- why a world is not booted; the first that holds, in this order
 abbrev pub WhyNotBooted : Type 0 → Type 0 → BootError → Type 0
 WhyNotBooted within hold Limits = within → ⊥

@@ -1,5 +1,5 @@
 -- The items that events add to the logs of guests.
-use Rattle.std.specs.Prelude.{◌≡◌, ℕ, ◌==◌, if◌then◌else◌, false, Result, Ok, Err, Option, Some, None, List, [], ◌∷◌, ◌++◌, replicate, map, Contains, ◌≢◌}
+use Rattle.std.specs.Prelude.{◌≡◌, ℕ, ◌<◌, ◌≤◌, length, ◌==◌, if◌then◌else◌, false, Result, Ok, Err, Option, Some, None, List, [], ◌∷◌, ◌++◌, replicate, map, slice_index_or, Contains, ◌≢◌}
 use Rattle.frames.specs.FreeList.{FreeList}
 use Rattle.items.specs.declared.item.Item.{Item}
 use Rattle.items.specs.Entries.{step_by}
@@ -7,6 +7,7 @@ use Rattle.items.specs.Items.{is_step}
 use Rattle.guest_log.specs.declared.stop.Stop.{Stop}
 use Rattle.guest_log.specs.declared.stop.Stop.TheVariants as halt
 use Rattle.flatvm.specs.declared.reply.Reply.{Reply}
+use Rattle.flatvm.specs.Replies.{bytes_at}
 use Rattle.mips_step.specs.declared.access.StepOut.{StepOut}
 use Rattle.mips_step.specs.declared.access.StepOut.TheVariants as out
 use Rattle.mips_step.specs.Accesses.{Access, accesses}
@@ -25,14 +26,19 @@ use Rattle.world.specs.declared.running.End.{End}
 use Rattle.world.specs.declared.running.End.TheVariants as end
 use Rattle.world.specs.declared.running.RunStop.{RunStop}
 use Rattle.world.specs.declared.running.RunStop.TheVariants as stop
+use Rattle.world.specs.Debugging.{written_items}
 use Rattle.world.specs.Tenants.{TenantIs, pages_in}
 use Rattle.world.specs.Victims.{WhyLacking}
 use Rattle.world.specs.Worlds.{item_for}
 
--- an item that is to happen is no step
+-- an item that is to happen is no step, and a debugger reads and writes 1 to 1,024 bytes
 abbrev pub IsProper : Event → Type 0
 IsProper (event.Step g) = Unit {0}
+IsProper (event.Steps g count) = Unit {0}
+IsProper (event.Run g count) = Unit {0}
 IsProper (event.Input g item) = is_step item.what ≡ false
+IsProper (event.Probe g address count) = (0 < count) × (count ≤ 1024)
+IsProper (event.Write g address bytes) = (0 < length bytes.items) × (length bytes.items ≤ 1024)
 IsProper (event.Supply g p) = Unit {0}
 IsProper (event.Fault g) = Unit {0}
 IsProper (event.Evict g p) = Unit {0}
@@ -46,12 +52,31 @@ step_items h g (Err stop) = []
 
 abbrev pub items_stepped : ℕ → ℕ → Answer → List Item
 items_stepped h g (answer.Stepped stepped) = step_items h g stepped
+items_stepped h g (answer.Ran ran) = []
 items_stepped h g (answer.Input done) = []
+items_stepped h g (answer.Probed done) = []
+items_stepped h g (answer.Written done) = []
 items_stepped h g (answer.Supplied done) = []
 items_stepped h g (answer.Faulted done) = []
 items_stepped h g (answer.Evicted done) = []
 items_stepped h g (answer.Scanned scan) = []
 items_stepped h g answer.Nowhere = []
+
+-- so many steps by seat 0, where the guest is the one that made them
+abbrev pub steps_for : ℕ → ℕ → ℕ → List Item
+steps_for h g count = if h == g then replicate count (step_by 0) else []
+
+abbrev pub items_ran : ℕ → ℕ → Answer → List Item
+items_ran h g (answer.Ran ran) = steps_for h g ran.steps
+items_ran h g (answer.Stepped stepped) = []
+items_ran h g (answer.Input done) = []
+items_ran h g (answer.Probed done) = []
+items_ran h g (answer.Written done) = []
+items_ran h g (answer.Supplied done) = []
+items_ran h g (answer.Faulted done) = []
+items_ran h g (answer.Evicted done) = []
+items_ran h g (answer.Scanned scan) = []
+items_ran h g answer.Nowhere = []
 
 -- an item that is accepted
 abbrev pub input_items : ℕ → ℕ → Item → Result Reply Refused → List Item
@@ -61,21 +86,51 @@ input_items h g item (Err refused) = []
 abbrev pub items_input : ℕ → ℕ → Item → Answer → List Item
 items_input h g item (answer.Input done) = input_items h g item done
 items_input h g item (answer.Stepped stepped) = []
+items_input h g item (answer.Ran ran) = []
+items_input h g item (answer.Probed done) = []
+items_input h g item (answer.Written done) = []
 items_input h g item (answer.Supplied done) = []
 items_input h g item (answer.Faulted done) = []
 items_input h g item (answer.Evicted done) = []
 items_input h g item (answer.Scanned scan) = []
 items_input h g item answer.Nowhere = []
 
--- The items that an event adds to the log of guest h, by its answer: a step that is made, and an item that is accepted, where the
--- event was that guest's. No other event adds any.
+-- a write that is made is an item of seat 3
+abbrev pub items_written : ℕ → ℕ → ℕ → List ℕ → Answer → List Item
+items_written h g address bytes (answer.Written done) = written_items h g address bytes done
+items_written h g address bytes (answer.Stepped stepped) = []
+items_written h g address bytes (answer.Ran ran) = []
+items_written h g address bytes (answer.Input done) = []
+items_written h g address bytes (answer.Probed done) = []
+items_written h g address bytes (answer.Supplied done) = []
+items_written h g address bytes (answer.Faulted done) = []
+items_written h g address bytes (answer.Evicted done) = []
+items_written h g address bytes (answer.Scanned scan) = []
+items_written h g address bytes answer.Nowhere = []
+
+-- The items that an event adds to the log of guest h, by its answer: steps that are made, an item that is accepted, and a write that is
+-- made, where the event was that guest's. No other event adds any.
 abbrev pub own_items : ℕ → Event → Answer → List Item
 own_items h (event.Step g) a = items_stepped h g a
+own_items h (event.Steps g count) a = items_ran h g a
+own_items h (event.Run g count) a = items_ran h g a
 own_items h (event.Input g item) a = items_input h g item a
+own_items h (event.Probe g address count) a = []
+own_items h (event.Write g address bytes) a = items_written h g address bytes.items a
 own_items h (event.Supply g p) a = []
 own_items h (event.Fault g) a = []
 own_items h (event.Evict g p) a = []
 own_items h (event.Scan g p) a = []
+
+-- the bytes that are read of a guest are those of its view
+abbrev pub IsOfView : List TenantIs → ℕ → ℕ → ℕ → Answer → Type 0
+IsOfView tenants g address count (answer.Probed (Ok bytes)) = (t : TenantIs) → bytes_at (view_of (slice_index_or tenants g t).guest) address count ≡ Some bytes.items
+IsOfView tenants g address count _ = Unit {0}
+
+-- what is answered to a debugger that reads
+abbrev pub IsProbed : List TenantIs → Event → Answer → Type 0
+IsProbed tenants (event.Probe g address count) a = IsOfView tenants g address count a
+IsProbed tenants _ a = Unit {0}
 
 -- the items that events add to the log of guest h, in order
 abbrev pub own : ℕ → List Event → List Answer → List Item
@@ -83,11 +138,7 @@ own h [] answers = []
 own h (e ∷ events) [] = []
 own h (e ∷ events) (a ∷ answers) = own_items h e a ++ own h events answers
 
--- ---- many steps
-
--- so many steps by seat 0, where the guest is the one that made them
-abbrev pub steps_for : ℕ → ℕ → ℕ → List Item
-steps_for h g count = if h == g then replicate count (step_by 0) else []
+-- ---- how many steps end
 
 -- how a run of steps ends at what a step is answered: not at all where the step is made
 abbrev pub end_at : Result StepOut Stop → Option End

@@ -1,4 +1,5 @@
 pub mod Boots
+pub mod Debugging
 pub mod Events
 pub mod Evictions
 pub mod Lent

@@ -1,16 +1,17 @@
 -- Which page leaves its frame so that another gets one.
-use Rattle.std.specs.Prelude.{◌≡◌, ℕ, ◌%◌, ◌<◌, ◌≤◌, ◌⊎◌, true, false, List, [], Some, All, length, map, sum_by, slice_index_or}
+use Rattle.std.specs.Prelude.{◌≡◌, ◌≢◌, ℕ, ◌%◌, ◌<◌, ◌≤◌, ◌⊎◌, Bool, true, false, ◌==◌, ◌&&◌, ◌||◌, not, if◌then◌else◌, List, [], Option, Some, None, All, length, map, sum_by, slice_index_or}
 use Rattle.std.proofs.Common.{lit<, lit≤}
 use Rattle.rand_core.specs.Stream.{Stream, next_u32}
 use Rattle.dev_balloon.specs.Balloon.{given_count}
 use Rattle.frames.specs.FreeList.{FreeList}
 use Rattle.physmap.specs.declared.page.Page.{Page}
-use Rattle.physmap.specs.Pages.{kind_at, is_resident}
+use Rattle.physmap.specs.Pages.{page_at, kind_at, is_resident}
 use Rattle.physmap.specs.Holdings.{resident_pages}
 use Rattle.taxpolicy.specs.declared.stat.Stat.{Stat}
 use Rattle.taxpolicy.specs.Victim.{IsEligible, victim_of}
 use Rattle.world.specs.Evictions.{IsEvicted}
 use Rattle.world.specs.Tenants.{TenantIs, pages_in, beside_pages}
+use Rattle.world.specs.declared.faulting.Spared.{Spared}
 use Rattle.world.specs.declared.faulting.FaultError.{FaultError}
 use Rattle.world.specs.declared.faulting.FaultError.TheVariants.{NoFrame, NoSwap, SwapRead, SwapDamaged, Memory}
 
@@ -28,28 +29,53 @@ stat_of t = record {
   touched = lit≤ tt;
 }
 
--- no page from one number on to below another is in a frame
-abbrev pub NoneResident : List Page → ℕ → ℕ → Type 0
-NoneResident pages from to = (p : ℕ) → from ≤ p → p < to → is_resident (kind_at pages p) ≡ false
+-- whether a page is one of two
+abbrev pub is_one_of : Option (ℕ × ℕ) → ℕ → Bool
+is_one_of None p = false
+is_one_of (Some pages) p = pages.0 == p || pages.1 == p
 
--- the first page at or after a place that is in a frame, going round
-pub record IsNextResident (pages : List Page) (start p : ℕ) : Type 0 where
+-- the pages of a guest that are spared
+abbrev pub spared_of : Option Spared → ℕ → Option (ℕ × ℕ)
+spared_of None g = None
+spared_of (Some spared) g = if spared.guest == g then Some spared.pages else None
+
+-- whether a page may leave its frame: it is in one, and is not spared
+abbrev pub may_leave : Option (ℕ × ℕ) → List Page → ℕ → Bool
+may_leave spared pages p = is_resident (kind_at pages p) && not (is_one_of spared p)
+
+-- no page from one number on to below another is in a frame, but for those that are spared
+abbrev pub NoneResident : Option (ℕ × ℕ) → List Page → ℕ → ℕ → Type 0
+NoneResident spared pages from to = (p : ℕ) → from ≤ p → p < to → may_leave spared pages p ≡ false
+
+-- the first page at or after a place that is in a frame and is not spared, going round
+pub record IsNextResident (spared : Option (ℕ × ℕ)) (pages : List Page) (start p : ℕ) : Type 0 where
   pub there : p < length pages
-  pub resident : is_resident (kind_at pages p) ≡ true
-  pub first : ((start ≤ p) × NoneResident pages start p) ⊎ ((p < start) × NoneResident pages start (length pages) × NoneResident pages 0 p)
+  pub leaves : may_leave spared pages p ≡ true
+  pub first : ((start ≤ p) × NoneResident spared pages start p) ⊎ ((p < start) × NoneResident spared pages start (length pages) × NoneResident spared pages 0 p)
 
--- The victim of the guests has lost a page: the first resident one at or after the generator's next word modulo its pages.
-pub record IsPolicys (tax : ℕ) (words : Stream) (tenants tenants' : List TenantIs) (slots : FreeList) : Type 0 where
+-- The victim of the guests has lost a page: the first resident one at or after the generator's next word modulo its pages, but for
+-- those that are spared.
+pub record IsPolicys (tax : ℕ) (words : Stream) (spared : Option Spared) (tenants tenants' : List TenantIs) (slots : FreeList) : Type 0 where
   pub g : ℕ
   pub p : ℕ
   pub victim : victim_of tax (map stat_of tenants) ≡ Some g
-  pub page : (t : TenantIs) → IsNextResident (pages_in (slice_index_or tenants g t)) ((next_u32 words).0 % length (pages_in (slice_index_or tenants g t))) p
+  pub page : (t : TenantIs) → IsNextResident (spared_of spared g) (pages_in (slice_index_or tenants g t)) ((next_u32 words).0 % length (pages_in (slice_index_or tenants g t))) p
   pub evicted : (t : TenantIs) → IsEvicted p (pages_in (slice_index_or tenants g t)) (pages_in (slice_index_or tenants' g t)) slots
 
 -- of the guests only pages have moved: their logs, and so their views, are as before, and each has as many pages
 pub record OnlyPagesMove (tenants tenants' : List TenantIs) : Type 0 where
   pub beside : map beside_pages tenants' ≡ map beside_pages tenants
   pub counts : map (λ t. length (pages_in t)) tenants' ≡ map (λ t. length (pages_in t)) tenants
+
+-- each page that is spared is as before
+abbrev pub SparedStay : Option Spared → List TenantIs → List TenantIs → Type 0
+SparedStay spared tenants tenants' = (t : TenantIs) (h q : ℕ) → is_one_of (spared_of spared h) q ≡ true →
+    page_at (pages_in (slice_index_or tenants' h t)) q ≡ page_at (pages_in (slice_index_or tenants h t)) q
+
+-- and so is each but for one page of one guest
+abbrev pub OtherSparedStay : ℕ → ℕ → Option Spared → List TenantIs → List TenantIs → Type 0
+OtherSparedStay g p spared tenants tenants' = (t : TenantIs) (h q : ℕ) → (h ≡ g → q ≢ p) → is_one_of (spared_of spared h) q ≡ true →
+    page_at (pages_in (slice_index_or tenants' h t)) q ≡ page_at (pages_in (slice_index_or tenants h t)) q
 
 -- how many pages of all guests are in frames
 abbrev pub all_resident : List TenantIs → ℕ

@@ -1,7 +1,7 @@
 //! The events of a world, one after another.
 ghost use Rattle.std.specs.Prelude.{◌≡◌};
 
-use crate::{Answer, Event, World};
+use crate::{Answer, DebugError, Event, RunStop, World};
 use items::Item;
 use rand_core::Rng;
 use std::alloc::{AllocError, Global};
@@ -10,11 +10,11 @@ use taxpolicy::Tax;
 use word32::Ppn;
 
 impl<S: SwapStore> World<S> {
-    ghost use Rattle.std.specs.Prelude.{◌≡◌, ◌↔◌, ◌++◌, ℕ, [], false, All, IfOk, OnErr, length, map};
+    ghost use Rattle.std.specs.Prelude.{◌≡◌, ◌↔◌, ◌<◌, ◌≤◌, ◌++◌, ℕ, [], false, All, IfOk, OnErr, length, map};
     ghost use Rattle.items.specs.declared.item.Item.{Item};
     ghost use Rattle.items.specs.Items.{is_step};
     ghost use Rattle.world.specs.declared.events.Event.{Event};
-    ghost use Rattle.world.specs.Events.{IsProper, items_stepped, items_input, own_items, own};
+    ghost use Rattle.world.specs.Events.{IsProper, items_stepped, items_ran, items_input, items_written, own_items, own, IsOfView, IsProbed};
     ghost use Rattle.world.specs.Worlds.{boot_of, log_at};
 
     fn apply_step(&mut self, g: usize) -> Answer
@@ -30,6 +30,41 @@ impl<S: SwapStore> World<S> {
         }
     }
 
+    fn apply_steps(&mut self, g: usize, count: u32) -> Answer
+        ensures logs { (h : ℕ) → log_at self.new.tenants h ≡ log_at self.old.tenants h ++ items_ran h g result }
+        ensures boots { map boot_of self.new.tenants ≡ map boot_of self.old.tenants }
+        ensures store { self.new.store ≡ self.old.store }
+        ensures frames { self.new.frames ≡ self.old.frames }
+    {
+        if g < self.count() {
+            Answer::Ran(self.steps(g, count))
+        } else {
+            Answer::Nowhere
+        }
+    }
+
+    fn apply_run<R: Rng>(
+        &mut self,
+        alloc: Global,
+        g: usize,
+        count: u32,
+        tax: Tax,
+        rng: &mut R,
+    ) -> Answer
+        ensures logs { (h : ℕ) → log_at self.new.tenants h ≡ log_at self.old.tenants h ++ items_ran h g result }
+        ensures boots { map boot_of self.new.tenants ≡ map boot_of self.old.tenants }
+        ensures frames { self.new.frames ≡ self.old.frames }
+        ensures slots { S.slots self.new.store ≡ S.slots self.old.store }
+        ensures honest { S.honest self.new.store ↔ S.honest self.old.store }
+        ensures true_to_digests { S.true_to_digests self.new.store ↔ S.true_to_digests self.old.store }
+    {
+        if g < self.count() {
+            Answer::Ran(self.run_steps(alloc, g, count, tax, rng))
+        } else {
+            Answer::Nowhere
+        }
+    }
+
     fn apply_input(&mut self, g: usize, item: Item) -> Answer
         requires { is_step item.what ≡ false }
         ensures logs { (h : ℕ) → log_at self.new.tenants h ≡ log_at self.old.tenants h ++ items_input h g item result }
@@ -39,6 +74,62 @@ impl<S: SwapStore> World<S> {
     {
         if g < self.count() {
             Answer::Input(self.input(g, item))
+        } else {
+            Answer::Nowhere
+        }
+    }
+
+    fn apply_probe<R: Rng>(
+        &mut self,
+        alloc: Global,
+        g: usize,
+        address: u32,
+        count: u32,
+        tax: Tax,
+        rng: &mut R,
+    ) -> Answer
+        requires some { 0 < count }
+        requires few { count ≤ 1024 }
+        ensures logs { (h : ℕ) → log_at self.new.tenants h ≡ log_at self.old.tenants h ++ [] }
+        ensures probed { S.true_to_digests self.old.store → IsOfView self.old.tenants g address count result }
+        ensures boots { map boot_of self.new.tenants ≡ map boot_of self.old.tenants }
+        ensures frames { self.new.frames ≡ self.old.frames }
+        ensures slots { S.slots self.new.store ≡ S.slots self.old.store }
+        ensures honest { S.honest self.new.store ↔ S.honest self.old.store }
+        ensures true_to_digests { S.true_to_digests self.new.store ↔ S.true_to_digests self.old.store }
+    {
+        if g >= self.count() {
+            return Answer::Nowhere;
+        }
+        let Ok(mut bytes) = vec![in alloc; 0; count as usize] else {
+            return Answer::Probed(Err(DebugError::Stop(RunStop::Memory)));
+        };
+        match self.debug_read(alloc, g, address, bytes.as_mut_slice(), tax, rng) {
+            Ok(()) => Answer::Probed(Ok(bytes)),
+            Err(error) => Answer::Probed(Err(error)),
+        }
+    }
+
+    fn apply_write<R: Rng>(
+        &mut self,
+        alloc: Global,
+        g: usize,
+        address: u32,
+        bytes: Vec<u8>,
+        tax: Tax,
+        rng: &mut R,
+    ) -> Answer
+        requires some { 0 < length bytes.items }
+        requires few { length bytes.items ≤ 1024 }
+        ensures logs { (h : ℕ) → log_at self.new.tenants h ≡ log_at self.old.tenants h ++ items_written h g address bytes.items result }
+        ensures boots { map boot_of self.new.tenants ≡ map boot_of self.old.tenants }
+        ensures frames { self.new.frames ≡ self.old.frames }
+        ensures slots { S.slots self.new.store ≡ S.slots self.old.store }
+        ensures honest { S.honest self.new.store ↔ S.honest self.old.store }
+        ensures true_to_digests { S.true_to_digests self.new.store ↔ S.true_to_digests self.old.store }
+    {
+        if g < self.count() {
+            Answer::Written(self.debug_write(alloc, g, address, bytes, tax, rng))
         } else {
             Answer::Nowhere
         }
@@ -106,11 +197,13 @@ impl<S: SwapStore> World<S> {
         Answer::Scanned(self.scan(g, p))
     }
 
-    /// One event. Its items are added to its guest's log, and no other log changes; the machines that the guests booted stay. The tax
-    /// and the generator are those of `evict_one`, which a fault may call.
+    /// One event. Its items are added to its guest's log, and no other log changes; the machines that the guests booted stay. The bytes
+    /// that a debugger reads are those of the guest's view. The tax and the generator are those of `evict_one`, which may be called
+    /// where a page gets a frame.
     pub fn apply<R: Rng>(&mut self, alloc: Global, event: Event, tax: Tax, rng: &mut R) -> Answer
         requires { IsProper event }
         ensures logs { (h : ℕ) → log_at self.new.tenants h ≡ log_at self.old.tenants h ++ own_items h event result }
+        ensures probed { S.true_to_digests self.old.store → IsProbed self.old.tenants event result }
         ensures boots { map boot_of self.new.tenants ≡ map boot_of self.old.tenants }
         ensures frames { self.new.frames ≡ self.old.frames }
         ensures slots { S.slots self.new.store ≡ S.slots self.old.store }
@@ -119,7 +212,15 @@ impl<S: SwapStore> World<S> {
     {
         match event {
             Event::Step(g) => self.apply_step(g),
+            Event::Steps(g, count) => self.apply_steps(g, count),
+            Event::Run(g, count) => self.apply_run(alloc, g, count, tax, rng),
             Event::Input(g, item) => self.apply_input(g, item),
+            Event::Probe(g, address, count) => {
+                self.apply_probe(alloc, g, address, count, tax, rng)
+            }
+            Event::Write(g, address, bytes) => {
+                self.apply_write(alloc, g, address, bytes, tax, rng)
+            }
             Event::Supply(g, p) => self.apply_supply(alloc, g, p),
             Event::Fault(g) => self.apply_fault(alloc, g, tax, rng),
             Event::Evict(g, p) => self.apply_evict(g, p),
@@ -128,7 +229,7 @@ impl<S: SwapStore> World<S> {
     }
 
     /// Events, one after another, and what each was answered. After them the log of each guest is the one before with the items of
-    /// its own events that were done: its steps that were made, and its items that were accepted. So whatever else happens in the
+    /// its own events that were done: its steps and writes that were made, and its items that were accepted. So whatever else happens in the
     /// world, each guest's view is the run of its own items; and the books are exact (`is_sound`).
     ///
     /// `AllocError` where there is no memory for the answers: nothing has happened then.

@@ -58,8 +58,9 @@ fn each_holds_image(guests: &[NewGuest]) -> bool
     guests.iter().all(|guest| guest.holds_image())
 }
 
-// Whether the numbers of a world and of its guests are within their limits.
-fn are_within_limits(config: Config, slots: u32, guests: &[NewGuest]) -> bool
+/// Whether the numbers of a world with so many slots, and those of its guests, are within their limits; else `World::boot` refuses
+/// them.
+pub fn are_within_limits(config: Config, slots: u32, guests: &[NewGuest]) -> bool
     ensures { IsTrue result ↔ AreWithinLimits config.frames slots config.log_runs guests.now }
 {
     (1..=16).contains(&guests.len())
@@ -121,7 +122,8 @@ impl<S: SwapStore> World<S> {
         ensures honest { IfOk result (λ w. S.honest w.store ↔ S.honest store) }
         ensures true_to_digests { IfOk result (λ w. S.true_to_digests w.store ↔ S.true_to_digests store) }
         ensures within { IfOk result (λ w. AreWithinLimits config.frames (S.slots store) config.log_runs guests.items × All HoldsImage guests.items) }
-        ensures err { IfErr result (λ refused. WhyNotBooted (AreWithinLimits config.frames (S.slots store) config.log_runs guests.items) (All HoldsImage guests.items) refused.0) }
+        ensures err { IfErr result
+            (λ refused. WhyNotBooted (AreWithinLimits config.frames (S.slots store) config.log_runs guests.items) (All HoldsImage guests.items) refused.0) }
         ensures back { IfErr result (λ refused. (S.slots refused.1 ≡ S.slots store) × (S.honest refused.1 ↔ S.honest store)) }
     {
         if !are_within_limits(config, store.slot_count(), &guests) {

@@ -1,5 +1,5 @@
 //! What may happen in a world, and what is answered.
-use crate::{EvictError, Evicted, FaultError};
+use crate::{DebugError, EvictError, Evicted, FaultError, Ran};
 use flatvm::Reply;
 use items::Item;
 use mips_step::StepOut;
@@ -12,8 +12,16 @@ use word32::Ppn;
 pub enum Event {
     /// A guest is to make one step.
     Step(usize),
+    /// A guest is to make at most so many steps, with no page supplied.
+    Steps(usize, u32),
+    /// A guest is to make at most so many steps, with the pages that they need supplied.
+    Run(usize, u32),
     /// An item of one of a guest's seats is to happen to it, which is no step.
     Input(usize, Item),
+    /// So many bytes of a guest are to be read for a debugger from a virtual address on, 1 to 1,024 of them.
+    Probe(usize, u32, u32),
+    /// These bytes, 1 to 1,024 of them, are to be written to a guest for a debugger from a virtual address on.
+    Write(usize, u32, Vec<u8>),
     /// A page of a guest is to get a frame of its own.
     Supply(usize, Ppn),
     /// The page that a guest's next step needs is to get a frame of its own, if need be a victim's.
@@ -29,8 +37,14 @@ pub enum Event {
 pub enum Answer {
     /// What the step of the guest answered.
     Stepped(Result<StepOut, Stop>),
+    /// How many steps were made, and how they ended.
+    Ran(Ran),
     /// What the guest replied to the item, or why it was refused.
     Input(Result<Reply, Refused>),
+    /// The bytes that were read, or why they were not.
+    Probed(Result<Vec<u8>, DebugError>),
+    /// The bytes are written, or why not.
+    Written(Result<(), DebugError>),
     /// The page is supplied, or why not.
     Supplied(Result<(), SupplyError>),
     /// The page that was needed is supplied, or none was needed; or why not.

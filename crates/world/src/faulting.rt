@@ -1,10 +1,9 @@
 //! Pages that guests need, and frames for them.
 ghost use Rattle.std.specs.Prelude.{◌≡◌, ◌%◌, ◌<◌, ◌≤◌, ℕ, true, IfSome, IfNone, IfOk, length, map};
 ghost use Rattle.rand_core.specs.Stream.{next_u32};
-ghost use Rattle.physmap.specs.Pages.{kind_at, is_resident};
 ghost use Rattle.physmap.specs.Holdings.{resident_pages};
 ghost use Rattle.world.specs.Tenants.{TenantIs, pages_in};
-ghost use Rattle.world.specs.Victims.{stat_of, NoneResident, IsNextResident};
+ghost use Rattle.world.specs.Victims.{stat_of, is_one_of, spared_of, may_leave, NoneResident, IsNextResident};
 
 use crate::{EvictError, Tenant, World};
 use paging::{Pages, SupplyError};
@@ -29,47 +28,88 @@ pub enum FaultError {
     Memory,
 }
 
-// The first page from one number on to below another that is in a frame.
-fn first_resident(tenant: &Tenant, from: u32, to: u32) -> Option<Ppn>
+/// Pages of a guest that no eviction takes.
+#[derive(Clone, Copy, Debug, PartialEq, Eq)]
+pub struct Spared {
+    /// The guest's number.
+    pub guest: usize,
+    /// Its pages, one of them twice where it is the only one.
+    pub pages: (Ppn, Ppn),
+}
+
+// The pages of a guest that are spared.
+fn spared_of(spared: &Option<Spared>, g: usize) -> Option<(Ppn, Ppn)>
+    ensures { result ≡ spared_of spared.now g }
+{
+    match spared {
+        None => None,
+        Some(spared) => if spared.guest == g {
+            Some(spared.pages)
+        } else {
+            None
+        },
+    }
+}
+
+// Whether a page is one of two.
+fn is_one_of(pages: &Option<(Ppn, Ppn)>, p: Ppn) -> bool
+    ensures { result ≡ is_one_of pages.now p }
+{
+    match pages {
+        None => false,
+        Some(pages) => pages.0.number() == p.number() || pages.1.number() == p.number(),
+    }
+}
+
+// Whether a page is in a frame and is not spared.
+fn may_leave(tenant: &Tenant, spared: &Option<(Ppn, Ppn)>, p: Ppn) -> bool
+    requires { p < length (pages_in tenant.now) }
+    ensures { result ≡ may_leave spared.now (pages_in tenant.now) p }
+{
+    tenant.kind(p).is_resident() && !is_one_of(spared, p)
+}
+
+// The first page from one number on to below another that is in a frame, but for those that are spared.
+fn first_resident(tenant: &Tenant, spared: &Option<(Ppn, Ppn)>, from: u32, to: u32) -> Option<Ppn>
     requires { to ≤ length (pages_in tenant.now) }
     ensures within { IfSome result (λ p. (from ≤ p) × (p < to)) }
-    ensures resident { IfSome result (λ p. is_resident (kind_at (pages_in tenant.now) p) ≡ true) }
-    ensures first { IfSome result (λ p. NoneResident (pages_in tenant.now) from p) }
-    ensures none { IfNone result (NoneResident (pages_in tenant.now) from to) }
+    ensures leaves { IfSome result (λ p. may_leave spared.now (pages_in tenant.now) p ≡ true) }
+    ensures first { IfSome result (λ p. NoneResident spared.now (pages_in tenant.now) from p) }
+    ensures none { IfNone result (NoneResident spared.now (pages_in tenant.now) from to) }
 {
     let _count = tenant.page_count();
     for p in from..to {
         let page = Ppn::new(p);
-        if tenant.kind(page).is_resident() {
+        if may_leave(tenant, spared, page) {
             return Some(page);
         }
     }
     None
 }
 
-// The first page at or after one that is in a frame, going round.
-fn next_resident(tenant: &Tenant, start: u32) -> Ppn
+// The first page at or after one that is in a frame, going round, but for those that are spared.
+fn next_resident(tenant: &Tenant, spared: &Option<(Ppn, Ppn)>, start: u32) -> Ppn
     requires start { start < length (pages_in tenant.now) }
-    requires some { 0 < resident_pages (pages_in tenant.now) }
-    ensures { IsNextResident (pages_in tenant.now) start result }
+    requires some { 2 < resident_pages (pages_in tenant.now) }
+    ensures { IsNextResident spared.now (pages_in tenant.now) start result }
 {
-    if let Some(page) = first_resident(tenant, start, tenant.page_count()) {
+    if let Some(page) = first_resident(tenant, spared, start, tenant.page_count()) {
         return page;
     }
-    match first_resident(tenant, 0, start) {
+    match first_resident(tenant, spared, 0, start) {
         Some(page) => page,
         None => unreachable!(),
     }
 }
 
-// A page of a guest's for the generator's next word.
-fn drawn_page<R: Rng>(tenant: &Tenant, rng: &mut R) -> Ppn
-    requires { 0 < resident_pages (pages_in tenant.now) }
-    ensures page { IsNextResident (pages_in tenant.now) ((next_u32 (R.stream rng.old)).0 % length (pages_in tenant.now)) result }
+// A page of a guest's for the generator's next word, but for those that are spared.
+fn drawn_page<R: Rng>(tenant: &Tenant, spared: &Option<(Ppn, Ppn)>, rng: &mut R) -> Ppn
+    requires { 2 < resident_pages (pages_in tenant.now) }
+    ensures page { IsNextResident spared.now (pages_in tenant.now) ((next_u32 (R.stream rng.old)).0 % length (pages_in tenant.now)) result }
     ensures rest { R.stream rng.new ≡ (next_u32 (R.stream rng.old)).1 }
 {
     let _resident = tenant.resident();
-    next_resident(tenant, rng.next_u32() % tenant.page_count())
+    next_resident(tenant, spared, rng.next_u32() % tenant.page_count())
 }
 
 // What the policy knows of each guest.
@@ -93,7 +133,7 @@ impl<S: SwapStore> World<S> {
     ghost use Rattle.physmap.specs.Pages.{kind_at};
     ghost use Rattle.swapstore.specs.Failures.{one_more};
     ghost use Rattle.world.specs.Tenants.{TenantIs, pages_in};
-    ghost use Rattle.world.specs.Victims.{stat_of, IsPolicys, OnlyPagesMove, WhyLacking, all_resident};
+    ghost use Rattle.world.specs.Victims.{stat_of, IsPolicys, OnlyPagesMove, SparedStay, OtherSparedStay, WhyLacking, all_resident};
 
     /// A page of the policy's victim leaves its frame for a slot: of the guests with more than two resident pages the victim is the
     /// one of the least ratio of shares to pages, taxed for idle ones, and its page is the first resident one at or after the
@@ -109,9 +149,35 @@ impl<S: SwapStore> World<S> {
     ) -> Result<(), FaultError>
         requires { self.old.pool.free ≡ [] }
         ensures moves { OnlyPagesMove self.old.tenants self.new.tenants }
-        ensures policy { OnOk result (IsPolicys tax.percent (R.stream rng.old) self.old.tenants self.new.tenants self.old.slots) }
+        ensures policy { OnOk result (IsPolicys tax.percent (R.stream rng.old) None self.old.tenants self.new.tenants self.old.slots) }
         ensures fewer { OnOk result (all_resident self.new.tenants + 1 ≡ all_resident self.old.tenants) }
-        ensures err { IfErr result (WhyLacking self.new.pool self.new.slots (map stat_of self.new.tenants) (S.failed self.new.store ≡ one_more (S.failed self.old.store)) ⊥) }
+        ensures err { IfErr result
+            (WhyLacking self.new.pool self.new.slots (map stat_of self.new.tenants) (S.failed self.new.store ≡ one_more (S.failed self.old.store)) ⊥) }
+        ensures no_failure { OnOk result (S.failed self.new.store ≡ S.failed self.old.store) }
+        ensures hints { self.new.shares.hints ≡ self.old.shares.hints }
+        ensures frames { self.new.frames ≡ self.old.frames }
+        ensures slots { S.slots self.new.store ≡ S.slots self.old.store }
+        ensures honest { S.honest self.new.store ↔ S.honest self.old.store }
+        ensures true_to_digests { S.true_to_digests self.new.store ↔ S.true_to_digests self.old.store }
+    {
+        self.evict_sparing(alloc, &None, tax, rng)
+    }
+
+    // A page of the policy's victim leaves its frame for a slot, as by `evict_one`, but for the pages that are spared.
+    fn evict_sparing<R: Rng>(
+        &mut self,
+        alloc: Global,
+        spared: &Option<Spared>,
+        tax: Tax,
+        rng: &mut R,
+    ) -> Result<(), FaultError>
+        requires { self.old.pool.free ≡ [] }
+        ensures moves { OnlyPagesMove self.old.tenants self.new.tenants }
+        ensures policy { OnOk result (IsPolicys tax.percent (R.stream rng.old) spared.now self.old.tenants self.new.tenants self.old.slots) }
+        ensures spared { SparedStay spared.now self.old.tenants self.new.tenants }
+        ensures fewer { OnOk result (all_resident self.new.tenants + 1 ≡ all_resident self.old.tenants) }
+        ensures err { IfErr result
+            (WhyLacking self.new.pool self.new.slots (map stat_of self.new.tenants) (S.failed self.new.store ≡ one_more (S.failed self.old.store)) ⊥) }
         ensures no_failure { OnOk result (S.failed self.new.store ≡ S.failed self.old.store) }
         ensures hints { self.new.shares.hints ≡ self.old.shares.hints }
         ensures frames { self.new.frames ≡ self.old.frames }
@@ -125,7 +191,7 @@ impl<S: SwapStore> World<S> {
         let Some(g) = victim(&stats, tax) else {
             return Err(FaultError::NoFrame);
         };
-        let p = drawn_page(self.guest(g), rng);
+        let p = drawn_page(self.guest(g), &spared_of(spared, g), rng);
         match self.evict_of(g, p) {
             Ok(()) => Ok(()),
             Err(EvictError::NoSwap) => Err(FaultError::NoSwap),
@@ -133,11 +199,19 @@ impl<S: SwapStore> World<S> {
         }
     }
 
-    // Pages of victims leave their frames until one is free.
-    fn make_room<R: Rng>(&mut self, alloc: Global, tax: Tax, rng: &mut R) -> Result<(), FaultError>
+    // Pages of victims leave their frames until one is free, but for those that are spared.
+    fn make_room<R: Rng>(
+        &mut self,
+        alloc: Global,
+        spared: &Option<Spared>,
+        tax: Tax,
+        rng: &mut R,
+    ) -> Result<(), FaultError>
         ensures moves { OnlyPagesMove self.old.tenants self.new.tenants }
+        ensures spared { SparedStay spared.now self.old.tenants self.new.tenants }
         ensures room { OnOk result (0 < length self.new.pool.free) }
-        ensures err { IfErr result (WhyLacking self.new.pool self.new.slots (map stat_of self.new.tenants) (S.failed self.new.store ≡ one_more (S.failed self.old.store)) ⊥) }
+        ensures err { IfErr result
+            (WhyLacking self.new.pool self.new.slots (map stat_of self.new.tenants) (S.failed self.new.store ≡ one_more (S.failed self.old.store)) ⊥) }
         ensures no_failure { OnOk result (S.failed self.new.store ≡ S.failed self.old.store) }
         ensures hints { self.new.shares.hints ≡ self.old.shares.hints }
         ensures frames { self.new.frames ≡ self.old.frames }
@@ -146,9 +220,43 @@ impl<S: SwapStore> World<S> {
         ensures true_to_digests { S.true_to_digests self.new.store ↔ S.true_to_digests self.old.store }
     {
         while self.free() == 0 {
-            self.evict_one(alloc, tax, rng)?;
+            self.evict_sparing(alloc, spared, tax, rng)?;
         }
         Ok(())
+    }
+
+    // A page of a guest gets a frame of its own, as by `supply`. Where none is free, pages of victims leave theirs one after another
+    // until one is, but for those that are spared.
+    pub(crate) fn supply_sparing<R: Rng>(
+        &mut self,
+        alloc: Global,
+        g: usize,
+        p: Ppn,
+        spared: &Option<Spared>,
+        tax: Tax,
+        rng: &mut R,
+    ) -> Result<(), FaultError>
+        requires guest { g < length self.old.tenants }
+        requires page { (t : TenantIs) → p < length (pages_in (slice_index_or self.old.tenants g t)) }
+        ensures moves { OnlyPagesMove self.old.tenants self.new.tenants }
+        ensures private { OnOk result ((t : TenantIs) → kind_at (pages_in (slice_index_or self.new.tenants g t)) p ≡ PageKind.Private) }
+        ensures others { OtherSparedStay g p spared.now self.old.tenants self.new.tenants }
+        ensures err { IfErr result (WhyLacking self.new.pool self.new.slots (map stat_of self.new.tenants)
+            (S.failed self.new.store ≡ one_more (S.failed self.old.store)) (S.honest self.old.store → ⊥)) }
+        ensures hints { self.new.shares.hints ≡ self.old.shares.hints }
+        ensures frames { self.new.frames ≡ self.old.frames }
+        ensures slots { S.slots self.new.store ≡ S.slots self.old.store }
+        ensures honest { S.honest self.new.store ↔ S.honest self.old.store }
+        ensures true_to_digests { S.true_to_digests self.new.store ↔ S.true_to_digests self.old.store }
+    {
+        self.make_room(alloc, spared, tax, rng)?;
+        match self.supply(alloc, g, p) {
+            Ok(()) => Ok(()),
+            Err(SupplyError::NoFrame) => Err(FaultError::NoFrame),
+            Err(SupplyError::Memory) => Err(FaultError::Memory),
+            Err(SupplyError::SwapRead) => Err(FaultError::SwapRead),
+            Err(SupplyError::SwapDamaged) => Err(FaultError::SwapDamaged),
+        }
     }
 
     /// The page that a guest's next step needs gets a frame of its own, with its bytes. Where none is free, pages of victims leave
@@ -168,7 +276,8 @@ impl<S: SwapStore> World<S> {
         requires { g < length self.old.tenants }
         ensures moves { OnlyPagesMove self.old.tenants self.new.tenants }
         ensures supplied { OnOk result (S.true_to_digests self.old.store → (t : TenantIs) (p : ℕ) (why : Why) →
-            first_lack (lacks_in (pages_in (slice_index_or self.old.tenants g t))) (accesses (view_of (slice_index_or self.old.tenants g t).guest)) ≡ Some (p, why) →
+            first_lack (lacks_in (pages_in (slice_index_or self.old.tenants g t)))
+            (accesses (view_of (slice_index_or self.old.tenants g t).guest)) ≡ Some (p, why) →
             kind_at (pages_in (slice_index_or self.new.tenants g t)) p ≡ PageKind.Private) }
         ensures nothing { S.true_to_digests self.old.store → (t : TenantIs) →
             first_lack (lacks_in (pages_in (slice_index_or self.old.tenants g t))) (accesses (view_of (slice_index_or self.old.tenants g t).guest)) ≡ None →
@@ -185,13 +294,6 @@ impl<S: SwapStore> World<S> {
         let Some(needed) = self.guest(g).need() else {
             return Ok(());
         };
-        self.make_room(alloc, tax, rng)?;
-        match self.supply(alloc, g, needed.0) {
-            Ok(()) => Ok(()),
-            Err(SupplyError::NoFrame) => Err(FaultError::NoFrame),
-            Err(SupplyError::Memory) => Err(FaultError::Memory),
-            Err(SupplyError::SwapRead) => Err(FaultError::SwapRead),
-            Err(SupplyError::SwapDamaged) => Err(FaultError::SwapDamaged),
-        }
+        self.supply_sparing(alloc, g, needed.0, &None, tax, rng)
     }
 }

@@ -12,6 +12,8 @@
 mod applying;
 pub mod books;
 pub mod boot;
+mod damage;
+pub mod debugging;
 pub mod events;
 pub mod faulting;
 pub mod loading;
@@ -22,9 +24,10 @@ pub mod tenant;
 pub mod world;
 
 pub use books::BookCounts;
-pub use boot::{Config, NewGuest};
+pub use boot::{Config, NewGuest, are_within_limits};
+pub use debugging::DebugError;
 pub use events::{Answer, Event};
-pub use faulting::FaultError;
+pub use faulting::{FaultError, Spared};
 pub use loading::BootError;
 pub use moves::EvictError;
 pub use running::{End, Ran, RunStop};
@@ -33,6 +36,8 @@ pub use world::{Evicted, World};
 
 #[cfg(test)]
 mod boot_tests;
+#[cfg(test)]
+mod debugging_tests;
 #[cfg(test)]
 mod running_tests;
 #[cfg(test)]

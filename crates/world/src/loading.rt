@@ -12,6 +12,7 @@ ghost use Rattle.physmap.specs.Holdings.{slots_held};
 ghost use Rattle.paged_guest.specs.Loading.{Reaches};
 ghost use Rattle.paging.specs.Moves.{Conserves, Reads};
 ghost use Rattle.paging.specs.Supplies.{Supplies, WantsFrame};
+ghost use Rattle.world.specs.Boots.{boot_number};
 ghost use Rattle.world.specs.Lent.{UsedStay, WhyStays};
 ghost use Rattle.world.specs.Loading.{boot_page, AreUntouched, AreLoaded, IsLoaded, IsFrameFirst, FramesFirst, WhyNotLoaded, IsOfLoading};
 ghost use Rattle.world.specs.Tenants.{TenantIs, pages_in, beside_pages, IsKept, IsBooted};
@@ -40,6 +41,21 @@ pub enum BootError {
     Store,
     /// A request for memory was refused.
     Memory,
+}
+
+impl BootError {
+    /// Its number: 1 `Limits`, 2 `Segment`, 3 `Room`, 4 `Store`, 5 `Memory`.
+    pub fn number(self) -> u32
+        ensures { result ≡ boot_number self }
+    {
+        match self {
+            BootError::Limits => 1,
+            BootError::Segment => 2,
+            BootError::Room => 3,
+            BootError::Store => 4,
+            BootError::Memory => 5,
+        }
+    }
 }
 
 // A page that was never touched gets a frame with the bytes that the image has for it.

@@ -41,7 +41,8 @@ pub enum EvictError {
 fn frame_back(came_free: Option<FrameNo>, pool: &mut Pool)
     requires out { (number : ℕ) → came_free ≡ Some number → 0 < pool.old.out }
     ensures { (pages pages' : List Page) (entries entries' : EntriesAre) →
-        MovesFrames pages pool.old entries pages' pool.old entries' (option_to_list came_free) → MovesFrames pages pool.old entries pages' pool.new entries' [] }
+        MovesFrames pages pool.old entries pages' pool.old entries' (option_to_list came_free) →
+        MovesFrames pages pool.old entries pages' pool.new entries' [] }
 {
     match came_free {
         Some(number) => pool.give(number),
@@ -167,7 +168,8 @@ pub(crate) fn supply_page<P: Pages, S: SwapStore>(
     ensures others { (other : ℕ) → (other ≡ p → ⊥) → page_at (P.pages pages.new) other ≡ page_at (P.pages pages.old) other }
     ensures err { IfErr result (WhyAway pool.old (S.failed store.new ≡ one_more (S.failed store.old))
         (S.honest store.old → IsDamaged (S.held store.old (slot_of (page_at (P.pages pages.old) p))) (digest_of (page_at (P.pages pages.old) p)))) }
-    ensures undamaged { IsErrOf result SupplyError.SwapDamaged → S.honest store.old → (view : ℕ → List ℕ) → Kept (S.held store.old) view (P.pages pages.old) → ⊥ }
+    ensures undamaged { IsErrOf result SupplyError.SwapDamaged → S.honest store.old → (view : ℕ → List ℕ) →
+        Kept (S.held store.old) view (P.pages pages.old) → ⊥ }
     ensures unchanged { OnErr result (P.pages pages.new ≡ P.pages pages.old) }
     ensures shares_unchanged { OnErr result (shares.new ≡ shares.old) }
     ensures pool_unchanged { OnErr result (SameNumbers pool.old pool.new) }

@@ -52,7 +52,7 @@ pub struct Ran {
 const SUPPLIES_IN_A_ROW: u32 = 64;
 
 // A fault's error as a reason for a run to stop.
-fn stop_of(error: FaultError) -> RunStop
+pub(crate) fn stop_of(error: FaultError) -> RunStop
     ensures { result ≡ stop_of error }
 {
     match error {
@@ -103,7 +103,8 @@ impl<S: SwapStore> World<S> {
         ensures boots { map boot_of self.new.tenants ≡ map boot_of self.old.tenants }
         ensures early { IfSome result (λ end. end ≢ End.Done) }
         ensures need { S.true_to_digests self.old.store → (p : ℕ) (why : Why) → result ≡ Some (End.Need p why) → (t : TenantIs) →
-            first_lack (lacks_in (pages_in (slice_index_or self.new.tenants g t))) (accesses (view_of (slice_index_or self.new.tenants g t).guest)) ≡ Some (p, why) }
+            first_lack (lacks_in (pages_in (slice_index_or self.new.tenants g t)))
+            (accesses (view_of (slice_index_or self.new.tenants g t).guest)) ≡ Some (p, why) }
         ensures full { result ≡ Some (End.Stop RunStop.LogFull) → (t : TenantIs) → IsFull (slice_index_or self.new.tenants g t).guest.log }
         ensures room { IfSome result (λ end. end ≢ End.Stop RunStop.LogFull → (t : TenantIs) → IsFull (slice_index_or self.new.tenants g t).guest.log → ⊥) }
         ensures stop { IfSome result (λ end. IfStop end IsForRoom) }
@@ -124,9 +125,11 @@ impl<S: SwapStore> World<S> {
         ensures most { result.steps ≤ count }
         ensures done { result.end ≡ End.Done ↔ result.steps ≡ count }
         ensures need { S.true_to_digests self.old.store → (p : ℕ) (why : Why) → result.end ≡ End.Need p why → (t : TenantIs) →
-            first_lack (lacks_in (pages_in (slice_index_or self.new.tenants g t))) (accesses (view_of (slice_index_or self.new.tenants g t).guest)) ≡ Some (p, why) }
+            first_lack (lacks_in (pages_in (slice_index_or self.new.tenants g t)))
+            (accesses (view_of (slice_index_or self.new.tenants g t).guest)) ≡ Some (p, why) }
         ensures full { result.end ≡ End.Stop RunStop.LogFull → (t : TenantIs) → IsFull (slice_index_or self.new.tenants g t).guest.log }
-        ensures room { result.end ≢ End.Done → result.end ≢ End.Stop RunStop.LogFull → (t : TenantIs) → IsFull (slice_index_or self.new.tenants g t).guest.log → ⊥ }
+        ensures room { result.end ≢ End.Done → result.end ≢ End.Stop RunStop.LogFull → (t : TenantIs) →
+            IsFull (slice_index_or self.new.tenants g t).guest.log → ⊥ }
         ensures stop { IfStop result.end IsForRoom }
         ensures hints { self.new.shares.hints ≡ self.old.shares.hints }
         ensures store { self.new.store ≡ self.old.store }
@@ -157,8 +160,10 @@ impl<S: SwapStore> World<S> {
         ensures boots { map boot_of self.new.tenants ≡ map boot_of self.old.tenants }
         ensures early { IfSome result (λ end. end ≢ End.Done) }
         ensures need { S.true_to_digests self.old.store → (p : ℕ) (why : Why) → result ≡ Some (End.Need p why) → (t : TenantIs) →
-            first_lack (lacks_in (pages_in (slice_index_or self.new.tenants g t))) (accesses (view_of (slice_index_or self.new.tenants g t).guest)) ≡ Some (p, why) }
-        ensures supplied { S.true_to_digests self.old.store → (p : ℕ) (why : Why) → result ≡ Some (End.Need p why) → (t : TenantIs) → IsSupplied p (slice_index_or self.new.tenants g t) }
+            first_lack (lacks_in (pages_in (slice_index_or self.new.tenants g t)))
+            (accesses (view_of (slice_index_or self.new.tenants g t).guest)) ≡ Some (p, why) }
+        ensures supplied { S.true_to_digests self.old.store → (p : ℕ) (why : Why) → result ≡ Some (End.Need p why) → (t : TenantIs) →
+            IsSupplied p (slice_index_or self.new.tenants g t) }
         ensures full { result ≡ Some (End.Stop RunStop.LogFull) → (t : TenantIs) → IsFull (slice_index_or self.new.tenants g t).guest.log }
         ensures room { IfSome result (λ end. end ≢ End.Stop RunStop.LogFull → (t : TenantIs) → IsFull (slice_index_or self.new.tenants g t).guest.log → ⊥) }
         ensures stop { IfSome result (λ end. IfStop end (WhyStopped self.new.pool self.new.slots (map stat_of self.new.tenants)
@@ -199,10 +204,13 @@ impl<S: SwapStore> World<S> {
         ensures most { result.steps ≤ count }
         ensures done { result.end ≡ End.Done ↔ result.steps ≡ count }
         ensures need { S.true_to_digests self.old.store → (p : ℕ) (why : Why) → result.end ≡ End.Need p why → (t : TenantIs) →
-            first_lack (lacks_in (pages_in (slice_index_or self.new.tenants g t))) (accesses (view_of (slice_index_or self.new.tenants g t).guest)) ≡ Some (p, why) }
-        ensures supplied { S.true_to_digests self.old.store → (p : ℕ) (why : Why) → result.end ≡ End.Need p why → (t : TenantIs) → IsSupplied p (slice_index_or self.new.tenants g t) }
+            first_lack (lacks_in (pages_in (slice_index_or self.new.tenants g t)))
+            (accesses (view_of (slice_index_or self.new.tenants g t).guest)) ≡ Some (p, why) }
+        ensures supplied { S.true_to_digests self.old.store → (p : ℕ) (why : Why) → result.end ≡ End.Need p why → (t : TenantIs) →
+            IsSupplied p (slice_index_or self.new.tenants g t) }
         ensures full { result.end ≡ End.Stop RunStop.LogFull → (t : TenantIs) → IsFull (slice_index_or self.new.tenants g t).guest.log }
-        ensures room { result.end ≢ End.Done → result.end ≢ End.Stop RunStop.LogFull → (t : TenantIs) → IsFull (slice_index_or self.new.tenants g t).guest.log → ⊥ }
+        ensures room { result.end ≢ End.Done → result.end ≢ End.Stop RunStop.LogFull → (t : TenantIs) →
+            IsFull (slice_index_or self.new.tenants g t).guest.log → ⊥ }
         ensures stop { IfStop result.end (WhyStopped self.new.pool self.new.slots (map stat_of self.new.tenants)
             ((before : ℕ) × (S.failed self.new.store ≡ one_more before)) (S.honest self.old.store → ⊥)) }
         ensures hints { self.new.shares.hints ≡ self.old.shares.hints }

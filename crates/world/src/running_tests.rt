@@ -9,7 +9,12 @@ use std::process::Abort;
 use swapstore::MemStore;
 
 /// A world of some guests of one image, with so many frames and no slot.
-fn without_slots(rt: &impl Abort, alloc: Global, frames: u32, guests: u32) -> World<MemStore> {
+pub(crate) fn without_slots(
+    rt: &impl Abort,
+    alloc: Global,
+    frames: u32,
+    guests: u32,
+) -> World<MemStore> {
     let Ok(store) = MemStore::new(alloc, 0) else {
         panic!(rt; "no memory for the store");
     };

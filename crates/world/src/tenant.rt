@@ -192,6 +192,8 @@ impl Tenant {
         ensures reply { IfOk result (λ r. (held : ℕ → Option (List ℕ)) → IsKept held self.old → replied r ≡ reply item.what (view_of self.old.guest)) }
         ensures refused { IsErrOf result Refused.Machine → (held : ℕ → Option (List ℕ)) → IsKept held self.old →
             accepts item.what (view_of self.old.guest) ≡ false }
+        ensures refused_as_it_stands { IsErrOf result Refused.Machine → accepts item.what (standing self.old.guest) ≡ false }
+        ensures reply_as_it_stands { IfOk result (λ r. replied r ≡ reply item.what (standing self.old.guest)) }
         ensures away { (page : ℕ) → IsErrOf result (Refused.Away page) → lacks_in (pages_in self.old) page Store ≢ None }
         ensures its_page { (page : ℕ) → IsErrOf result (Refused.Away page) → WritesTo item.what (standing self.old.guest) page }
         ensures full { IsErrOf result (Refused.Stop Stop.LogFull) ↔ IsFull self.old.guest.log }

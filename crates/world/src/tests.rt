@@ -3,7 +3,9 @@
 ghost use Rattle.std.specs.Prelude.{All};
 ghost use Rattle.world.specs.Events.{IsProper};
 
-use crate::{Answer, BookCounts, BootError, Event, EvictError, Evicted, FaultError, World};
+use crate::{
+    Answer, BookCounts, BootError, End, Event, EvictError, Evicted, FaultError, Ran, World,
+};
 use elf32::Image;
 use items::{Item, SeatNo, What};
 use mips_step::{StepOut, Why};
@@ -113,7 +115,12 @@ pub(crate) fn room(world: &World<MemStore>) -> (u32, u32) {
     (world.free(), world.slots_used())
 }
 
-fn kind(rt: &impl Abort, world: &World<MemStore>, g: usize, number: u32) -> Option<PageKind> {
+pub(crate) fn kind(
+    rt: &impl Abort,
+    world: &World<MemStore>,
+    g: usize,
+    number: u32,
+) -> Option<PageKind> {
     if g >= world.count() {
         panic!(rt; "there is no guest {g}");
     }
@@ -150,7 +157,7 @@ fn step(
     }
 }
 
-fn supply(
+pub(crate) fn supply(
     rt: &impl Abort,
     alloc: Global,
     world: &mut World<MemStore>,
@@ -191,7 +198,7 @@ fn scan(
 
 /// Two pages of equal bytes come to share one frame: the second page that is scanned has the digest with which the first was noted,
 /// and becomes the entry; the first then joins it.
-fn share(rt: &impl Abort, alloc: Global, world: &mut World<MemStore>) {
+pub(crate) fn share(rt: &impl Abort, alloc: Global, world: &mut World<MemStore>) {
     expect(rt, "noted", scan(rt, alloc, world, 0, 0), Scan::Noted);
     match scan(rt, alloc, world, 1, 0) {
         Scan::Admitted(other) => expect(
@@ -438,6 +445,33 @@ fn a_failing_store_refuses_a_guest(rt: HostRuntime) {
     }
 }
 
+/// The last byte of slot 0 is inverted.
+fn damage(rt: &impl Abort, world: &mut World<MemStore>) {
+    if world.books().slots == 0 {
+        panic!(rt; "no slot");
+    }
+    world.damage(0, 4095);
+}
+
+#[test]
+fn a_damaged_page_does_not_come_back(rt: HostRuntime) {
+    let mut world = started(&rt, rt.alloc(), 1);
+    expect(
+        &rt,
+        "guest 0 leaves",
+        evict(&rt, rt.alloc(), &mut world, 0, 0),
+        Ok(Evicted::Done),
+    );
+    damage(&rt, &mut world);
+    let answer = supply(&rt, rt.alloc(), &mut world, 1, 0);
+    expect(&rt, "damaged", answer, Err(SupplyError::SwapDamaged));
+    expect(&rt, "its frame is free again", room(&world), (1, 2));
+    damage(&rt, &mut world);
+    let answer = supply(&rt, rt.alloc(), &mut world, 1, 0);
+    expect(&rt, "the same byte again", answer, Ok(()));
+    let _store = world.close();
+}
+
 /// One more event.
 fn add(rt: &impl Abort, events: &mut Vec<Event>, event: Event)
     requires event { IsProper event }
@@ -473,6 +507,11 @@ fn in_turn(rt: &impl Abort, alloc: Global) -> Vec<Event>
     add(rt, &mut events, Event::Fault(0));
     add(rt, &mut events, Event::Step(0));
     add(rt, &mut events, Event::Step(2));
+    add(rt, &mut events, Event::Steps(1, 5));
+    add(rt, &mut events, Event::Run(1, 2));
+    add(rt, &mut events, Event::Run(0, 0));
+    add(rt, &mut events, Event::Probe(1, 0x8000_2000, 8));
+    add(rt, &mut events, Event::Probe(1, 0xc000_0000, 8));
     events
 }
 
@@ -482,8 +521,19 @@ fn word(answer: &Answer) -> &'static str {
         Answer::Stepped(Ok(StepOut::Done)) => "done",
         Answer::Stepped(Ok(StepOut::Need(_, _))) => "need",
         Answer::Stepped(Err(_)) => "stop",
+        Answer::Ran(
+            Ran {
+                steps: _,
+                end: End::Done,
+            },
+        ) => "all made",
+        Answer::Ran(_) => "not all made",
         Answer::Input(Ok(_)) => "accepted",
         Answer::Input(Err(_)) => "refused",
+        Answer::Probed(Ok(_)) => "read",
+        Answer::Probed(Err(_)) => "not read",
+        Answer::Written(Ok(())) => "written",
+        Answer::Written(Err(_)) => "not written",
         Answer::Supplied(Ok(())) => "supplied",
         Answer::Supplied(Err(_)) => "not supplied",
         Answer::Faulted(Ok(())) => "there",
@@ -494,8 +544,21 @@ fn word(answer: &Answer) -> &'static str {
     }
 }
 
-static IN_TURN: [&'static str; 8] = [
-    "done", "accepted", "done", "scanned", "need", "there", "done", "nowhere",
+// The fourth frame is for page 1 of guest 1, whose store to page 2 then finds none: each guest has two resident pages.
+static IN_TURN: [&'static str; 13] = [
+    "done",
+    "accepted",
+    "done",
+    "scanned",
+    "need",
+    "there",
+    "done",
+    "nowhere",
+    "not all made",
+    "not all made",
+    "all made",
+    "read",
+    "not read",
 ];
 
 pub(crate) fn log_len(rt: &impl Abort, world: &World<MemStore>, g: usize) -> u64 {
@@ -513,12 +576,12 @@ fn each_guest_has_its_own_items(rt: HostRuntime) {
     let Ok(answers) = world.run(rt.alloc(), events, TAX, &mut rng) else {
         panic!(&rt; "no memory for the answers");
     };
-    expect(&rt, "eight answers", answers.len(), 8);
-    for k in 0..answers.len().min(8) {
+    expect(&rt, "thirteen answers", answers.len(), 13);
+    for k in 0..answers.len().min(13) {
         expect(&rt, "answer", word(&answers[k]), IN_TURN[k]);
     }
     expect(&rt, "guest 0", log_len(&rt, &world, 0), 2);
-    expect(&rt, "guest 1", log_len(&rt, &world, 1), 2);
+    expect(&rt, "guest 1", log_len(&rt, &world, 1), 3);
     let _store = world.close();
 }
 

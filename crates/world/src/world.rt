@@ -295,12 +295,19 @@ impl<S: SwapStore> World<S> {
         requires guest { g < length self.old.tenants }
         requires input { is_step item.what ≡ false }
         ensures adds { OnOk result (Changes (λ t t'. Adds t item t') g self.old.tenants self.new.tenants) }
-        ensures accepted { OnOk result (S.true_to_digests self.old.store → (t : TenantIs) → accepts item.what (view_of (slice_index_or self.old.tenants g t).guest) ≡ true) }
-        ensures reply { IfOk result (λ r. S.true_to_digests self.old.store → (t : TenantIs) → replied r ≡ reply item.what (view_of (slice_index_or self.old.tenants g t).guest)) }
+        ensures accepted { OnOk result
+            (S.true_to_digests self.old.store → (t : TenantIs) → accepts item.what (view_of (slice_index_or self.old.tenants g t).guest) ≡ true) }
+        ensures reply { IfOk result
+            (λ r. S.true_to_digests self.old.store → (t : TenantIs) → replied r ≡ reply item.what (view_of (slice_index_or self.old.tenants g t).guest)) }
         ensures refused { IsErrOf result Refused.Machine → S.true_to_digests self.old.store → (t : TenantIs) →
             accepts item.what (view_of (slice_index_or self.old.tenants g t).guest) ≡ false }
-        ensures away { (page : ℕ) → IsErrOf result (Refused.Away page) → (t : TenantIs) → lacks_in (pages_in (slice_index_or self.old.tenants g t)) page Store ≢ None }
-        ensures its_page { (page : ℕ) → IsErrOf result (Refused.Away page) → (t : TenantIs) → WritesTo item.what (standing (slice_index_or self.old.tenants g t).guest) page }
+        ensures refused_as_it_stands { IsErrOf result Refused.Machine → (t : TenantIs) →
+            accepts item.what (standing (slice_index_or self.old.tenants g t).guest) ≡ false }
+        ensures reply_as_it_stands { IfOk result (λ r. (t : TenantIs) → replied r ≡ reply item.what (standing (slice_index_or self.old.tenants g t).guest)) }
+        ensures away { (page : ℕ) → IsErrOf result (Refused.Away page) → (t : TenantIs) →
+            lacks_in (pages_in (slice_index_or self.old.tenants g t)) page Store ≢ None }
+        ensures its_page { (page : ℕ) → IsErrOf result (Refused.Away page) → (t : TenantIs) →
+            WritesTo item.what (standing (slice_index_or self.old.tenants g t).guest) page }
         ensures full { (t : TenantIs) → (IsErrOf result (Refused.Stop Stop.LogFull) ↔ IsFull (slice_index_or self.old.tenants g t).guest.log) }
         ensures unchanged { OnErr result (Changes NothingHappens g self.old.tenants self.new.tenants) }
         ensures stays { Changes Stays g self.old.tenants self.new.tenants }
@@ -415,7 +422,8 @@ impl<S: SwapStore> World<S> {
         ensures moves { Changes PagesMove g self.old.tenants self.new.tenants }
         ensures answer { (t : TenantIs) → Answered self.old.shares (pages_in (slice_index_or self.old.tenants g t)) (record { guest = g; page = p }) result }
         ensures hints { (t : TenantIs) →
-            HintsAfter self.old.shares.hints (sha256 (shown (page_at (pages_in (slice_index_or self.old.tenants g t)) p))) (record { guest = g; page = p }) result self.new.shares.hints }
+            HintsAfter self.old.shares.hints (sha256 (shown (page_at (pages_in (slice_index_or self.old.tenants g t)) p)))
+            (record { guest = g; page = p }) result self.new.shares.hints }
         ensures comes { (t : TenantIs) → (came_free : List ℕ) × Comes self.old.shares.entries (pages_in (slice_index_or self.old.tenants g t)) p result
             self.new.shares.entries (pages_in (slice_index_or self.new.tenants g t)) came_free }
         ensures slots { self.new.slots ≡ self.old.slots }

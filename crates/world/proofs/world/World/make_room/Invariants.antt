@@ -1,11 +1,12 @@
 use Rattle.std.proofs.Common.{◌≡◌, ◌↔◌}
-use Rattle.world.specs.Victims.{OnlyPagesMove, all_resident}
+use Rattle.world.specs.Victims.{OnlyPagesMove, SparedStay, all_resident}
 use Rattle.world.proofs.world.World.make_room.Given as goal
 
 -- only pages have moved, and no call of the store has failed
 abbrev pub invariant-loop-alloc : goal.invariant-loop-alloc
 invariant-loop-alloc g l = record {
   moves : OnlyPagesMove l.fn.self.tenants l.self.tenants;
+  spared : SparedStay l.spared l.fn.self.tenants l.self.tenants;
   failed : g.S.SwapStore.failed l.self.store ≡ g.S.SwapStore.failed l.fn.self.store;
   hints : l.self.shares.hints ≡ l.fn.self.shares.hints;
   frames : l.self.frames ≡ l.fn.self.frames;

@@ -1,4 +1,4 @@
-use Rattle.std.proofs.Common.{◌≡◌, ◌%◌, ◌<◌, map, length, sym, ap, subst, ◌∙◌, arith}
+use Rattle.std.proofs.Common.{ℕ, true, Option, ◌≡◌, ◌%◌, ◌<◌, map, length, sym, ap, subst, ◌∙◌, arith}
 use Rattle.std.proofs.lemmas.List.{length-map}
 use Rattle.rand_core.specs.Stream.{next_u32}
 use Rattle.frames.specs.FreeList.{FreeList}
@@ -7,9 +7,10 @@ use Rattle.taxpolicy.specs.Victim.{IsEligible, victim_of}
 use Rattle.world.specs.declared.moves.EvictError.{EvictError}
 use Rattle.world.specs.Lent.{WhyStays}
 use Rattle.world.specs.Tenants.{TenantIs, pages_in}
-use Rattle.world.specs.Victims.{stat_of, IsNextResident}
-use Rattle.world.proofs.Victims.{least_at, only_pages, fewer, none_free}
-use Rattle.world.proofs.world.World.evict_one.Goals as goal
+use Rattle.world.specs.Victims.{stat_of, spared_of, may_leave, IsNextResident}
+use Rattle.physmap.specs.Pages.{kind_at, is_resident}
+use Rattle.world.proofs.Victims.{least_at, only_pages, fewer, none_free, leaves_resident, evicted_spares}
+use Rattle.world.proofs.world.World.evict_sparing.Goals as goal
 
 pub drawn_page-p-requires : goal.drawn_page-p-requires
 drawn_page-p-requires g c =
@@ -37,7 +38,9 @@ returns-in-Ok-evict_of-clause-policy g c =
       g = c.in-Some.g;
       p = c.drawn_page-p.result;
       victim = ap (victim_of c.args.tax.percent) (sym all) ∙ sym c.victim.ensures.value ∙ c.in-Some.is;
-      page = λ t. subst (λ (u : TenantIs). IsNextResident (pages_in u) (word % length (pages_in u)) c.drawn_page-p.result) (c.guest.ensures t) c.drawn_page-p.ensures.page;
+      page = λ t.
+          subst (λ (u : TenantIs). IsNextResident (spared_of c.args.spared.now c.in-Some.g) (pages_in u) (word % length (pages_in u)) c.drawn_page-p.result) (c.guest.ensures t)
+          (subst (λ (spared : Option (ℕ × ℕ)). IsNextResident spared (pages_in c.guest.result.now) (word % length (pages_in c.guest.result.now)) c.drawn_page-p.result) c.spared_of.ensures c.drawn_page-p.ensures.page);
       evicted = c.in-Ok-evict_of.ensures.page;
     }
 
@@ -56,3 +59,15 @@ returns-in-Err-NoSwap-clause-err g c =
       ap (λ (l : FreeList). l.free) c.in-Err-NoSwap.ensures.pool_unchanged ∙ c.requires,
       none_free old.slots new.slots (subst (λ (e : EvictError). WhyStays old.slots (g.S.SwapStore.failed new.store ≡ one_more (g.S.SwapStore.failed old.store)) e) c.in-Err-NoSwap.field-0-is c.in-Err-NoSwap.ensures.err) c.in-Err-NoSwap.ensures.slots_unchanged,
     )
+
+pub returns-in-Ok-evict_of-clause-spared : goal.returns-in-Ok-evict_of-clause-spared
+returns-in-Ok-evict_of-clause-spared g c =
+    let leaves = subst (λ (spared : Option (ℕ × ℕ)). may_leave spared (pages_in c.guest.result.now) c.drawn_page-p.result ≡ true) c.spared_of.ensures c.drawn_page-p.ensures.page.leaves in
+    evicted_spares c.in-Some.g c.drawn_page-p.result c.args.self.now.tenants c.evict_of.new.self.tenants c.args.self.now.slots c.args.spared.now c.evict_of.ensures.moves
+    (λ t. subst (λ (u : TenantIs). may_leave (spared_of c.args.spared.now c.in-Some.g) (pages_in u) c.drawn_page-p.result ≡ true) (c.guest.ensures t) leaves) c.in-Ok-evict_of.ensures.page
+
+pub evict_of-requires-clause-resident : goal.evict_of-requires-clause-resident
+evict_of-requires-clause-resident g c = λ t.
+    let p = c.drawn_page-p.result in
+    subst (λ (u : TenantIs). is_resident (kind_at (pages_in u) p) ≡ true) (c.guest.ensures t)
+    (leaves_resident c.spared_of.result (pages_in c.guest.result.now) p c.drawn_page-p.ensures.page.leaves)

@@ -1,0 +1,45 @@
+use Rattle.std.proofs.Common.{ℕ, ◌≡◌, ◌++◌, List, get_or, length, refl, sym, ap, subst, ◌∙◌, arith}
+use Rattle.std.proofs.lemmas.Result.{on_ok_weaker}
+use Rattle.items.specs.declared.item.Item.{Item}
+use Rattle.flatvm.specs.Replies.{SomePlaceIn}
+use Rattle.paged_guest.specs.Guests.{standing}
+use Rattle.guest_log.specs.Logs.{IsFull}
+use Rattle.world.specs.declared.debugging.DebugError.TheVariants.{Stop}
+use Rattle.world.specs.declared.running.RunStop.TheVariants.{LogFull}
+use Rattle.world.specs.Debugging.{written_items}
+use Rattle.world.specs.Tenants.{TenantIs}
+use Rattle.world.proofs.Reached.{ok_not}
+use Rattle.world.proofs.Runs.{fault_stays, moved_room, moved_same}
+use Rattle.world.proofs.Victims.{fault_logs, fault_boots}
+use Rattle.world.proofs.world.World.debug_write.Goals as goal
+
+pub returns-in-Err-clause-logs : goal.returns-in-Err-clause-logs
+returns-in-Err-clause-logs g c = fault_logs c.args.self.now.tenants c.reach.new.self.tenants c.reach.ensures.moves
+
+pub returns-in-Err-clause-boots : goal.returns-in-Err-clause-boots
+returns-in-Err-clause-boots g c = fault_boots c.args.self.now.tenants c.reach.new.self.tenants c.reach.ensures.moves
+
+pub write-requires-clause-there : goal.write-requires-clause-there
+write-requires-clause-there g c = λ t q some.
+    let same : length c.args.bytes.items ≡ c.len-count.result = omega (arith, c.len-count.ensures, c.args.bytes.ok.0) in
+    c.in-Ok.ensures.there t q (subst (λ (n : ℕ). SomePlaceIn (standing (get_or c.reach.new.self.tenants c.args.g t).guest) c.args.address n q) same some)
+
+pub returns-in-Ok-clause-logs : goal.returns-in-Ok-clause-logs
+returns-in-Ok-clause-logs g c = λ h.
+    let own = written_items h c.args.g c.args.address c.args.bytes.items c.write.result in
+    c.write.ensures.logs h ∙ ap (λ (xs : List Item). xs ++ own) (fault_stays c.args.self.now.tenants c.reach.new.self.tenants c.reach.ensures.moves h)
+
+pub returns-in-Ok-clause-boots : goal.returns-in-Ok-clause-boots
+returns-in-Ok-clause-boots g c = c.write.ensures.boots ∙ fault_boots c.args.self.now.tenants c.reach.new.self.tenants c.reach.ensures.moves
+
+pub returns-in-Ok-clause-full : goal.returns-in-Ok-clause-full
+returns-in-Ok-clause-full g c = λ is t.
+    moved_room c.args.self.now.tenants c.reach.new.self.tenants c.args.g t c.requires.guest c.reach.ensures.moves ((c.write.ensures.full t).0 is)
+
+pub returns-in-Ok-clause-room : goal.returns-in-Ok-clause-room
+returns-in-Ok-clause-room g c =
+    let ts = c.args.self.now.tenants in
+    let mid = c.reach.new.self.tenants in
+    let none = ok_not c.write.result (Stop LogFull) ((t : TenantIs) × IsFull (get_or ts c.args.g t).guest.log) (λ full.
+    (c.write.ensures.full full.0).1 (subst IsFull (sym (moved_same (λ u. u.guest.log) (λ u. refl) ts mid c.args.g full.0 c.requires.guest c.reach.ensures.moves)) full.1)) in
+    on_ok_weaker c.write.result (λ f t full. f (t, full)) none

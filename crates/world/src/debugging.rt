@@ -1,0 +1,307 @@
+//! What a debugger reads and writes of guests by virtual addresses, with the pages that it needs supplied.
+ghost use Rattle.std.specs.Prelude.{◌≡◌};
+ghost use Rattle.physmap.specs.declared.page.PageKind.{PageKind};
+ghost use Rattle.world.specs.Debugging.{is_wanted};
+
+use crate::running::stop_of;
+use crate::{FaultError, RunStop, Spared, World};
+use items::{Item, SeatNo, What, WriteBytes};
+use paged_guest::{Refused, Stop};
+use paging::Pages;
+use physmap::PageKind;
+use rand_core::Rng;
+use std::alloc::Global;
+use swapstore::SwapStore;
+use taxpolicy::Tax;
+use word32::Ppn;
+
+/// Why a debugger's bytes are not read or written.
+#[derive(Clone, Copy, Debug, PartialEq, Eq)]
+pub enum DebugError {
+    /// One of the bytes has no place in memory.
+    NoPlace,
+    /// A page that one of the bytes lies in is not there, or the log has no room for the write.
+    Stop(RunStop),
+}
+
+/// What a debugger does to bytes.
+#[derive(Clone, Copy, Debug, PartialEq, Eq)]
+pub(crate) enum Access {
+    /// It reads them.
+    Read,
+    /// It writes them.
+    Write,
+}
+
+// Whether a page of a kind is to be supplied first: one that is read where it is in a slot, one that is written to where it has no
+// frame of its own.
+fn is_wanted(access: Access, kind: PageKind) -> bool
+    ensures { result ≡ is_wanted access kind }
+{
+    match access {
+        Access::Read => kind == PageKind::Swapped,
+        Access::Write => kind != PageKind::Private,
+    }
+}
+
+impl<S: SwapStore> World<S> {
+    ghost use Rattle.std.specs.Prelude.{◌≡◌, ◌≢◌, ◌<◌, ◌≤◌, ◌⊎◌, ◌↔◌, ◌++◌, ℕ, true, false, Some, None, OnOk, OnErr, IfErr, IsErrOf, length, map, slice_index_or};
+    ghost use Rattle.items.specs.declared.item.What.{What};
+    ghost use Rattle.guest_log.specs.Logs.{IsFull};
+    ghost use Rattle.flatvm.specs.Items.{accepts};
+    ghost use Rattle.flatvm.specs.Replies.{bytes_at, SomePlaceIn};
+    ghost use Rattle.physmap.specs.Pages.{page_at, kind_at};
+    ghost use Rattle.paged_guest.specs.Guests.{view_of, standing};
+    ghost use Rattle.swapstore.specs.Failures.{one_more};
+    ghost use Rattle.world.specs.Debugging.{IsReady, IfStopped, written_items, OnlyPagesAndRoom};
+    ghost use Rattle.world.specs.Events.{IsForRoom, WhyStopped};
+    ghost use Rattle.world.specs.Tenants.{TenantIs, pages_in, NothingHappens};
+    ghost use Rattle.world.specs.Victims.{stat_of, OnlyPagesMove, WhyLacking};
+    ghost use Rattle.world.specs.Worlds.{Changes, SameAround, boot_of, log_at};
+
+    // One of two pages that a debugger reaches gets a frame of its own, where it is wanted, and no eviction takes either of them.
+    fn supply_one<R: Rng>(
+        &mut self,
+        alloc: Global,
+        g: usize,
+        p: Ppn,
+        reached: &(Ppn, Ppn),
+        access: Access,
+        tax: Tax,
+        rng: &mut R,
+    ) -> Result<(), FaultError>
+        requires guest { g < length self.old.tenants }
+        requires page { (t : TenantIs) → p < length (pages_in (slice_index_or self.old.tenants g t)) }
+        ensures moves { OnlyPagesMove self.old.tenants self.new.tenants }
+        ensures ready { OnOk result ((t : TenantIs) →
+            IsReady access (page_at (pages_in (slice_index_or self.old.tenants g t)) p) (page_at (pages_in (slice_index_or self.new.tenants g t)) p)) }
+        ensures stays { (t : TenantIs) → is_wanted access (kind_at (pages_in (slice_index_or self.old.tenants g t)) p) ≡ false →
+            page_at (pages_in (slice_index_or self.new.tenants g t)) p ≡ page_at (pages_in (slice_index_or self.old.tenants g t)) p }
+        ensures others { (t : TenantIs) (q : ℕ) → q ≢ p → ((q ≡ reached.now.0) ⊎ (q ≡ reached.now.1)) →
+            page_at (pages_in (slice_index_or self.new.tenants g t)) q ≡ page_at (pages_in (slice_index_or self.old.tenants g t)) q }
+        ensures err { IfErr result (WhyLacking self.new.pool self.new.slots (map stat_of self.new.tenants)
+            ((before : ℕ) × (S.failed self.new.store ≡ one_more before)) (S.honest self.old.store → ⊥)) }
+        ensures hints { self.new.shares.hints ≡ self.old.shares.hints }
+        ensures frames { self.new.frames ≡ self.old.frames }
+        ensures slots { S.slots self.new.store ≡ S.slots self.old.store }
+        ensures honest { S.honest self.new.store ↔ S.honest self.old.store }
+        ensures true_to_digests { S.true_to_digests self.new.store ↔ S.true_to_digests self.old.store }
+    {
+        if !is_wanted(access, self.guest(g).kind(p)) {
+            return Ok(());
+        }
+        let spared = Some(Spared {
+            guest: g,
+            pages: *reached,
+        });
+        self.supply_sparing(alloc, g, p, &spared, tax, rng)
+    }
+
+    // Each of two pages that a debugger reaches gets a frame of its own, where it is wanted, the one of the lower number first.
+    fn supply_reached<R: Rng>(
+        &mut self,
+        alloc: Global,
+        g: usize,
+        reached: &(Ppn, Ppn),
+        access: Access,
+        tax: Tax,
+        rng: &mut R,
+    ) -> Result<(), FaultError>
+        requires guest { g < length self.old.tenants }
+        requires order { reached.now.0 ≤ reached.now.1 }
+        requires pages { (t : TenantIs) → reached.now.1 < length (pages_in (slice_index_or self.old.tenants g t)) }
+        ensures moves { OnlyPagesMove self.old.tenants self.new.tenants }
+        ensures ready { OnOk result ((t : TenantIs) (q : ℕ) → ((q ≡ reached.now.0) ⊎ (q ≡ reached.now.1)) →
+            IsReady access (page_at (pages_in (slice_index_or self.old.tenants g t)) q) (page_at (pages_in (slice_index_or self.new.tenants g t)) q)) }
+        ensures stays { (t : TenantIs) (q : ℕ) → ((q ≡ reached.now.0) ⊎ (q ≡ reached.now.1)) →
+            is_wanted access (kind_at (pages_in (slice_index_or self.old.tenants g t)) q) ≡ false →
+            page_at (pages_in (slice_index_or self.new.tenants g t)) q ≡ page_at (pages_in (slice_index_or self.old.tenants g t)) q }
+        ensures err { IfErr result (WhyLacking self.new.pool self.new.slots (map stat_of self.new.tenants)
+            ((before : ℕ) × (S.failed self.new.store ≡ one_more before)) (S.honest self.old.store → ⊥)) }
+        ensures hints { self.new.shares.hints ≡ self.old.shares.hints }
+        ensures frames { self.new.frames ≡ self.old.frames }
+        ensures slots { S.slots self.new.store ≡ S.slots self.old.store }
+        ensures honest { S.honest self.new.store ↔ S.honest self.old.store }
+        ensures true_to_digests { S.true_to_digests self.new.store ↔ S.true_to_digests self.old.store }
+    {
+        self.supply_one(alloc, g, reached.0, reached, access, tax, rng)?;
+        self.supply_one(alloc, g, reached.1, reached, access, tax, rng)
+    }
+
+    // Decides whether each of some bytes has a place in memory, and supplies the pages that they lie in where they are wanted.
+    fn reach<R: Rng>(
+        &mut self,
+        alloc: Global,
+        g: usize,
+        address: u32,
+        count: u32,
+        access: Access,
+        tax: Tax,
+        rng: &mut R,
+    ) -> Result<(), DebugError>
+        requires guest { g < length self.old.tenants }
+        requires some { 0 < count }
+        requires few { count ≤ 1024 }
+        ensures moves { OnlyPagesMove self.old.tenants self.new.tenants }
+        ensures no_place { S.true_to_digests self.old.store → (t : TenantIs) → (IsErrOf result DebugError.NoPlace
+            ↔ (bytes_at (view_of (slice_index_or self.old.tenants g t).guest) address count ≡ None)) }
+        ensures nothing { IsErrOf result DebugError.NoPlace → self.new ≡ self.old }
+        ensures placed { OnOk result ((t : TenantIs) → bytes_at (standing (slice_index_or self.new.tenants g t).guest) address count ≡ None → ⊥) }
+        ensures there { OnOk result ((t : TenantIs) (q : ℕ) → SomePlaceIn (standing (slice_index_or self.new.tenants g t).guest) address count q →
+            is_wanted access (kind_at (pages_in (slice_index_or self.new.tenants g t)) q) ≡ false) }
+        ensures ready { OnOk result ((t : TenantIs) (q : ℕ) → SomePlaceIn (standing (slice_index_or self.old.tenants g t).guest) address count q →
+            IsReady access (page_at (pages_in (slice_index_or self.old.tenants g t)) q) (page_at (pages_in (slice_index_or self.new.tenants g t)) q)) }
+        ensures stays { (t : TenantIs) (q : ℕ) → SomePlaceIn (standing (slice_index_or self.old.tenants g t).guest) address count q →
+            is_wanted access (kind_at (pages_in (slice_index_or self.old.tenants g t)) q) ≡ false →
+            page_at (pages_in (slice_index_or self.new.tenants g t)) q ≡ page_at (pages_in (slice_index_or self.old.tenants g t)) q }
+        ensures stop { IfErr result (λ error. IfStopped error (WhyStopped self.new.pool self.new.slots (map stat_of self.new.tenants)
+            ((before : ℕ) × (S.failed self.new.store ≡ one_more before)) (S.honest self.old.store → ⊥))) }
+        ensures never_full { IsErrOf result (DebugError.Stop RunStop.LogFull) → ⊥ }
+        ensures hints { self.new.shares.hints ≡ self.old.shares.hints }
+        ensures frames { self.new.frames ≡ self.old.frames }
+        ensures slots { S.slots self.new.store ≡ S.slots self.old.store }
+        ensures honest { S.honest self.new.store ↔ S.honest self.old.store }
+        ensures true_to_digests { S.true_to_digests self.new.store ↔ S.true_to_digests self.old.store }
+    {
+        self.is_sound();
+        self.guest(g).guest().is_sized();
+        let Some(pages) = self.guest(g).guest().debug_pages(address, count) else {
+            return Err(DebugError::NoPlace);
+        };
+        match self.supply_reached(alloc, g, &pages, access, tax, rng) {
+            Ok(()) => {
+                self.guest(g).guest().is_sized();
+                Ok(())
+            }
+            Err(error) => Err(DebugError::Stop(stop_of(error))),
+        }
+    }
+
+    /// Reads as many bytes of a guest's memory as there is room for, at least 1 and at most 1,024, as `Guest::debug_read` has it. A page
+    /// that one of them lies in and that is in a slot gets a frame of its own first, the one of the lower number before the other. Where
+    /// no frame is free, pages of victims leave theirs one after another (`evict_one`), but no page that the bytes lie in. All other
+    /// pages that they lie in stay as they are, and no log changes.
+    ///
+    /// `NoPlace` exactly where one of the bytes has no place in memory, and then nothing has changed; else `Stop` as `fault` has it.
+    /// Then `bytes` is as before, and pages that have moved before that stay where they are.
+    pub fn debug_read<R: Rng>(
+        &mut self,
+        alloc: Global,
+        g: usize,
+        address: u32,
+        bytes: &mut [u8],
+        tax: Tax,
+        rng: &mut R,
+    ) -> Result<(), DebugError>
+        requires guest { g < length self.old.tenants }
+        requires some { 0 < length bytes.old }
+        requires few { length bytes.old ≤ 1024 }
+        ensures read { OnOk result (S.true_to_digests self.old.store → (t : TenantIs) →
+            bytes_at (view_of (slice_index_or self.old.tenants g t).guest) address (length bytes.old) ≡ Some bytes.new) }
+        ensures no_place { S.true_to_digests self.old.store → (t : TenantIs) → (IsErrOf result DebugError.NoPlace
+            ↔ (bytes_at (view_of (slice_index_or self.old.tenants g t).guest) address (length bytes.old) ≡ None)) }
+        ensures nothing { IsErrOf result DebugError.NoPlace → self.new ≡ self.old }
+        ensures unchanged { OnErr result (bytes.new ≡ bytes.old) }
+        ensures moves { OnlyPagesMove self.old.tenants self.new.tenants }
+        ensures ready { OnOk result ((t : TenantIs) (q : ℕ) → SomePlaceIn (standing (slice_index_or self.old.tenants g t).guest) address (length bytes.old) q →
+            IsReady Access.Read (page_at (pages_in (slice_index_or self.old.tenants g t)) q) (page_at (pages_in (slice_index_or self.new.tenants g t)) q)) }
+        ensures stays { (t : TenantIs) (q : ℕ) → SomePlaceIn (standing (slice_index_or self.old.tenants g t).guest) address (length bytes.old) q →
+            kind_at (pages_in (slice_index_or self.old.tenants g t)) q ≢ PageKind.Swapped →
+            page_at (pages_in (slice_index_or self.new.tenants g t)) q ≡ page_at (pages_in (slice_index_or self.old.tenants g t)) q }
+        ensures stop { IfErr result (λ error. IfStopped error (WhyStopped self.new.pool self.new.slots (map stat_of self.new.tenants)
+            ((before : ℕ) × (S.failed self.new.store ≡ one_more before)) (S.honest self.old.store → ⊥))) }
+        ensures never_full { IsErrOf result (DebugError.Stop RunStop.LogFull) → ⊥ }
+        ensures hints { self.new.shares.hints ≡ self.old.shares.hints }
+        ensures frames { self.new.frames ≡ self.old.frames }
+        ensures slots { S.slots self.new.store ≡ S.slots self.old.store }
+        ensures honest { S.honest self.new.store ↔ S.honest self.old.store }
+        ensures true_to_digests { S.true_to_digests self.new.store ↔ S.true_to_digests self.old.store }
+    {
+        let count = bytes.len() as u32;
+        self.reach(alloc, g, address, count, Access::Read, tax, rng)?;
+        self.is_sound();
+        match self.guest(g).guest().debug_read(address, bytes) {
+            Ok(()) => Ok(()),
+            Err(Refused::Machine) => unreachable!(),
+            Err(Refused::Away(_)) => unreachable!(),
+            Err(Refused::Stop(_)) => unreachable!(),
+        }
+    }
+
+    /// Writes at least 1 and at most 1,024 bytes of a guest's memory, as an item of seat 3. Each page that one of them lies in gets a frame
+    /// of its own first, where it has none, the one of the lower number before the other. Where no frame is free, pages of victims leave
+    /// theirs one after another (`evict_one`), but no page that the bytes lie in.
+    ///
+    /// `NoPlace` exactly where one of the bytes has no place in memory, and then nothing has changed; `Stop(LogFull)` where the log has
+    /// its greatest number of runs or 2^62 items; else `Stop` as `fault` has it. Then nothing is written, and pages that have moved before
+    /// that stay where they are.
+    pub fn debug_write<R: Rng>(
+        &mut self,
+        alloc: Global,
+        g: usize,
+        address: u32,
+        bytes: Vec<u8>,
+        tax: Tax,
+        rng: &mut R,
+    ) -> Result<(), DebugError>
+        requires guest { g < length self.old.tenants }
+        requires some { 0 < length bytes.items }
+        requires few { length bytes.items ≤ 1024 }
+        ensures logs { (h : ℕ) → log_at self.new.tenants h ≡ log_at self.old.tenants h ++ written_items h g address bytes.items result }
+        ensures boots { map boot_of self.new.tenants ≡ map boot_of self.old.tenants }
+        ensures accepted { OnOk result (S.true_to_digests self.old.store → (t : TenantIs) →
+            accepts (What.Write address bytes.items) (view_of (slice_index_or self.old.tenants g t).guest) ≡ true) }
+        ensures no_place { S.true_to_digests self.old.store → (t : TenantIs) → (IsErrOf result DebugError.NoPlace
+            ↔ (accepts (What.Write address bytes.items) (view_of (slice_index_or self.old.tenants g t).guest) ≡ false)) }
+        ensures nothing { IsErrOf result DebugError.NoPlace → self.new ≡ self.old }
+        ensures unchanged { OnErr result (OnlyPagesAndRoom g self.old.tenants self.new.tenants) }
+        ensures stop { IfErr result (λ error. IfStopped error (WhyStopped self.new.pool self.new.slots (map stat_of self.new.tenants)
+            ((before : ℕ) × (S.failed self.new.store ≡ one_more before)) (S.honest self.old.store → ⊥))) }
+        ensures full { IsErrOf result (DebugError.Stop RunStop.LogFull) → (t : TenantIs) → IsFull (slice_index_or self.old.tenants g t).guest.log }
+        ensures room { OnOk result ((t : TenantIs) → IsFull (slice_index_or self.old.tenants g t).guest.log → ⊥) }
+        ensures hints { self.new.shares.hints ≡ self.old.shares.hints }
+        ensures frames { self.new.frames ≡ self.old.frames }
+        ensures slots { S.slots self.new.store ≡ S.slots self.old.store }
+        ensures honest { S.honest self.new.store ↔ S.honest self.old.store }
+        ensures true_to_digests { S.true_to_digests self.new.store ↔ S.true_to_digests self.old.store }
+    {
+        let count = bytes.len() as u32;
+        match self.reach(alloc, g, address, count, Access::Write, tax, rng) {
+            Ok(()) => self.write(g, address, bytes),
+            Err(error) => Err(error),
+        }
+    }
+
+    // Writes bytes, each of which lies in a page that has a frame of its own, as an item of seat 3.
+    fn write(&mut self, g: usize, address: u32, bytes: Vec<u8>) -> Result<(), DebugError>
+        requires guest { g < length self.old.tenants }
+        requires few { length bytes.items ≤ 1024 }
+        requires placed { (t : TenantIs) → bytes_at (standing (slice_index_or self.old.tenants g t).guest) address (length bytes.items) ≡ None → ⊥ }
+        requires there { (t : TenantIs) (q : ℕ) → SomePlaceIn (standing (slice_index_or self.old.tenants g t).guest) address (length bytes.items) q →
+            is_wanted Access.Write (kind_at (pages_in (slice_index_or self.old.tenants g t)) q) ≡ false }
+        ensures logs { (h : ℕ) → log_at self.new.tenants h ≡ log_at self.old.tenants h ++ written_items h g address bytes.items result }
+        ensures boots { map boot_of self.new.tenants ≡ map boot_of self.old.tenants }
+        ensures accepted { OnOk result (S.true_to_digests self.old.store → (t : TenantIs) →
+            accepts (What.Write address bytes.items) (view_of (slice_index_or self.old.tenants g t).guest) ≡ true) }
+        ensures placed { IsErrOf result DebugError.NoPlace → ⊥ }
+        ensures unchanged { OnErr result (Changes NothingHappens g self.old.tenants self.new.tenants) }
+        ensures stop { IfErr result (λ error. IfStopped error IsForRoom) }
+        ensures full { (t : TenantIs) → (IsErrOf result (DebugError.Stop RunStop.LogFull) ↔ IsFull (slice_index_or self.old.tenants g t).guest.log) }
+        ensures around { SameAround self.old self.new }
+    {
+        let item = Item {
+            seat: SeatNo::new(3),
+            what: What::Write {
+                address,
+                bytes: WriteBytes::from_vec(bytes),
+            },
+        };
+        match self.input(g, item) {
+            Ok(_) => Ok(()),
+            Err(Refused::Machine) => unreachable!(),
+            Err(Refused::Away(_)) => unreachable!(),
+            Err(Refused::Stop(Stop::Memory)) => Err(DebugError::Stop(RunStop::Memory)),
+            Err(Refused::Stop(Stop::LogFull)) => Err(DebugError::Stop(RunStop::LogFull)),
+        }
+    }
+}
