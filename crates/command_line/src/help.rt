@@ -13,8 +13,9 @@ The lines of an input that was refused:
   vmhost: asm K line L   a source: the first fault, and its line
   vmhost: elf N          an executable: the first check that fails
   vmhost: raw            a raw image that is empty or longer than the memory
-  vmhost: boot 1         a number of pages that is not 2 to 16384
+  vmhost: boot N         a machine, or a script's guests
   vmhost: log N          a log
+  vmhost: script line L  a script: the first line that is refused
   vmhost: memory         the host has no memory left
 
 K, of a source:
@@ -31,6 +32,12 @@ N, of an executable:
   5  nothing to load                   7  a segment outside the memory
   8  two segments at one address       9  an entry that is no multiple of 4 or lies in no segment
 
+N, of what is booted:
+  1  a number outside its limits       2  an image that its guest's pages don't hold
+  3  a page of an image with neither frame nor slot
+  4  a page of an image that the store failed to write
+  5  no memory left for it
+
 N, of a log:
   0  the table machine keeps none      1  shorter than a header
   2  no log, or a wrong number of pages
@@ -44,3 +51,29 @@ The last line of the dump of a guest that stopped:
 pub const DUMP: &str = "\
 It prints the steps that were made, PC, HI and LO, the 32 general registers in rows of four, Status, Cause, EPC and BadVAddr,
 and the console's output, two hexadecimal digits a byte (- where there is none). All words are hexadecimal.";
+
+/// What a script says, and what is replied.
+pub const EVENTS: &str = "\
+The header, each once but for guests, which count from 0:
+  frames N  slots N  seed N  guest FILE PAGES SHARES  and perhaps  fail read K  or  fail write K
+
+Events, one a line, and what is replied to each:
+  step G N            at most N steps of guest G: step G done K, and need P first, swapped or copy, or stop S, where it ends early
+  run G N             the same with the pages that it needs supplied: run G done K
+  in G HEX            bytes for its console: in G K, how many were taken
+  drain G             the console's output: drain G HEX, or - for none
+  target G N          ok: its balloon is asked for N pages
+  poke G R 0xW        ok: its register R, 0 to 37, is written
+  write G 0xVA HEX    ok, error E14 for an address without memory, or stop S
+  probe G 0xVA LEN    the bytes, error E14 or stop S
+  fault G             the page that it needs is supplied: ok or stop S
+  scan G P            its page P is compared with others: noted, admitted G P, joined or skipped
+  evict G P           its page P leaves its frame: ok, skipped, refused 2 (no slot) or refused 8 (not written)
+  damage SLOT BYTE    ok: the byte of the slot is inverted
+  audit               frames N free N private N shared N refs N slots N of N
+  dump G              its state, as exec prints it
+
+S:
+  1  no frame  2  no slot  3  a slot that could not be read  4  a slot that is damaged  5  no memory left  6  a log that is full
+
+Numbers are decimal, addresses and words 0x and hexadecimal digits. An empty line and one that begins with # are skipped.";

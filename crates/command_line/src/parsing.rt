@@ -1,8 +1,8 @@
 //! The command line.
-use crate::help::{DUMP, REFUSALS};
+use crate::help::{DUMP, EVENTS, REFUSALS};
 use clap::error::ErrorKind;
 use clap::{Arg, ArgAction, ArgMatches, Command, Error, value_parser};
-use commands::{Asm, ConsoleInput, Dis, Exec, Format, MachineKind, Replay};
+use commands::{Asm, ConsoleInput, Dis, Exec, Format, MachineKind, Replay, Sim};
 use hex::FromHexError;
 use std::alloc::{AllocError, Global};
 
@@ -17,6 +17,8 @@ pub enum Order<'a> {
     Exec(Exec<'a>, ConsoleInput),
     /// Replay a log and print the state that the machine ends in.
     Replay(Replay<'a>),
+    /// Do the events of a script in a world of several guests, and print what is replied to each.
+    Sim(Sim<'a>),
 }
 
 /// What the command line asks for, with console input as its text.
@@ -26,6 +28,7 @@ enum Asked<'a> {
     Dis(Dis<'a>),
     Exec(Exec<'a>, &'a str),
     Replay(Replay<'a>),
+    Sim(Sim<'a>),
 }
 
 /// What the words ask for. The name of the program is not among them.
@@ -46,6 +49,7 @@ fn order_in<'a>(
         Some(Asked::Asm(asm)) => Ok(Order::Asm(asm)),
         Some(Asked::Dis(dis)) => Ok(Order::Dis(dis)),
         Some(Asked::Replay(replay)) => Ok(Order::Replay(replay)),
+        Some(Asked::Sim(sim)) => Ok(Order::Sim(sim)),
         Some(Asked::Exec(exec, digits)) => match console_input(alloc, digits)? {
             Some(input) => Ok(Order::Exec(exec, input)),
             None => Err(command.error(ErrorKind::ValueValidation, INPUT_REFUSED)?),
@@ -73,6 +77,7 @@ fn asked_of<'a>(matches: &ArgMatches<'a>) -> Option<Asked<'a>> {
         (ASM, of_asm) => Some(Asked::Asm(asm_of(of_asm)?)),
         (DIS, of_dis) => Some(Asked::Dis(dis_of(of_dis)?)),
         (REPLAY, of_replay) => Some(Asked::Replay(replay_of(of_replay)?)),
+        (SIM, of_sim) => Some(Asked::Sim(sim_of(of_sim)?)),
         (_, of_exec) => Some(Asked::Exec(exec_of(of_exec)?, of_exec.get_str(INPUT)?)),
     }
 }
@@ -87,6 +92,8 @@ const EXEC: &str = "exec";
 
 const REPLAY: &str = "replay";
 
+const SIM: &str = "sim";
+
 /// The option that gives console input.
 const INPUT: &str = "in";
 
@@ -94,14 +101,15 @@ fn whole_command<'a>(alloc: Global) -> Result<Command<'a>, AllocError> {
     let command = with_subcommand(bare_command(alloc)?, asm_command(alloc))?;
     let command = with_subcommand(command, dis_command(alloc))?;
     let command = with_subcommand(command, exec_command(alloc))?;
-    with_subcommand(command, replay_command(alloc))
+    let command = with_subcommand(command, replay_command(alloc))?;
+    with_subcommand(command, sim_command(alloc))
 }
 
 /// The command without its subcommands, of which it demands one.
 fn bare_command<'a>(alloc: Global) -> Result<Command<'a>, AllocError> {
     let command = Command::new(alloc, NAME)
         .bin_name(NAME)?
-        .about("Assembles, disassembles and runs MIPS32 machine code in a virtual machine")
+        .about("Assembles, disassembles and runs MIPS32 machine code in virtual machines")
         .no_binary_name(true)
         .subcommand_required(true)
         .after_help(REFUSALS);
@@ -146,6 +154,15 @@ fn replay_command<'a>(alloc: Global) -> Result<Command<'a>, AllocError> {
         .arg(raw_flag(alloc))?
         .arg(file(alloc, "image", "IMAGE").help("The file of the image that the log is of"))?
         .arg(file(alloc, "log", "LOG").help("The file of the log"))
+}
+
+fn sim_command<'a>(alloc: Global) -> Result<Command<'a>, AllocError> {
+    Command::new(alloc, SIM)
+        .about(
+            "Does the events of a script in a world of several guests and prints what is replied to each",
+        )
+        .after_help(EVENTS)
+        .arg(file(alloc, "script", "SCRIPT").help("The file of the script"))
 }
 
 fn with_flags<'a>(alloc: Global, command: Command<'a>) -> Result<Command<'a>, AllocError> {
@@ -237,6 +254,13 @@ fn replay_of<'a>(matches: &ArgMatches<'a>) -> Option<Replay<'a>> {
         image: matches.get_str("image")?,
         format: format_of(matches),
         log: matches.get_str("log")?,
+    })
+}
+
+/// What the matches of `sim` ask for; its argument is required.
+fn sim_of<'a>(matches: &ArgMatches<'a>) -> Option<Sim<'a>> {
+    Some(Sim {
+        script: matches.get_str("script")?,
     })
 }
 

@@ -6,8 +6,8 @@ ghost use Rattle.command_line.specs.Exit.{code_of};
 use crate::parsing::{Order, parse};
 use clap::Error;
 use commands::{
-    Asm, ConsoleInput, Dis, Exec, Fault, Replay, Report, assemble_file, disassemble_file,
-    replay_log, run_image,
+    Asm, ConsoleInput, Dis, Exec, Fault, Replay, Report, Sim, assemble_file, disassemble_file,
+    replay_log, run_image, run_script, script_text,
 };
 use std::io::{BufRead, ErrorKind, Write};
 use std::rt::{Env, Files};
@@ -93,19 +93,31 @@ where
     ensures carried_out { IfOk result (λ s. code_of s ≢ 1 → err.new ≡ err.old) }
     ensures one_output { (out.new ≡ out.old) ⊎ (err.new ≡ err.old) }
 {
-    match carry_out(rt, order) {
-        Ok(answer) => write_answer(&answer, out),
-        Err(fault) => write_fault(&fault, err),
+    match order {
+        Order::Asm(order) => write_answer(assembled(rt, order), out, err),
+        Order::Dis(order) => write_answer(disassembled(rt, order), out, err),
+        Order::Exec(order, input) => write_answer(executed(rt, order, &input), out, err),
+        Order::Replay(order) => write_answer(replayed(rt, order), out, err),
+        Order::Sim(order) => answer_script(rt, order, out, err),
     }
 }
 
-fn carry_out<'a, R: Files + AllocGlobal>(rt: &R, order: Order<'a>) -> Result<Answer, Fault<'a>> {
-    match order {
-        Order::Asm(order) => assembled(rt, order),
-        Order::Dis(order) => disassembled(rt, order),
-        Order::Exec(order, input) => executed(rt, order, &input),
-        Order::Replay(order) => replayed(rt, order),
-    }
+/// Does what a script says. Its faults name files by its text.
+fn answer_script<R, O, E>(rt: &R, order: Sim<'_>, out: &mut O, err: &mut E) -> io::Result<Status>
+where
+    R: Files + AllocGlobal,
+    O: Write,
+    E: Write,
+    ensures usage { IfOk result (λ s. code_of s ≢ 2) }
+    ensures refused { IfOk result (λ s. code_of s ≡ 1 → out.new ≡ out.old) }
+    ensures carried_out { IfOk result (λ s. code_of s ≢ 1 → err.new ≡ err.old) }
+    ensures one_output { (out.new ≡ out.old) ⊎ (err.new ≡ err.old) }
+{
+    let text = match script_text(rt, order) {
+        Ok(text) => text,
+        Err(fault) => return write_fault(&fault, err),
+    };
+    write_answer(simulated(rt, &text), out, err)
 }
 
 fn assembled<'a, R: Files + AllocGlobal>(rt: &R, order: Asm<'a>) -> Result<Answer, Fault<'a>> {
@@ -129,7 +141,28 @@ fn replayed<'a, R: Files + AllocGlobal>(rt: &R, order: Replay<'a>) -> Result<Ans
     Ok(Answer::Text(replay_log(rt, order)?))
 }
 
-fn write_answer<O: Write>(answer: &Answer, out: &mut O) -> io::Result<Status>
+fn simulated<'a, R: Files + AllocGlobal>(rt: &R, text: &'a str) -> Result<Answer, Fault<'a>> {
+    Ok(Answer::Text(run_script(rt, text)?))
+}
+
+/// Writes what a command answered: what it prints, or its fault.
+fn write_answer<O: Write, E: Write>(
+    answered: Result<Answer, Fault<'_>>,
+    out: &mut O,
+    err: &mut E,
+) -> io::Result<Status>
+    ensures usage { IfOk result (λ s. code_of s ≢ 2) }
+    ensures refused { IfOk result (λ s. code_of s ≡ 1 → out.new ≡ out.old) }
+    ensures carried_out { IfOk result (λ s. code_of s ≢ 1 → err.new ≡ err.old) }
+    ensures one_output { (out.new ≡ out.old) ⊎ (err.new ≡ err.old) }
+{
+    match answered {
+        Ok(answer) => print_answer(&answer, out),
+        Err(fault) => write_fault(&fault, err),
+    }
+}
+
+fn print_answer<O: Write>(answer: &Answer, out: &mut O) -> io::Result<Status>
     ensures not_refused { IfOk result (λ s. code_of s ≢ 1) }
     ensures not_usage { IfOk result (λ s. code_of s ≢ 2) }
 {

@@ -2,3 +2,4 @@ mod Feeding
 mod Reading
 mod Replaying
 mod Reports
+mod Simulating

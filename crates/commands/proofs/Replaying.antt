@@ -1,7 +1,5 @@
 -- The items of entries that are replayed one after another.
-use Rattle.std.proofs.Common.{ℕ, zero, suc, ◌≡◌, ◌+◌, ◌*◌, ◌%◌, ◌^◌, ◌<◌, ◌↔◌, arith, List, [], ◌∷◌, ◌++◌, length, get_or, drop, refl, sym, ap, subst, ◌∙◌, add-one, drop-cons}
-use Rattle.std.proofs.lemmas.List.Folds.{sum_by-replicate}
-use Rattle.std.proofs.lemmas.List.Sums.{sum_by-append}
+use Rattle.std.proofs.Common.{ℕ, zero, suc, ◌≡◌, ◌+◌, ◌<◌, ◌↔◌, List, [], ◌∷◌, ◌++◌, length, get_or, drop, refl, sym, ap, subst, ◌∙◌}
 use Rattle.items.specs.declared.item.Item.{Item}
 use Rattle.items.specs.declared.entry.Entry.{Entry}
 use Rattle.items.specs.Entries.{step_by, steps_of, items_in, items_of}
@@ -9,7 +7,7 @@ use Rattle.items.proofs.Runs.{steps_of-one, steps_of-join}
 use Rattle.mips_step.specs.Step.{Machine, step}
 use Rattle.flatvm.specs.Items.{run, AllAccepted}
 use Rattle.flatvm.proofs.Runs.{run_append, accepted_append}
-use Rattle.commands.specs.Replays.{one_step, step_count}
+use Rattle.dump.proofs.Counting.{items_from}
 
 -- one step more
 pub steps_run : (seat made : ℕ) (m now after : Machine) → now ≡ run (steps_of seat made) m → after ≡ step now → after ≡ run (steps_of seat (made + 1)) m
@@ -22,12 +20,6 @@ pub steps_accepted : (seat n : ℕ) (m : Machine) → AllAccepted (steps_of seat
 unfolding steps_of
 steps_accepted seat zero m = tt
 steps_accepted seat (suc n) m = (refl, steps_accepted seat n (step m))
-
--- the items of the entries from one on, and those behind it
-pub items_from : (entries : List Entry) (k : ℕ) (e : Entry) → k < length entries → e ≡ get_or entries k e → items_of (drop k entries) ≡ items_in e ++ items_of (drop (k + 1) entries)
-items_from entries k e below is =
-    ap items_of (drop-cons entries k e below ∙ ap (λ (x : Entry). x ∷ drop (suc k) entries) (sym is))
-    ∙ ap (λ (n : ℕ). items_in e ++ items_of (drop n entries)) (sym (add-one k))
 
 -- what is left to replay
 pub record Left (entries rest : List Entry) (m now : Machine) : Type 0 where
@@ -55,17 +47,3 @@ refused_here entries k e m now below is left never all =
     let from = items_from entries k e below is in
     let rest = items_of (drop (k + 1) entries) in
     never ((accepted_append (items_in e) rest now).0 (subst (λ (items : List Item). AllAccepted items now) from (left.accepted.1 all))).0
-
--- a run of steps has as many
-pub steps_counted : (seat n : ℕ) → step_count (steps_of seat n) ≡ n
-unfolding steps_of
-steps_counted seat n = omega (arith, sum_by-replicate one_step n (step_by seat))
-
--- the steps of the entries up to one, and those behind it, modulo 2^64
-pub counted_after : (entries : List Entry) (k : ℕ) (e : Entry) (steps here new : ℕ) → k < length entries → e ≡ get_or entries k e
-    → (steps + step_count (items_of (drop k entries))) % 2 ^ 64 ≡ step_count (items_of entries) % 2 ^ 64
-    → here ≡ step_count (items_in e) % 2 ^ 64 → new ≡ (steps + here) % 2 ^ 64
-    → (new + step_count (items_of (drop (k + 1) entries))) % 2 ^ 64 ≡ step_count (items_of entries) % 2 ^ 64
-counted_after entries k e steps here new below is before h n =
-    let from = ap step_count (items_from entries k e below is) ∙ sum_by-append one_step (items_in e) (items_of (drop (k + 1) entries)) in
-    omega (arith, from, before, h, n)

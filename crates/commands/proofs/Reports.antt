@@ -11,8 +11,9 @@ use Rattle.logfile.specs.Files.{HasHeader, HasEntries}
 use Rattle.commands.specs.declared.exec.Report.{Report}
 use Rattle.commands.specs.declared.order.Exec.{Exec}
 use Rattle.commands.specs.declared.order.Replay.{Replay}
-use Rattle.commands.specs.Dumps.{dump_text}
-use Rattle.commands.specs.Replays.{IsReplay, step_count}
+use Rattle.dump.specs.Dumps.{dump_text}
+use Rattle.dump.specs.Steps.{step_count}
+use Rattle.commands.specs.Replays.{IsReplay}
 use Rattle.commands.specs.Runs.{IsImageOf, IsReport, IsReportOf}
 
 -- a report of a run of the image that was loaded, whether or not the file's bytes are known

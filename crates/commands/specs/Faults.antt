@@ -1,5 +1,5 @@
 -- Which faults a command can have.
-use Rattle.std.specs.Prelude.{◌≡◌, ◌⊎◌, ℕ, true, is_some, List, Some}
+use Rattle.std.specs.Prelude.{◌≡◌, ◌⊎◌, ℕ, true, is_some, List, Some, Ok}
 use Rattle.elf32.specs.Faults.{first_fault}
 use Rattle.masm.specs.Assembly as assembly
 use Rattle.masm.specs.declared.error.AsmError.{AsmError}
@@ -17,8 +17,11 @@ use Rattle.commands.specs.declared.order.MachineKind.TheVariants as machine
 use Rattle.commands.specs.declared.fault.LogRefusal.{LogRefusal}
 use Rattle.commands.specs.declared.fault.LogRefusal.TheVariants as log
 use Rattle.commands.specs.declared.fault.Fault.{Fault}
-use Rattle.commands.specs.declared.fault.Fault.TheVariants.{File, Asm, Elf, Raw, Limits, Log, Memory}
+use Rattle.commands.specs.declared.fault.Fault.TheVariants.{File, Asm, Elf, Raw, Script, Boot, Log, Memory}
+use Rattle.script.specs.Scripts as scripts
+use Rattle.world.specs.declared.loading.BootError.TheVariants.{Limits}
 use Rattle.commands.specs.Raw.{IsPageCount}
+use Rattle.commands.specs.Sims.{IsKnown}
 
 -- memory may be wanted by each command; of the other faults it has those that are named
 
@@ -26,7 +29,7 @@ use Rattle.commands.specs.Raw.{IsPageCount}
 abbrev pub IsRawFault : Exec → Fault → Type 0
 IsRawFault order (File name) = name ≡ order.image
 IsRawFault order Raw = Unit {0}
-IsRawFault order Limits = ¬ IsPageCount order.pages
+IsRawFault order (Boot error) = (error ≡ Limits) × ¬ IsPageCount order.pages
 IsRawFault order Memory = Unit {0}
 IsRawFault order other = ⊥
 
@@ -49,7 +52,7 @@ abbrev pub IsImageFault : Exec → Fault → Type 0
 IsImageFault order (File name) = name ≡ order.image
 IsImageFault order (Elf fault) = order.format ≡ format.Elf
 IsImageFault order Raw = order.format ≡ format.Raw
-IsImageFault order Limits = ¬ IsPageCount order.pages
+IsImageFault order (Boot error) = (error ≡ Limits) × ¬ IsPageCount order.pages
 IsImageFault order Memory = Unit {0}
 IsImageFault order other = ⊥
 
@@ -57,7 +60,7 @@ IsImageFault order other = ⊥
 abbrev pub IsElfRunFault : Exec → Fault → Type 0
 IsElfRunFault order (File name) = name ≡ order.image
 IsElfRunFault order (Elf fault) = Unit {0}
-IsElfRunFault order Limits = ¬ IsPageCount order.pages
+IsElfRunFault order (Boot error) = (error ≡ Limits) × ¬ IsPageCount order.pages
 IsElfRunFault order Memory = Unit {0}
 IsElfRunFault order other = ⊥
 
@@ -72,7 +75,7 @@ abbrev pub IsExecFault : Exec → Fault → Type 0
 IsExecFault order (File name) = (name ≡ order.image) ⊎ (order.log ≡ Some name)
 IsExecFault order (Elf fault) = order.format ≡ format.Elf
 IsExecFault order Raw = order.format ≡ format.Raw
-IsExecFault order Limits = ¬ IsPageCount order.pages
+IsExecFault order (Boot error) = (error ≡ Limits) × ¬ IsPageCount order.pages
 IsExecFault order (Log refusal) = (refusal ≡ log.Flat) × (order.kind ≡ machine.Flat) × (is_some order.log ≡ true)
 IsExecFault order Memory = Unit {0}
 IsExecFault order other = ⊥
@@ -129,3 +132,35 @@ IsAsmRunFault order (File name) = (name ≡ order.source) ⊎ (name ≡ order.ou
 IsAsmRunFault order (Asm fault line) = Unit {0}
 IsAsmRunFault order Memory = Unit {0}
 IsAsmRunFault order other = ⊥
+
+-- the text is no script, or one that says what is not known here
+abbrev pub IsRefusedScript : List ℕ → Type 0
+IsRefusedScript text = (script : scripts.Script) → scripts.script_of text ≡ Ok script → IsKnown script → ⊥
+
+-- of the text of a script: it is refused
+abbrev pub IsScriptFault : List ℕ → Fault → Type 0
+IsScriptFault text (Script line) = IsRefusedScript text
+IsScriptFault text Memory = Unit {0}
+IsScriptFault text other = ⊥
+
+-- of the file of a guest: it can't be read, or it is refused
+abbrev pub IsFileFault : Fault → Type 0
+IsFileFault (File name) = Unit {0}
+IsFileFault (Elf fault) = Unit {0}
+IsFileFault Memory = Unit {0}
+IsFileFault other = ⊥
+
+-- of a world that is to be booted, and of what is replied in it
+abbrev pub IsToldFault : Fault → Type 0
+IsToldFault (Boot error) = Unit {0}
+IsToldFault Memory = Unit {0}
+IsToldFault other = ⊥
+
+-- of a script that is done: it is refused, or the file of a guest is, or the world
+abbrev pub IsSimFault : List ℕ → Fault → Type 0
+IsSimFault text (Script line) = IsRefusedScript text
+IsSimFault text (File name) = Unit {0}
+IsSimFault text (Elf fault) = Unit {0}
+IsSimFault text (Boot error) = Unit {0}
+IsSimFault text Memory = Unit {0}
+IsSimFault text other = ⊥

@@ -1,7 +1,7 @@
-pub mod Dumps
 pub mod Faults
 pub mod LogFiles
 pub mod Raw
 pub mod Replays
 pub mod Runs
+pub mod Sims
 pub mod Sources

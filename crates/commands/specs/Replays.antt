@@ -1,24 +1,16 @@
 -- What a replay of a log prints.
-use Rattle.std.specs.Prelude.{◌≡◌, ℕ, ◌%◌, ◌^◌, Bool, if◌then◌else◌, None, List, sum_by}
+use Rattle.std.specs.Prelude.{◌≡◌, ℕ, ◌%◌, ◌^◌, None, List}
 use Rattle.sha2.specs.Sha256.{sha256}
 use Rattle.elf32.specs.declared.image.Image.{Image}
-use Rattle.items.specs.declared.item.Item.{Item}
 use Rattle.items.specs.declared.entry.Entry.{Entry}
-use Rattle.items.specs.Items.{is_step}
 use Rattle.items.specs.Entries.{items_of}
 use Rattle.flatvm.specs.Boot.{boot_machine}
 use Rattle.flatvm.specs.Items.{run, AllAccepted}
 use Rattle.logfile.specs.Files.{HasHeader, HasEntries}
 use Rattle.commands.specs.declared.order.Replay.{Replay}
-use Rattle.commands.specs.Dumps.{dump_text}
+use Rattle.dump.specs.Dumps.{dump_text}
+use Rattle.dump.specs.Steps.{step_count}
 use Rattle.commands.specs.Runs.{IsImageOf}
-
--- how many of some items are steps
-abbrev pub one_step : Item → ℕ
-one_step i = if is_step i.what then 1 else 0
-
-abbrev pub step_count : List Item → ℕ
-step_count items = sum_by one_step items
 
 -- the text of a replay of a log's file over an image's file: of the machine that the image boots, after the items that the log
 -- has, each of which it accepts; its steps are those of the log

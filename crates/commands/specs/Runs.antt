@@ -1,5 +1,5 @@
 -- What a run of a machine does.
-use Rattle.std.specs.Prelude.{◌≡◌, ◌<◌, ◌≤◌, ℕ, zero, suc, List, [], ◌∷◌, Option, Some, None, length, take, string_bytes}
+use Rattle.std.specs.Prelude.{◌≡◌, ◌<◌, ◌≤◌, ℕ, zero, suc, List, [], ◌∷◌, None, length, take, string_bytes}
 use Rattle.elf32.specs.declared.image.Image.{Image}
 use Rattle.elf32.specs.Files.{StandsFor}
 use Rattle.items.specs.declared.item.What.TheVariants.{In}
@@ -14,7 +14,7 @@ use Rattle.commands.specs.declared.machine.Ran.{Ran}
 use Rattle.commands.specs.declared.order.Exec.{Exec}
 use Rattle.commands.specs.declared.order.Format.{Format}
 use Rattle.commands.specs.declared.order.Format.TheVariants as format
-use Rattle.commands.specs.Dumps.{dump_text}
+use Rattle.dump.specs.Dumps.{dump_text}
 use Rattle.commands.specs.Raw.{IsRawImage}
 
 -- the machine after some steps

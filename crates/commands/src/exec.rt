@@ -5,23 +5,24 @@ ghost use Rattle.elf32.specs.declared.image.Image.{Image};
 ghost use Rattle.elf32.specs.Files.{StandsFor};
 ghost use Rattle.elf32.specs.Images.{FitsPages};
 ghost use Rattle.flatvm.specs.Boot.{boot_machine};
-ghost use Rattle.commands.specs.Dumps.{dump_text};
+ghost use Rattle.dump.specs.Dumps.{dump_text};
 ghost use Rattle.commands.specs.Faults.{IsElfRunFault, IsExecFault, IsImageFault, IsRunFault};
 ghost use Rattle.commands.specs.Raw.{IsPageCount};
 ghost use Rattle.commands.specs.Runs.{after_run, IsImageOf, IsReport, IsReportOf};
 
-use crate::dump::dump;
 use crate::fault::{Fault, LogRefusal, of_file};
 use crate::image_file::{Loaded, elf_image, is_page_count, raw_image};
 use crate::log_file::write_log;
 use crate::machine::{Ran, Runnable, boot_guest, run};
 use crate::order::{ConsoleInput, Exec, Format, MachineKind};
+use dump::dump;
 use flatvm::Flat;
 use guest::Runner;
 use std::alloc::{AllocError, Global};
 use std::fs::File;
 use std::io::Read;
 use std::rt::Files;
+use world::BootError;
 
 /// What a run prints, and how it went.
 #[derive(Drop)]
@@ -49,7 +50,7 @@ pub struct Done {
 ///
 /// An error is `Log` where the table machine is asked for a log; `File` where the image's file can't be read or the log's
 /// written, and where both are one; `Elf` with the first fault of a file that is no executable for so many pages; `Raw`
-/// where a raw image is empty or longer than the pages; `Limits` where the number of pages is outside its limits; `Memory`
+/// where a raw image is empty or longer than the pages; `Boot` where the number of pages is outside its limits; `Memory`
 /// where a request for memory was refused.
 pub fn run_image<'a, R: Files + AllocGlobal>(
     rt: &R,
@@ -125,7 +126,8 @@ fn run_guest(
     requires legal { IsPageCount order.pages }
     ensures report { IfOk result (λ done. IsReport (boot_machine loaded.image order.entry.pages) input.now order.entry.steps done.report) }
     ensures digest { IfOk result (λ done. done.digest ≡ loaded.digest) }
-    ensures guest { IfOk result (λ done. IfSome done.runner (λ r. r.machine ≡ after_run done.report.ran input.now (boot_machine loaded.image order.entry.pages))) }
+    ensures guest { IfOk result
+        (λ done. IfSome done.runner (λ r. r.machine ≡ after_run done.report.ran input.now (boot_machine loaded.image order.entry.pages))) }
     ensures runner { IfOk result (λ done. done.runner ≢ None) }
 {
     let Loaded { image, digest } = loaded;
@@ -215,6 +217,8 @@ fn load_elf<'a, F: Read + Drop>(
     if is_page_count(order.pages) {
         Ok(loaded)
     } else {
-        Err(Fault::Limits)
+        Err(Fault::Boot {
+            error: BootError::Limits,
+        })
     }
 }

@@ -10,6 +10,7 @@ use std::alloc::AllocError;
 use std::io;
 use std::io::ErrorKind;
 use thiserror::Error;
+use world::BootError;
 
 /// Why a command is refused. Its text is what stands after `vmhost: ` on standard error.
 #[derive(Clone, Copy, Debug, Error)]
@@ -26,9 +27,13 @@ pub enum Fault<'a> {
     /// A raw image is empty, or longer than the pages.
     #[error("raw")]
     Raw,
-    /// The number of pages is outside its limits.
-    #[error("boot 1")]
-    Limits,
+    /// The script has this line, the first that is refused, counted from 1. Where the header lacks a line and no event follows, it is
+    /// the line after the last.
+    #[error("script line {line}")]
+    Script { line: u64 },
+    /// A machine or a world is not booted, for this reason.
+    #[error("boot {number}", number = .error.number())]
+    Boot { error: BootError },
     /// A log can't be written or replayed, for this reason.
     #[error("log {number}", number = .fault.number())]
     Log { fault: LogRefusal },

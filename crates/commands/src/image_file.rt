@@ -13,6 +13,7 @@ use logfile::image_digest;
 use std::alloc::Global;
 use std::io;
 use std::io::Read;
+use world::BootError;
 
 /// The least and the greatest number of pages.
 const LEAST_PAGES: u32 = 2;
@@ -82,7 +83,7 @@ pub fn image_in<'a>(alloc: Global, bytes: &[u8], pages: u32) -> Result<Image, Fa
 
 /// The image of a file without a header, which the pages hold.
 ///
-/// An error is `Raw` where the file is empty or longer than the pages, then `Limits` where the number of pages is outside
+/// An error is `Raw` where the file is empty or longer than the pages, then `Boot` where the number of pages is outside
 /// its limits, `Memory` where a request for memory was refused, and `File` where the file can't be read.
 pub fn raw_image<'a, F: Read + Drop>(
     alloc: Global,
@@ -151,7 +152,9 @@ fn fault_outside<'a, F: Read + Drop>(file: F, order: Exec<'a>) -> Fault<'a>
 {
     let room = u64::from(order.pages) * 4096;
     match of_file(order.image, length_up_to(file, room + 1)) {
-        Ok(length) if is_raw(length, room) => Fault::Limits,
+        Ok(length) if is_raw(length, room) => Fault::Boot {
+            error: BootError::Limits,
+        },
         Ok(_) => Fault::Raw,
         Err(fault) => fault,
     }

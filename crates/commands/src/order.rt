@@ -47,6 +47,13 @@ pub struct Replay<'a> {
     pub log: &'a str,
 }
 
+/// What `sim` does.
+#[derive(Clone, Copy, Debug)]
+pub struct Sim<'a> {
+    /// The name of the script's file.
+    pub script: &'a str,
+}
+
 /// The console input that a run begins with: at most 256 bytes. In clauses it is the list of the bytes.
 #[derive(Debug, Drop)]
 pub struct ConsoleInput {

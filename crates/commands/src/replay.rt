@@ -8,13 +8,14 @@ ghost use Rattle.flatvm.specs.Items.{run, AllAccepted};
 ghost use Rattle.logfile.specs.Files.{HasHeader};
 ghost use Rattle.commands.specs.Faults.{IsReplayFault};
 ghost use Rattle.commands.specs.Raw.{IsPageCount};
-ghost use Rattle.commands.specs.Replays.{IsReplay, step_count};
+ghost use Rattle.dump.specs.Steps.{step_count};
+ghost use Rattle.commands.specs.Replays.{IsReplay};
 ghost use Rattle.commands.specs.Runs.{IsImageOf};
 
-use crate::dump::dump;
 use crate::fault::{Fault, LogRefusal, log_file_fault, of_file};
 use crate::image_file::{image_in, raw_image_in, whole_file};
 use crate::order::{Format, Replay};
+use dump::dump;
 use elf32::Image;
 use flatvm::{Flat, Rejection};
 use items::{Entry, SeatNo, What};
@@ -134,7 +135,7 @@ pub fn replay_entries(flat: &mut Flat, entries: &[Entry]) -> Result<u64, Halt>
 }
 
 /// Replays the items that an entry keeps, and tells how many of them are steps.
-#[tactic(auto, using(crate::proofs::Replaying::steps_counted))]
+#[tactic(auto, using(dump::proofs::Counting::steps_counted))]
 fn replay_entry(flat: &mut Flat, entry: &Entry) -> Result<u64, Halt>
     ensures run { OnOk result (flat.new ≡ run (items_in entry.now) flat.old) }
     ensures accepted { OnOk result (AllAccepted (items_in entry.now) flat.old) }

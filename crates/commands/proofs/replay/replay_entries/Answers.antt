@@ -1,5 +1,6 @@
 use Rattle.std.proofs.Common.{rules}
-use Rattle.commands.proofs.Replaying.{left_after, refused_here, counted_after}
+use Rattle.dump.proofs.Counting.{counted_after}
+use Rattle.commands.proofs.Replaying.{left_after, refused_here}
 use Rattle.commands.proofs.replay.replay_entries.Goals as goal
 
 pub loop-entry-preserved : goal.loop-entry-preserved

@@ -1,6 +1,6 @@
 use Rattle.std.proofs.Common.{◌≡◌, ◌+◌, ◌%◌, ◌^◌, drop}
 use Rattle.items.specs.Entries.{items_of}
-use Rattle.commands.specs.Replays.{step_count}
+use Rattle.dump.specs.Steps.{step_count}
 use Rattle.commands.proofs.Replaying.{Left}
 use Rattle.commands.proofs.replay.replay_entries.Given as goal
 

@@ -1,0 +1,112 @@
+-- Events of scripts that can be done.
+use Rattle.std.proofs.Common.{◌≡◌, refl, sym, ap, subst, ◌∙◌, Result, Ok, Err, IfOk, Option, Some, None, is_some, String, Global, string_bytes, false, arith, ℕ, zero, suc, ◌<◌, ◌≤◌, true, nat_lt, List, [], ◌∷◌, All, length, map, slice_get, ltb-true, leb-true}
+use Rattle.std.proofs.lemmas.Bool.{and_parts}
+use Rattle.std.proofs.lemmas.List.{length-map}
+use Rattle.std.specs.List.{list_all}
+use Rattle.std.proofs.lemmas.List.Elements.{All-nil, All-cons, All-head, All-tail, All-map}
+use Rattle.script.specs.declared.event.Event.{Event}
+use Rattle.script.specs.declared.event.Event.TheVariants as event
+use Rattle.script.specs.declared.header.GuestLine.{GuestLine}
+use Rattle.script.specs.Allowed.{is_allowed, has_pages}
+use Rattle.script.specs.Headers as headers
+use Rattle.script.specs.Views.{event_view, guest_view, script_view}
+use Rattle.script.specs.declared.header.Script.{Script as ScriptCode}
+use Rattle.world.specs.declared.boot.NewGuest.{NewGuest}
+use Rattle.world.specs.Boots.{AreWithinLimits}
+use Rattle.simulation.specs.Transcripts.{IsTranscript}
+use Rattle.simulation.specs.Effects.{IsFor}
+use Rattle.script.specs.Scripts.{Script, script_of}
+use Rattle.commands.specs.Faults.{IsRefusedScript}
+use Rattle.commands.specs.Sims.{IsKnown, IsKnownEvent, IsPlain, IsSimulation, line_numbers, log_runs, numbers_of}
+
+has_them : (lines : List headers.GuestLine) (g pages : ℕ) → has_pages (slice_get lines g) pages ≡ true → g < length lines
+has_them [] g pages e = absurd (cc)
+has_them (line ∷ lines) zero pages e = omega arith
+has_them (line ∷ lines) (suc g) pages e = omega (arith, has_them lines g pages e)
+
+inside : (guests : List GuestLine) (g : ℕ) → nat_lt g (length (map guest_view guests)) ≡ true → g < length guests
+inside guests g e = omega (arith, ltb-true g (length (map guest_view guests)) e, length-map guests guest_view)
+
+one_for : (guests : List GuestLine) (slots : ℕ) (e : Event) → is_allowed (map guest_view guests) slots (event_view e) ≡ true → IsKnownEvent (event_view e) → IsFor (length guests) slots e
+unfolding is_allowed
+one_for guests slots (event.Step guest count) allowed known = inside guests guest allowed
+one_for guests slots (event.Run guest count) allowed known = inside guests guest allowed
+one_for guests slots (event.In guest bytes) allowed known = inside guests guest allowed
+one_for guests slots (event.Drain guest) allowed known = inside guests guest allowed
+one_for guests slots (event.Target guest pages) allowed known = omega (arith, has_them (map guest_view guests) guest pages allowed, length-map guests guest_view)
+one_for guests slots (event.Poke guest register value) allowed known =
+    let parts = and_parts _ _ allowed in
+    (inside guests guest parts.0, omega (arith, leb-true register 37 parts.1))
+one_for guests slots (event.Write guest address bytes) allowed known =
+    let parts = and_parts _ _ allowed in
+    let sizes = and_parts _ _ parts.1 in
+    let some : 1 ≤ length bytes.items = leb-true 1 (length bytes.items) sizes.0 in
+    (inside guests guest parts.0, omega (arith, some), leb-true (length bytes.items) 1024 sizes.1)
+one_for guests slots (event.Probe guest address count) allowed known =
+    let parts = and_parts _ _ allowed in
+    let sizes = and_parts _ _ parts.1 in
+    let some : 1 ≤ count = leb-true 1 count sizes.0 in
+    (inside guests guest parts.0, omega (arith, some), leb-true count 1024 sizes.1)
+one_for guests slots (event.Fault guest) allowed known = inside guests guest allowed
+one_for guests slots (event.Scan guest page) allowed known = inside guests guest allowed
+one_for guests slots (event.Evict guest page) allowed known = inside guests guest allowed
+one_for guests slots event.Sample allowed known = known
+one_for guests slots event.Level allowed known = known
+one_for guests slots event.Audit allowed known = tt
+one_for guests slots (event.Dump guest) allowed known = inside guests guest allowed
+one_for guests slots (event.Damage slot byte) allowed known =
+    let parts = and_parts _ _ allowed in
+    (ltb-true slot slots parts.0, omega (arith, leb-true byte 4095 parts.1))
+
+-- events that a header allows and that are known can be done in its world
+pub all_for : (guests : List GuestLine) (slots : ℕ) (events : List Event) → list_all (is_allowed (map guest_view guests) slots) (map event_view events) ≡ true
+    → All IsKnownEvent (map event_view events) → All (IsFor (length guests) slots) events
+all_for guests slots [] allowed known = All-nil (IsFor (length guests) slots)
+all_for guests slots (e ∷ events) allowed known =
+    let parts = and_parts _ _ allowed in
+    All-cons (IsFor (length guests) slots) e events (one_for guests slots e parts.0 (All-head IsKnownEvent (event_view e) (map event_view events) known))
+    (all_for guests slots events parts.1 (All-tail IsKnownEvent (event_view e) (map event_view events) known))
+
+-- ---- scripts that are known
+
+unmapped : {X Y : Type 0} (P : Y → Type 0) (f : X → Y) (xs : List X) → All P (map f xs) → All (λ x. P (f x)) xs
+unmapped P f [] all = All-nil (λ x. P (f x))
+unmapped P f (x ∷ xs) all = All-cons (λ x. P (f x)) x xs (All-head P (f x) (map f xs) all) (unmapped P f xs (All-tail P (f x) (map f xs) all))
+
+pub none_is : (given : Option ℕ) → is_some given ≡ false → given ≡ None
+none_is None e = refl
+none_is (Some n) e = absurd (cc)
+
+pub plain_guests : (script : ScriptCode) → IsKnown (script_view script) → All (λ line. IsPlain (guest_view line)) script.header.guests.items
+plain_guests script known = unmapped IsPlain guest_view script.header.guests.items known.guests
+
+pub known_events : (script : ScriptCode) → IsKnown (script_view script) → All (λ event. IsKnownEvent (event_view event)) script.events.items
+known_events script known = unmapped IsKnownEvent event_view script.events.items known.events
+
+pub known_script : (script : ScriptCode) → All (λ line. IsPlain (guest_view line)) script.header.guests.items → script.header.admit ≡ false → script.header.profile ≡ None
+    → All (λ event. IsKnownEvent (event_view event)) script.events.items → IsKnown (script_view script)
+known_script script plain admit profile events = record {
+  guests = All-map IsPlain guest_view script.header.guests.items plain;
+  admit = admit;
+  profile = profile;
+  events = All-map IsKnownEvent event_view script.events.items events;
+}
+
+-- what is replied to a script, where it is
+pub simulated : {E : Type 0} (r : Result (String Global) E) (text : List ℕ) (script : ScriptCode) (guests : List NewGuest) → script_of text ≡ Ok (script_view script) → IsKnown (script_view script)
+    → map numbers_of guests ≡ map line_numbers script.header.guests.items → IfOk r (λ replies. IsTranscript (Unit {0}) guests script.events.items (string_bytes replies))
+    → IfOk r (λ replies. AreWithinLimits script.header.frames script.header.slots log_runs guests) → IfOk r (λ replies. IsSimulation text (string_bytes replies))
+simulated (Err error) text script guests reads known numbers transcript within = tt
+simulated (Ok replies) text script guests reads known numbers transcript within =
+    record { script = script; reads = reads; known = known; guests = guests; numbers = numbers; within = within; transcript = transcript }
+
+-- a text is one script alone
+pub refused : (text : List ℕ) (script : Script) → script_of text ≡ Ok script → (IsKnown script → ⊥) → IsRefusedScript text
+refused text script is unknown = λ other also known. unknown (subst IsKnown (ap (λ (r : Result Script ℕ). script_or script r) (sym also ∙ is)) known)
+  where
+    script_or : Script → Result Script ℕ → Script
+    script_or any (Ok s) = s
+    script_or any (Err line) = any
+
+pub not_read : (text : List ℕ) (line : ℕ) → script_of text ≡ Err line → IsRefusedScript text
+not_read text line is = λ other also known. absurd (cc)

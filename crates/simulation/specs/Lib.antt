@@ -1,0 +1,4 @@
+pub mod Answers
+pub mod Effects
+pub mod Replies
+pub mod Transcripts
