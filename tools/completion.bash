@@ -2,7 +2,7 @@
 _vmhost() {
     local word=${COMP_WORDS[COMP_CWORD]} before=${COMP_WORDS[COMP_CWORD - 1]} words
     if [ "$COMP_CWORD" = 1 ]; then
-        words='asm dis exec replay help --help'
+        words='asm dis exec replay sim help --help'
     else
         case $before in
             --pages | --steps | --in) return ;;
@@ -10,8 +10,8 @@ _vmhost() {
         case ${COMP_WORDS[1]} in
             exec) words='--raw --flat --pages --steps --in --log --help' ;;
             replay) words='--raw --help' ;;
-            asm | dis) words='--help' ;;
-            help) words='asm dis exec replay' ;;
+            asm | dis | sim) words='--help' ;;
+            help) words='asm dis exec replay sim' ;;
         esac
     fi
     if [ "$COMP_CWORD" = 1 ] || [ "${COMP_WORDS[1]}" = help ] || [ "${word#-}" != "$word" ]; then

@@ -1,0 +1,3 @@
+        .word 0
+        .space 16384
+        .word 0
