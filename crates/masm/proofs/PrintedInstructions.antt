@@ -11,7 +11,7 @@ use Rattle.mips_instr.specs.declared.instr.Instr.TheVariants as instr
 use Rattle.mips_instr.specs.declared.instr.ImmediateOp.{ImmediateOp}
 use Rattle.mips_instr.specs.declared.instr.ImmediateOp.TheVariants.{Addi, Addiu, Slti, Sltiu, Andi, Ori, Xori}
 use Rattle.mips_instr.specs.declared.operand.Operand.TheVariants as printed
-use Rattle.mips_instr.specs.declared.instr.RegisterOp.{RegisterOp}
+use Rattle.mips_instr.specs.declared.instr.ThreeRegisterOp.{ThreeRegisterOp}
 use Rattle.mips_instr.specs.declared.instr.ConditionalMoveOp.{ConditionalMoveOp}
 use Rattle.mips_instr.specs.declared.instr.ShiftOp.{ShiftOp}
 use Rattle.mips_instr.specs.declared.instr.ShiftVariableOp.{ShiftVariableOp}
@@ -83,7 +83,7 @@ offset_operand : (n base : ℕ) → n < 2 ^ 16 → base < 32 → IsOperand (oper
 offset_operand n base h r = based_operand (signed_decimal (signed_half n)) (signed_half n) base (half_number n h) r
 
 -- the statement of operations on three registers
-register_reads : (op : RegisterOp) (a b c : ℕ) → instruction_statement (instr.Register op 0 0 0) (Register a ∷ Register b ∷ Register c ∷ []) ≡ Ok (Instruction (instr.Register op a b c))
+register_reads : (op : ThreeRegisterOp) (a b c : ℕ) → instruction_statement (instr.ThreeRegister op 0 0 0) (Register a ∷ Register b ∷ Register c ∷ []) ≡ Ok (Instruction (instr.ThreeRegister op a b c))
 unfolding instruction_statement with_operands
 register_reads op a b c = refl
 
@@ -323,8 +323,8 @@ word_line n address h =
 
 -- each printed line puts its instruction
 pub printed_line : (i : Instr) (address : ℕ) → HasFields i → address % 4 ≡ 0 → 0x80000000 ≤ address → address < 0xa0000000 → LinePuts (instr_text i address) address (item_printed i)
-printed_line (instr.Register op a b c) address has aligned low high =
-    plain_line (register_mnemonic op) _ (instr.Register op 0 0 0) (instr.Register op a b c) _ address (register_named op) (three_operands _ _ _ _ _ _ (register_operand a has.0) (register_operand b has.1) (register_operand c has.2)) (register_reads op a b c)
+printed_line (instr.ThreeRegister op a b c) address has aligned low high =
+    plain_line (register_mnemonic op) _ (instr.ThreeRegister op 0 0 0) (instr.ThreeRegister op a b c) _ address (register_named op) (three_operands _ _ _ _ _ _ (register_operand a has.0) (register_operand b has.1) (register_operand c has.2)) (register_reads op a b c)
 printed_line (instr.ConditionalMove op a b c) address has aligned low high =
     plain_line (conditional_move_mnemonic op) _ (instr.ConditionalMove op 0 0 0) (instr.ConditionalMove op a b c) _ address (conditional_move_named op) (three_operands _ _ _ _ _ _ (register_operand a has.0) (register_operand b has.1) (register_operand c has.2)) (conditional_move_reads op a b c)
 printed_line (instr.ShiftVariable op a b c) address has aligned low high =

@@ -4,8 +4,8 @@ use Rattle.std.specs.List.{list_all}
 use Rattle.mips_instr.specs.Mnemonics.{register_mnemonic, conditional_move_mnemonic, shift_mnemonic, shift_variable_mnemonic, count_mnemonic, move_from_mnemonic, move_to_mnemonic, multiply_mnemonic, divide_mnemonic, immediate_mnemonic, load_mnemonic, store_mnemonic, cache_mnemonic, branch_mnemonic, branch_zero_mnemonic, jump_mnemonic, trap_mnemonic, trap_immediate_mnemonic, cp0_move_mnemonic}
 use Rattle.mips_instr.specs.declared.instr.Instr.{Instr}
 use Rattle.mips_instr.specs.declared.instr.Instr.TheVariants as instr
-use Rattle.mips_instr.specs.declared.instr.RegisterOp.{RegisterOp}
-use Rattle.mips_instr.specs.declared.instr.RegisterOp.TheVariants.{Add, Addu, Sub, Subu, And, Or, Xor, Nor, Slt, Sltu, Mul}
+use Rattle.mips_instr.specs.declared.instr.ThreeRegisterOp.{ThreeRegisterOp}
+use Rattle.mips_instr.specs.declared.instr.ThreeRegisterOp.TheVariants.{Add, Addu, Sub, Subu, And, Or, Xor, Nor, Slt, Sltu, Mul}
 use Rattle.mips_instr.specs.declared.instr.ConditionalMoveOp.{ConditionalMoveOp}
 use Rattle.mips_instr.specs.declared.instr.ConditionalMoveOp.TheVariants.{Movz, Movn}
 use Rattle.mips_instr.specs.declared.instr.ShiftOp.{ShiftOp}
@@ -56,7 +56,7 @@ pub record IsName (name : List ℕ) (blank : Instr) : Type 0 where
   pub operation : operation_of name ≡ Ok (operation.Instruction blank)
 
 -- the names of the operations on three registers
-pub register_named : (op : RegisterOp) → IsName (register_mnemonic op) (instr.Register op 0 0 0)
+pub register_named : (op : ThreeRegisterOp) → IsName (register_mnemonic op) (instr.ThreeRegister op 0 0 0)
 unfolding operation_of named_instruction arithmetic_named memory_named control_named hi_lo_named system_named single_named named_register named_conditional_move named_shift named_shift_variable named_count named_move_from named_move_to named_multiply named_divide named_immediate named_load named_store named_cache named_branch named_branch_zero named_jump named_trap named_trap_immediate named_cp0_move named_tlb
 register_named Add = record { some = refl; dense = refl; continues = refl; operation = refl }
 register_named Addu = record { some = refl; dense = refl; continues = refl; operation = refl }

@@ -11,7 +11,7 @@ use Rattle.masm_lines.specs.Statements.{Statement}
 
 -- the operands of an instruction are those that the fields of its word can hold
 abbrev pub HasFields : Instr → Type 0
-HasFields (instr.Register op rd rs rt) = (rd < 32) × (rs < 32) × (rt < 32)
+HasFields (instr.ThreeRegister op rd rs rt) = (rd < 32) × (rs < 32) × (rt < 32)
 HasFields (instr.ConditionalMove op rd rs rt) = (rd < 32) × (rs < 32) × (rt < 32)
 HasFields (instr.Shift op rd rt sa) = (rd < 32) × (rt < 32) × (sa < 32)
 HasFields (instr.ShiftVariable op rd rt rs) = (rd < 32) × (rt < 32) × (rs < 32)

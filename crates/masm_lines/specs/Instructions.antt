@@ -48,7 +48,7 @@ immediate_bits Xori written = half_bits (number_at written 2)
 -- the instruction with the operands that are written, each of which has its form, or the fault that a number is out of
 -- its range. A target is left 0.
 unfoldable pub with_operands : Instr → List Written → Result Instr AsmFault
-with_operands (instr.Register op _ _ _) w = Ok (instr.Register op (register_at w 0) (register_at w 1) (register_at w 2))
+with_operands (instr.ThreeRegister op _ _ _) w = Ok (instr.ThreeRegister op (register_at w 0) (register_at w 1) (register_at w 2))
 with_operands (instr.ConditionalMove op _ _ _) w = Ok (instr.ConditionalMove op (register_at w 0) (register_at w 1) (register_at w 2))
 with_operands (instr.Shift op _ _ _) w = field_bits 31 (number_at w 2) >>= λ sa. Ok (instr.Shift op (register_at w 0) (register_at w 1) sa)
 with_operands (instr.ShiftVariable op _ _ _) w = Ok (instr.ShiftVariable op (register_at w 0) (register_at w 1) (register_at w 2))

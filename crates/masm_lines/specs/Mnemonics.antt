@@ -4,8 +4,8 @@ use Rattle.std.specs.Str.{bytes_eq}
 use Rattle.mips_instr.specs.Mnemonics.{register_mnemonic, conditional_move_mnemonic, shift_mnemonic, shift_variable_mnemonic, count_mnemonic, move_from_mnemonic, move_to_mnemonic, multiply_mnemonic, divide_mnemonic, immediate_mnemonic, load_mnemonic, store_mnemonic, cache_mnemonic, branch_mnemonic, branch_zero_mnemonic, jump_mnemonic, trap_mnemonic, trap_immediate_mnemonic, cp0_move_mnemonic, tlb_mnemonic}
 use Rattle.mips_instr.specs.declared.instr.Instr.{Instr}
 use Rattle.mips_instr.specs.declared.instr.Instr.TheVariants as instr
-use Rattle.mips_instr.specs.declared.instr.RegisterOp.{RegisterOp}
-use Rattle.mips_instr.specs.declared.instr.RegisterOp.TheVariants.{Add, Addu, Sub, Subu, And, Or, Xor, Nor, Slt, Sltu, Mul}
+use Rattle.mips_instr.specs.declared.instr.ThreeRegisterOp.{ThreeRegisterOp}
+use Rattle.mips_instr.specs.declared.instr.ThreeRegisterOp.TheVariants.{Add, Addu, Sub, Subu, And, Or, Xor, Nor, Slt, Sltu, Mul}
 use Rattle.mips_instr.specs.declared.instr.ConditionalMoveOp.{ConditionalMoveOp}
 use Rattle.mips_instr.specs.declared.instr.ConditionalMoveOp.TheVariants.{Movz, Movn}
 use Rattle.mips_instr.specs.declared.instr.ShiftOp.{ShiftOp}
@@ -49,7 +49,7 @@ use Rattle.mips_instr.specs.declared.instr.TlbOp.TheVariants.{Tlbr, Tlbwi, Tlbwr
 abbrev pub named_in : {Op : Type 0} → List Op → (Op → List ℕ) → List ℕ → Option Op
 named_in ops name_of name = find (λ op. bytes_eq (name_of op) name) ops
 
-abbrev pub register_ops : List RegisterOp
+abbrev pub register_ops : List ThreeRegisterOp
 register_ops = Add ∷ Addu ∷ Sub ∷ Subu ∷ And ∷ Or ∷ Xor ∷ Nor ∷ Slt ∷ Sltu ∷ Mul ∷ []
 
 abbrev pub conditional_move_ops : List ConditionalMoveOp
@@ -109,7 +109,7 @@ cp0_move_ops = Mfc0 ∷ Mtc0 ∷ []
 abbrev pub tlb_ops : List TlbOp
 tlb_ops = Tlbr ∷ Tlbwi ∷ Tlbwr ∷ Tlbp ∷ []
 
-unfoldable pub named_register : List ℕ → Option RegisterOp
+unfoldable pub named_register : List ℕ → Option ThreeRegisterOp
 named_register name = named_in register_ops register_mnemonic name
 
 unfoldable pub named_conditional_move : List ℕ → Option ConditionalMoveOp
@@ -177,7 +177,7 @@ first_of (Some a) b = Some a
 -- an operation on general registers, with all operands 0
 unfoldable pub arithmetic_named : List ℕ → Option Instr
 arithmetic_named name =
-    first_of (option_map (λ op. instr.Register op 0 0 0) (named_register name)) (
+    first_of (option_map (λ op. instr.ThreeRegister op 0 0 0) (named_register name)) (
     first_of (option_map (λ op. instr.ConditionalMove op 0 0 0) (named_conditional_move name)) (
     first_of (option_map (λ op. instr.Shift op 0 0 0) (named_shift name)) (
     first_of (option_map (λ op. instr.ShiftVariable op 0 0 0) (named_shift_variable name)) (

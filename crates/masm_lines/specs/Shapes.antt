@@ -21,7 +21,7 @@ has_code i = false
 
 -- a destination with sources, or no operand at all
 abbrev pub has_destination : Instr → Bool
-has_destination (instr.Register op rd rs rt) = true
+has_destination (instr.ThreeRegister op rd rs rt) = true
 has_destination (instr.ConditionalMove op rd rs rt) = true
 has_destination (instr.ShiftVariable op rd rt rs) = true
 has_destination (instr.Count op rd rs) = true

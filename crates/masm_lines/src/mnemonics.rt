@@ -5,8 +5,8 @@ ghost use Rattle.masm_lines.specs.Mnemonics as spec;
 use mips_instr::{
     BranchOp, BranchZeroOp, CacheOp, CallCode, ConditionalMoveOp, CountOp, Cp0MoveOp, DivideOp,
     Hint, ImmediateOp, Instr, JumpOp, JumpTarget, LoadOp, MoveFromOp, MoveToOp, MultiplyOp, Reg,
-    RegisterOp, Select, ShiftAmount, ShiftOp, ShiftVariableOp, StoreOp, SyncType, TlbOp, TrapCode,
-    TrapImmediateOp, TrapOp, WaitCode,
+    Select, ShiftAmount, ShiftOp, ShiftVariableOp, StoreOp, SyncType, ThreeRegisterOp, TlbOp,
+    TrapCode, TrapImmediateOp, TrapOp, WaitCode,
 };
 
 /// The first of some operations that has a name.
@@ -29,10 +29,10 @@ fn is_mnemonic(mnemonic: &str, name: &[u8]) -> bool
 }
 
 #[tactic(auto, unfolding(crate::specs::Mnemonics::named_register))]
-fn named_register(name: &[u8]) -> Option<RegisterOp>
+fn named_register(name: &[u8]) -> Option<ThreeRegisterOp>
     ensures { result ≡ spec.named_register name.now }
 {
-    use RegisterOp::*;
+    use ThreeRegisterOp::*;
     first_named!(name; Add, Addu, Sub, Subu, And, Or, Xor, Nor, Slt, Sltu, Mul)
 }
 
@@ -195,7 +195,7 @@ fn arithmetic_named(name: &[u8]) -> Option<Instr>
 {
     let zero = Reg::new(0);
     if let Some(op) = named_register(name) {
-        return Some(Instr::Register {
+        return Some(Instr::ThreeRegister {
             op,
             rd: zero,
             rs: zero,

@@ -41,7 +41,7 @@ pub fn with_operands(blank: &Instr, written: &Arguments) -> Result<Instr, AsmFau
         Instr::Branch { .. } | Instr::BranchZero { .. } | Instr::Jump { .. } => {
             Ok(without_target(*blank, written))
         }
-        Instr::Register { .. }
+        Instr::ThreeRegister { .. }
         | Instr::ConditionalMove { .. }
         | Instr::ShiftVariable { .. }
         | Instr::Count { .. }
@@ -200,7 +200,7 @@ fn with_destination(blank: Instr, written: &Arguments) -> Instr
     let (first, second) = (written.register(0), written.register(1));
     let third = written.register(2);
     match blank {
-        Instr::Register { op, .. } => Instr::Register {
+        Instr::ThreeRegister { op, .. } => Instr::ThreeRegister {
             op,
             rd: first,
             rs: second,

@@ -1,7 +1,7 @@
 -- The names of the instructions in assembly language (MIPS32 Architecture For Programmers, volume II).
 use Rattle.std.specs.Prelude.{ℕ, List, codes}
-use Rattle.mips_instr.specs.declared.instr.RegisterOp.{RegisterOp}
-use Rattle.mips_instr.specs.declared.instr.RegisterOp.TheVariants.{Add, Addu, Sub, Subu, And, Or, Xor, Nor, Slt, Sltu, Mul}
+use Rattle.mips_instr.specs.declared.instr.ThreeRegisterOp.{ThreeRegisterOp}
+use Rattle.mips_instr.specs.declared.instr.ThreeRegisterOp.TheVariants.{Add, Addu, Sub, Subu, And, Or, Xor, Nor, Slt, Sltu, Mul}
 use Rattle.mips_instr.specs.declared.instr.ConditionalMoveOp.{ConditionalMoveOp}
 use Rattle.mips_instr.specs.declared.instr.ConditionalMoveOp.TheVariants.{Movz, Movn}
 use Rattle.mips_instr.specs.declared.instr.ShiftOp.{ShiftOp}
@@ -43,7 +43,7 @@ use Rattle.mips_instr.specs.declared.instr.TlbOp.TheVariants.{Tlbr, Tlbwi, Tlbwr
 use Rattle.mips_instr.specs.declared.instr.Instr.{Instr}
 use Rattle.mips_instr.specs.declared.instr.Instr.TheVariants as instr
 
-abbrev pub register_mnemonic : RegisterOp → List ℕ
+abbrev pub register_mnemonic : ThreeRegisterOp → List ℕ
 register_mnemonic Add = codes "add"
 register_mnemonic Addu = codes "addu"
 register_mnemonic Sub = codes "sub"
@@ -177,7 +177,7 @@ tlb_mnemonic Tlbp = codes "tlbp"
 
 -- the name of an instruction; those of coprocessors 1 and 2 are given by their words
 abbrev pub mnemonic : Instr → List ℕ
-mnemonic (instr.Register op a b c) = register_mnemonic op
+mnemonic (instr.ThreeRegister op a b c) = register_mnemonic op
 mnemonic (instr.ConditionalMove op a b c) = conditional_move_mnemonic op
 mnemonic (instr.Shift op a b c) = shift_mnemonic op
 mnemonic (instr.ShiftVariable op a b c) = shift_variable_mnemonic op

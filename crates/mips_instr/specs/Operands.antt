@@ -29,7 +29,7 @@ immediate_operand Xori n = Half n
 
 -- the operands of an instruction at an address, in their order
 abbrev pub operands : Instr → ℕ → Operands
-operands (instr.Register op rd rs rt) address = Three (Register rd) (Register rs) (Register rt)
+operands (instr.ThreeRegister op rd rs rt) address = Three (Register rd) (Register rs) (Register rt)
 operands (instr.ConditionalMove op rd rs rt) address = Three (Register rd) (Register rs) (Register rt)
 operands (instr.Shift op rd rt sa) address = Three (Register rd) (Register rt) (Number (pos sa))
 operands (instr.ShiftVariable op rd rt rs) address = Three (Register rd) (Register rt) (Register rs)

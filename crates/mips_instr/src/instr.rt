@@ -9,7 +9,7 @@ use crate::{
 
 /// An operation on two registers, with its result in a third.
 #[derive(Clone, Copy, PartialEq, Eq)]
-pub enum RegisterOp {
+pub enum ThreeRegisterOp {
     Add,
     Addu,
     Sub,
@@ -265,8 +265,8 @@ impl CoprocessorOp {
 #[derive(Clone, Copy, PartialEq, Eq)]
 pub enum Instr {
     /// rd = rs `op` rt.
-    Register {
-        op: RegisterOp,
+    ThreeRegister {
+        op: ThreeRegisterOp,
         rd: Reg,
         rs: Reg,
         rt: Reg,

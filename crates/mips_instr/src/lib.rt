@@ -17,8 +17,8 @@ pub use assembly::text;
 pub use code::{CallCode, CoprocessorCode, Hint, JumpTarget, Select, SyncType, TrapCode, WaitCode};
 pub use instr::{
     BranchOp, BranchZeroOp, CacheOp, ConditionalMoveOp, CoprocessorOp, CountOp, Cp0MoveOp,
-    DivideOp, ImmediateOp, Instr, JumpOp, LoadOp, MoveFromOp, MoveToOp, MultiplyOp, RegisterOp,
-    ShiftOp, ShiftVariableOp, StoreOp, TlbOp, TrapImmediateOp, TrapOp,
+    DivideOp, ImmediateOp, Instr, JumpOp, LoadOp, MoveFromOp, MoveToOp, MultiplyOp, ShiftOp,
+    ShiftVariableOp, StoreOp, ThreeRegisterOp, TlbOp, TrapImmediateOp, TrapOp,
 };
 pub use mnemonic::mnemonic_of;
 pub use operand::{Operand, Operands, operands_of};

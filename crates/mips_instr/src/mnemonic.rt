@@ -4,27 +4,27 @@ ghost use Rattle.mips_instr.specs.Mnemonics.{register_mnemonic, conditional_move
 
 use crate::{
     BranchOp, BranchZeroOp, CacheOp, ConditionalMoveOp, CountOp, Cp0MoveOp, DivideOp, ImmediateOp,
-    Instr, JumpOp, LoadOp, MoveFromOp, MoveToOp, MultiplyOp, RegisterOp, ShiftOp, ShiftVariableOp,
-    StoreOp, TlbOp, TrapImmediateOp, TrapOp,
+    Instr, JumpOp, LoadOp, MoveFromOp, MoveToOp, MultiplyOp, ShiftOp, ShiftVariableOp, StoreOp,
+    ThreeRegisterOp, TlbOp, TrapImmediateOp, TrapOp,
 };
 
-impl RegisterOp {
+impl ThreeRegisterOp {
     /// Its name in lower case.
     pub fn mnemonic(self) -> &'static str
         ensures { result.now ≡ register_mnemonic self }
     {
         match self {
-            RegisterOp::Add => "add",
-            RegisterOp::Addu => "addu",
-            RegisterOp::Sub => "sub",
-            RegisterOp::Subu => "subu",
-            RegisterOp::And => "and",
-            RegisterOp::Or => "or",
-            RegisterOp::Xor => "xor",
-            RegisterOp::Nor => "nor",
-            RegisterOp::Slt => "slt",
-            RegisterOp::Sltu => "sltu",
-            RegisterOp::Mul => "mul",
+            ThreeRegisterOp::Add => "add",
+            ThreeRegisterOp::Addu => "addu",
+            ThreeRegisterOp::Sub => "sub",
+            ThreeRegisterOp::Subu => "subu",
+            ThreeRegisterOp::And => "and",
+            ThreeRegisterOp::Or => "or",
+            ThreeRegisterOp::Xor => "xor",
+            ThreeRegisterOp::Nor => "nor",
+            ThreeRegisterOp::Slt => "slt",
+            ThreeRegisterOp::Sltu => "sltu",
+            ThreeRegisterOp::Mul => "mul",
         }
     }
 }
@@ -305,7 +305,7 @@ pub fn mnemonic_of(instr: &Instr) -> &'static str
     ensures { result.now ≡ mnemonic instr.now }
 {
     match *instr {
-        Instr::Register { op, .. } => op.mnemonic(),
+        Instr::ThreeRegister { op, .. } => op.mnemonic(),
         Instr::ConditionalMove { op, .. } => op.mnemonic(),
         Instr::Shift { op, .. } => op.mnemonic(),
         Instr::ShiftVariable { op, .. } => op.mnemonic(),

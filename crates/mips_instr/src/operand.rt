@@ -70,7 +70,7 @@ pub fn operands_of(instr: Instr, address: u32) -> Operands
 {
     use Operand::Register;
     match instr {
-        Instr::Register { rd, rs, rt, .. } | Instr::ConditionalMove { rd, rs, rt, .. } => {
+        Instr::ThreeRegister { rd, rs, rt, .. } | Instr::ConditionalMove { rd, rs, rt, .. } => {
             Operands::Three(Register(rd), Register(rs), Register(rt))
         }
         Instr::Shift { rd, rt, sa, .. } => Operands::Three(

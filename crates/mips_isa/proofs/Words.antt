@@ -5,8 +5,8 @@ use Rattle.std.proofs.lemmas.Bool.{false≢true}
 use Rattle.mips_instr.specs.Coprocessor.{coprocessor_opcode}
 use Rattle.mips_instr.specs.declared.instr.Instr.{Instr}
 use Rattle.mips_instr.specs.declared.instr.Instr.TheVariants as instr
-use Rattle.mips_instr.specs.declared.instr.RegisterOp.{RegisterOp}
-use Rattle.mips_instr.specs.declared.instr.RegisterOp.TheVariants.{Add, Addu, Sub, Subu, And, Or, Xor, Nor, Slt, Sltu, Mul}
+use Rattle.mips_instr.specs.declared.instr.ThreeRegisterOp.{ThreeRegisterOp}
+use Rattle.mips_instr.specs.declared.instr.ThreeRegisterOp.TheVariants.{Add, Addu, Sub, Subu, And, Or, Xor, Nor, Slt, Sltu, Mul}
 use Rattle.mips_instr.specs.declared.instr.ConditionalMoveOp.{ConditionalMoveOp}
 use Rattle.mips_instr.specs.declared.instr.ConditionalMoveOp.TheVariants.{Movz, Movn}
 use Rattle.mips_instr.specs.declared.instr.ShiftOp.{ShiftOp}
@@ -50,7 +50,7 @@ use Rattle.mips_isa.specs.Table.{Field, Free, Is, Below, From, AsRd, meets, Row,
 
 -- what the opcode and the fields that tell instructions of one shape apart add to the word
 
-abbrev register_part : RegisterOp → ℕ
+abbrev register_part : ThreeRegisterOp → ℕ
 register_part Add = 0x20
 register_part Addu = 0x21
 register_part Sub = 0x22
@@ -184,7 +184,7 @@ tlb_part Tlbp = 0x42000008
 
 -- the word of an instruction
 abbrev word_of : Instr → ℕ
-word_of (instr.Register op rd rs rt) = register_part op + rs * 2 ^ 21 + rt * 2 ^ 16 + rd * 2 ^ 11
+word_of (instr.ThreeRegister op rd rs rt) = register_part op + rs * 2 ^ 21 + rt * 2 ^ 16 + rd * 2 ^ 11
 word_of (instr.ConditionalMove op rd rs rt) = conditional_move_part op + rs * 2 ^ 21 + rt * 2 ^ 16 + rd * 2 ^ 11
 word_of (instr.Shift op rd rt sa) = shift_part op + rt * 2 ^ 16 + rd * 2 ^ 11 + sa * 2 ^ 6
 word_of (instr.ShiftVariable op rd rt rs) = shift_variable_part op + rs * 2 ^ 21 + rt * 2 ^ 16 + rd * 2 ^ 11

@@ -5,26 +5,26 @@ ghost use Rattle.mips_instr.specs.declared.instr.Instr.TheVariants as instr;
 
 use crate::joining::{join, zero};
 use crate::{
-    ConditionalMoveOp, CountOp, DivideOp, MoveFromOp, MoveToOp, MultiplyOp, Reg, RegisterOp,
-    ShiftAmount, ShiftOp, ShiftVariableOp,
+    ConditionalMoveOp, CountOp, DivideOp, MoveFromOp, MoveToOp, MultiplyOp, Reg, ShiftAmount,
+    ShiftOp, ShiftVariableOp, ThreeRegisterOp,
 };
 
 #[tactic(auto, using(crate::proofs::Groups::special_at, crate::proofs::Groups::special2_at), unfolding(crate::specs::Table::special_readings, crate::specs::Table::special2_readings))]
-pub fn register_word(op: RegisterOp, rd: Reg, rs: Reg, rt: Reg) -> u32
-    ensures { readings result ≡ instr.Register op rd rs rt ∷ [] }
+pub fn register_word(op: ThreeRegisterOp, rd: Reg, rs: Reg, rt: Reg) -> u32
+    ensures { readings result ≡ instr.ThreeRegister op rd rs rt ∷ [] }
 {
     match op {
-        RegisterOp::Add => join(0x00, rs, rt, rd, 0, 0x20),
-        RegisterOp::Addu => join(0x00, rs, rt, rd, 0, 0x21),
-        RegisterOp::Sub => join(0x00, rs, rt, rd, 0, 0x22),
-        RegisterOp::Subu => join(0x00, rs, rt, rd, 0, 0x23),
-        RegisterOp::And => join(0x00, rs, rt, rd, 0, 0x24),
-        RegisterOp::Or => join(0x00, rs, rt, rd, 0, 0x25),
-        RegisterOp::Xor => join(0x00, rs, rt, rd, 0, 0x26),
-        RegisterOp::Nor => join(0x00, rs, rt, rd, 0, 0x27),
-        RegisterOp::Slt => join(0x00, rs, rt, rd, 0, 0x2a),
-        RegisterOp::Sltu => join(0x00, rs, rt, rd, 0, 0x2b),
-        RegisterOp::Mul => join(0x1c, rs, rt, rd, 0, 0x02),
+        ThreeRegisterOp::Add => join(0x00, rs, rt, rd, 0, 0x20),
+        ThreeRegisterOp::Addu => join(0x00, rs, rt, rd, 0, 0x21),
+        ThreeRegisterOp::Sub => join(0x00, rs, rt, rd, 0, 0x22),
+        ThreeRegisterOp::Subu => join(0x00, rs, rt, rd, 0, 0x23),
+        ThreeRegisterOp::And => join(0x00, rs, rt, rd, 0, 0x24),
+        ThreeRegisterOp::Or => join(0x00, rs, rt, rd, 0, 0x25),
+        ThreeRegisterOp::Xor => join(0x00, rs, rt, rd, 0, 0x26),
+        ThreeRegisterOp::Nor => join(0x00, rs, rt, rd, 0, 0x27),
+        ThreeRegisterOp::Slt => join(0x00, rs, rt, rd, 0, 0x2a),
+        ThreeRegisterOp::Sltu => join(0x00, rs, rt, rd, 0, 0x2b),
+        ThreeRegisterOp::Mul => join(0x1c, rs, rt, rd, 0, 0x02),
     }
 }
 

@@ -13,8 +13,8 @@ use crate::shapes::{
 use crate::word::{call_code_of, wait_code_of};
 use crate::{
     BranchOp, BranchZeroOp, CacheOp, ConditionalMoveOp, CoprocessorOp, CountOp, Cp0MoveOp,
-    DivideOp, ImmediateOp, Instr, JumpOp, LoadOp, MoveFromOp, MoveToOp, MultiplyOp, RegisterOp,
-    ShiftOp, ShiftVariableOp, StoreOp, TlbOp, TrapImmediateOp, TrapOp,
+    DivideOp, ImmediateOp, Instr, JumpOp, LoadOp, MoveFromOp, MoveToOp, MultiplyOp, ShiftOp,
+    ShiftVariableOp, StoreOp, ThreeRegisterOp, TlbOp, TrapImmediateOp, TrapOp,
 };
 
 /// The instruction that a word encodes: `Some` exactly where one row of the table fits the word, `None` exactly where
@@ -105,16 +105,16 @@ fn special(word: u32) -> Option<Instr>
         0x19 => multiply_in(word, MultiplyOp::Multu),
         0x1a => divide_in(word, DivideOp::Div),
         0x1b => divide_in(word, DivideOp::Divu),
-        0x20 => register_in(word, RegisterOp::Add),
-        0x21 => register_in(word, RegisterOp::Addu),
-        0x22 => register_in(word, RegisterOp::Sub),
-        0x23 => register_in(word, RegisterOp::Subu),
-        0x24 => register_in(word, RegisterOp::And),
-        0x25 => register_in(word, RegisterOp::Or),
-        0x26 => register_in(word, RegisterOp::Xor),
-        0x27 => register_in(word, RegisterOp::Nor),
-        0x2a => register_in(word, RegisterOp::Slt),
-        0x2b => register_in(word, RegisterOp::Sltu),
+        0x20 => register_in(word, ThreeRegisterOp::Add),
+        0x21 => register_in(word, ThreeRegisterOp::Addu),
+        0x22 => register_in(word, ThreeRegisterOp::Sub),
+        0x23 => register_in(word, ThreeRegisterOp::Subu),
+        0x24 => register_in(word, ThreeRegisterOp::And),
+        0x25 => register_in(word, ThreeRegisterOp::Or),
+        0x26 => register_in(word, ThreeRegisterOp::Xor),
+        0x27 => register_in(word, ThreeRegisterOp::Nor),
+        0x2a => register_in(word, ThreeRegisterOp::Slt),
+        0x2b => register_in(word, ThreeRegisterOp::Sltu),
         0x30 => trap_in(word, TrapOp::Tge),
         0x31 => trap_in(word, TrapOp::Tgeu),
         0x32 => trap_in(word, TrapOp::Tlt),
@@ -157,7 +157,7 @@ fn special2(word: u32) -> Option<Instr>
     match word % 64 {
         0x00 => multiply_in(word, MultiplyOp::Madd),
         0x01 => multiply_in(word, MultiplyOp::Maddu),
-        0x02 => register_in(word, RegisterOp::Mul),
+        0x02 => register_in(word, ThreeRegisterOp::Mul),
         0x04 => multiply_in(word, MultiplyOp::Msub),
         0x05 => multiply_in(word, MultiplyOp::Msubu),
         0x20 => count_in(word, CountOp::Clz),

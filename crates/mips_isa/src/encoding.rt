@@ -28,7 +28,7 @@ pub fn encode(instr: Instr) -> u32
     ensures only { (word : ℕ) → readings word ≡ instr ∷ [] → word ≡ result }
 {
     match instr {
-        Instr::Register { op, rd, rs, rt } => register_word(op, rd, rs, rt),
+        Instr::ThreeRegister { op, rd, rs, rt } => register_word(op, rd, rs, rt),
         Instr::ConditionalMove { op, rd, rs, rt } => conditional_move_word(op, rd, rs, rt),
         Instr::Shift { op, rd, rt, sa } => shift_word(op, rd, rt, sa),
         Instr::ShiftVariable { op, rd, rt, rs } => shift_variable_word(op, rd, rt, rs),

@@ -24,7 +24,7 @@ pub use encoding::encode;
 pub use mips_instr::{
     BranchOp, BranchZeroOp, CacheOp, CallCode, ConditionalMoveOp, CoprocessorCode, CoprocessorOp,
     CountOp, Cp0MoveOp, DivideOp, Hint, ImmediateOp, Instr, JumpOp, JumpTarget, LoadOp, MoveFromOp,
-    MoveToOp, MultiplyOp, Operand, Operands, Reg, RegisterOp, Select, ShiftAmount, ShiftOp,
-    ShiftVariableOp, StoreOp, SyncType, TlbOp, TrapCode, TrapImmediateOp, TrapOp, WaitCode,
+    MoveToOp, MultiplyOp, Operand, Operands, Reg, Select, ShiftAmount, ShiftOp, ShiftVariableOp,
+    StoreOp, SyncType, ThreeRegisterOp, TlbOp, TrapCode, TrapImmediateOp, TrapOp, WaitCode,
     branch_target_of, jump_target_of, mnemonic_of, operands_of, text,
 };

@@ -9,15 +9,15 @@ use crate::word::{
 };
 use crate::{
     BranchOp, BranchZeroOp, CacheOp, ConditionalMoveOp, CoprocessorOp, CountOp, Cp0MoveOp,
-    DivideOp, ImmediateOp, Instr, JumpOp, LoadOp, MoveFromOp, MoveToOp, MultiplyOp, RegisterOp,
-    ShiftOp, ShiftVariableOp, StoreOp, TrapImmediateOp, TrapOp,
+    DivideOp, ImmediateOp, Instr, JumpOp, LoadOp, MoveFromOp, MoveToOp, MultiplyOp, ShiftOp,
+    ShiftVariableOp, StoreOp, ThreeRegisterOp, TrapImmediateOp, TrapOp,
 };
 
-pub fn register_in(word: u32, op: RegisterOp) -> Option<Instr>
+pub fn register_in(word: u32, op: ThreeRegisterOp) -> Option<Instr>
     ensures { result ≡ (if word / 2 ^ 6 % 32 == 0 then Some (register op (fields word)) else None) }
 {
     if (word >> 6) % 32 == 0 {
-        Some(Instr::Register {
+        Some(Instr::ThreeRegister {
             op,
             rd: rd_of(word),
             rs: rs_of(word),

@@ -10,25 +10,25 @@ use mips_alu::{
 };
 use mips_instr::{
     BranchOp, BranchZeroOp, ConditionalMoveOp, CountOp, DivideOp, ImmediateOp, MultiplyOp,
-    RegisterOp, ShiftAmount, ShiftOp, ShiftVariableOp, TrapImmediateOp, TrapOp,
+    ShiftAmount, ShiftOp, ShiftVariableOp, ThreeRegisterOp, TrapImmediateOp, TrapOp,
 };
 use word32::sext16;
 
-pub fn register_value(op: RegisterOp, a: u32, b: u32) -> Option<u32>
+pub fn register_value(op: ThreeRegisterOp, a: u32, b: u32) -> Option<u32>
     ensures { result ≡ register_result op a b }
 {
     match op {
-        RegisterOp::Add => arith(ArithOp::Add, a, b),
-        RegisterOp::Addu => arith(ArithOp::Addu, a, b),
-        RegisterOp::Sub => arith(ArithOp::Sub, a, b),
-        RegisterOp::Subu => arith(ArithOp::Subu, a, b),
-        RegisterOp::And => arith(ArithOp::And, a, b),
-        RegisterOp::Or => arith(ArithOp::Or, a, b),
-        RegisterOp::Xor => arith(ArithOp::Xor, a, b),
-        RegisterOp::Nor => arith(ArithOp::Nor, a, b),
-        RegisterOp::Slt => arith(ArithOp::Slt, a, b),
-        RegisterOp::Sltu => arith(ArithOp::Sltu, a, b),
-        RegisterOp::Mul => arith(ArithOp::Mul, a, b),
+        ThreeRegisterOp::Add => arith(ArithOp::Add, a, b),
+        ThreeRegisterOp::Addu => arith(ArithOp::Addu, a, b),
+        ThreeRegisterOp::Sub => arith(ArithOp::Sub, a, b),
+        ThreeRegisterOp::Subu => arith(ArithOp::Subu, a, b),
+        ThreeRegisterOp::And => arith(ArithOp::And, a, b),
+        ThreeRegisterOp::Or => arith(ArithOp::Or, a, b),
+        ThreeRegisterOp::Xor => arith(ArithOp::Xor, a, b),
+        ThreeRegisterOp::Nor => arith(ArithOp::Nor, a, b),
+        ThreeRegisterOp::Slt => arith(ArithOp::Slt, a, b),
+        ThreeRegisterOp::Sltu => arith(ArithOp::Sltu, a, b),
+        ThreeRegisterOp::Mul => arith(ArithOp::Mul, a, b),
     }
 }
 

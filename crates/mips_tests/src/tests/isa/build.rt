@@ -13,8 +13,8 @@ pub fn wait_code(bits: u32) -> WaitCode {
     WaitCode::new(bits % 0x8_0000)
 }
 
-pub fn register(op: RegisterOp, rd: u32, rs: u32, rt: u32) -> Instr {
-    Instr::Register {
+pub fn register(op: ThreeRegisterOp, rd: u32, rs: u32, rt: u32) -> Instr {
+    Instr::ThreeRegister {
         op,
         rd: r(rd),
         rs: r(rs),

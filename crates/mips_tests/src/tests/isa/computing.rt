@@ -6,82 +6,82 @@ use mips_isa::*;
 pub static COMPUTING_ROWS: [(u32, Fields, &'static str); 65] = [
     (
         0x003f_1820,
-        Fields::Register(RegisterOp::Add, 3, 1, 31),
+        Fields::ThreeRegister(ThreeRegisterOp::Add, 3, 1, 31),
         "add $3,$1,$31",
     ),
     (
         0x007e_2021,
-        Fields::Register(RegisterOp::Addu, 4, 3, 30),
+        Fields::ThreeRegister(ThreeRegisterOp::Addu, 4, 3, 30),
         "addu $4,$3,$30",
     ),
     (
         0x00bd_2822,
-        Fields::Register(RegisterOp::Sub, 5, 5, 29),
+        Fields::ThreeRegister(ThreeRegisterOp::Sub, 5, 5, 29),
         "sub $5,$5,$29",
     ),
     (
         0x00fc_3023,
-        Fields::Register(RegisterOp::Subu, 6, 7, 28),
+        Fields::ThreeRegister(ThreeRegisterOp::Subu, 6, 7, 28),
         "subu $6,$7,$28",
     ),
     (
         0x013b_3824,
-        Fields::Register(RegisterOp::And, 7, 9, 27),
+        Fields::ThreeRegister(ThreeRegisterOp::And, 7, 9, 27),
         "and $7,$9,$27",
     ),
     (
         0x017a_4025,
-        Fields::Register(RegisterOp::Or, 8, 11, 26),
+        Fields::ThreeRegister(ThreeRegisterOp::Or, 8, 11, 26),
         "or $8,$11,$26",
     ),
     (
         0x01b9_4826,
-        Fields::Register(RegisterOp::Xor, 9, 13, 25),
+        Fields::ThreeRegister(ThreeRegisterOp::Xor, 9, 13, 25),
         "xor $9,$13,$25",
     ),
     (
         0x01f8_5027,
-        Fields::Register(RegisterOp::Nor, 10, 15, 24),
+        Fields::ThreeRegister(ThreeRegisterOp::Nor, 10, 15, 24),
         "nor $10,$15,$24",
     ),
     (
         0x0237_582a,
-        Fields::Register(RegisterOp::Slt, 11, 17, 23),
+        Fields::ThreeRegister(ThreeRegisterOp::Slt, 11, 17, 23),
         "slt $11,$17,$23",
     ),
     (
         0x0276_602b,
-        Fields::Register(RegisterOp::Sltu, 12, 19, 22),
+        Fields::ThreeRegister(ThreeRegisterOp::Sltu, 12, 19, 22),
         "sltu $12,$19,$22",
     ),
     (
         0x70a6_2002,
-        Fields::Register(RegisterOp::Mul, 4, 5, 6),
+        Fields::ThreeRegister(ThreeRegisterOp::Mul, 4, 5, 6),
         "mul $4,$5,$6",
     ),
     (
         0x0022_1820,
-        Fields::Register(RegisterOp::Add, 3, 1, 2),
+        Fields::ThreeRegister(ThreeRegisterOp::Add, 3, 1, 2),
         "add $3,$1,$2",
     ),
     (
         0x0041_1021,
-        Fields::Register(RegisterOp::Addu, 2, 2, 1),
+        Fields::ThreeRegister(ThreeRegisterOp::Addu, 2, 2, 1),
         "addu $2,$2,$1",
     ),
     (
         0x0000_0025,
-        Fields::Register(RegisterOp::Or, 0, 0, 0),
+        Fields::ThreeRegister(ThreeRegisterOp::Or, 0, 0, 0),
         "or $0,$0,$0",
     ),
     (
         0x03ff_f82b,
-        Fields::Register(RegisterOp::Sltu, 31, 31, 31),
+        Fields::ThreeRegister(ThreeRegisterOp::Sltu, 31, 31, 31),
         "sltu $31,$31,$31",
     ),
     (
         0x73fe_e802,
-        Fields::Register(RegisterOp::Mul, 29, 31, 30),
+        Fields::ThreeRegister(ThreeRegisterOp::Mul, 29, 31, 30),
         "mul $29,$31,$30",
     ),
     (

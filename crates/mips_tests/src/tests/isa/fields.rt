@@ -5,7 +5,7 @@ use mips_isa::*;
 /// The fields of an instruction in the order of its text, a register by its number.
 #[derive(Clone, Copy)]
 pub enum Fields {
-    Register(RegisterOp, u32, u32, u32),
+    ThreeRegister(ThreeRegisterOp, u32, u32, u32),
     ConditionalMove(ConditionalMoveOp, u32, u32, u32),
     Shift(ShiftOp, u32, u32, u32),
     ShiftVariable(ShiftVariableOp, u32, u32, u32),
@@ -41,7 +41,7 @@ impl Fields {
     /// The instruction with these fields.
     pub fn instr(self) -> Instr {
         match self {
-            Fields::Register(op, rd, rs, rt) => register(op, rd, rs, rt),
+            Fields::ThreeRegister(op, rd, rs, rt) => register(op, rd, rs, rt),
             Fields::ConditionalMove(op, rd, rs, rt) => conditional(op, rd, rs, rt),
             Fields::Shift(op, rd, rt, sa) => shift(op, rd, rt, sa),
             Fields::ShiftVariable(op, rd, rt, rs) => shift_by(op, rd, rt, rs),
