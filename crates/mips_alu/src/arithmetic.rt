@@ -94,13 +94,15 @@ pub fn difference_without_overflow_is_the_difference_modulo()
 /// A law: `Add` overflows exactly where the sum of the signed values is below -2^31 or not below 2^31.
 pub fn sum_overflows_outside_the_signed_values()
     ensures { (a b : ℕ) → a < 2 ^ 32 → b < 2 ^ 32
-        → IsNone (arith_result Add a b) ↔ (((signed_value a +ℤ signed_value b) <ℤ neg_ℤ (pos (2 ^ 31))) ⊎ (pos (2 ^ 31) ≤ℤ (signed_value a +ℤ signed_value b))) }
+        → IsNone (arith_result Add a b) ↔
+        (((signed_value a +ℤ signed_value b) <ℤ neg_ℤ (pos (2 ^ 31))) ⊎ (pos (2 ^ 31) ≤ℤ (signed_value a +ℤ signed_value b))) }
 {}
 
 /// A law: `Sub` overflows exactly where the difference of the signed values is below -2^31 or not below 2^31.
 pub fn difference_overflows_outside_the_signed_values()
     ensures { (a b : ℕ) → a < 2 ^ 32 → b < 2 ^ 32
-        → IsNone (arith_result Sub a b) ↔ (((signed_value a -ℤ signed_value b) <ℤ neg_ℤ (pos (2 ^ 31))) ⊎ (pos (2 ^ 31) ≤ℤ (signed_value a -ℤ signed_value b))) }
+        → IsNone (arith_result Sub a b) ↔
+        (((signed_value a -ℤ signed_value b) <ℤ neg_ℤ (pos (2 ^ 31))) ⊎ (pos (2 ^ 31) ≤ℤ (signed_value a -ℤ signed_value b))) }
 {}
 
 /// A law: the result of `Subu` plus the word that was subtracted is the first word, modulo 2^32.

@@ -72,7 +72,8 @@ pub fn numbers_in_hand_are_counted()
 pub fn pages_stay_kept()
     ensures written { (held held' : ℕ → Option (List ℕ)) (view : ℕ → List ℕ) (pages : List Page) (slot : ℕ) →
         OthersStay slot held held' → slots_held slot pages ≡ 0 → Kept held view pages → Kept held' view pages }
-    ensures read { (held held' : ℕ → Option (List ℕ)) (view : ℕ → List ℕ) (pages : List Page) → AllStay held held' → Kept held view pages → Kept held' view pages }
+    ensures read { (held held' : ℕ → Option (List ℕ)) (view : ℕ → List ℕ) (pages : List Page) → AllStay held held' → Kept held view pages →
+        Kept held' view pages }
     ensures undamaged { (held : ℕ → Option (List ℕ)) (view : ℕ → List ℕ) (pages : List Page) (p : ℕ) → p < length pages → kind_at pages p ≡ Swapped →
         Kept held view pages → IsDamaged (held (slot_of (page_at pages p))) (digest_of (page_at pages p)) → ⊥ }
 {}

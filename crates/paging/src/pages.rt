@@ -66,7 +66,8 @@ pub trait Pages {
     fn supply_copy(&mut self, p: Ppn, frame: Frame) -> ShareTicket
         requires there { p < length (pages self.old) }
         requires kind { kind_at (pages self.old) p ≡ PageKind.Shared }
-        ensures pages { pages self.new ≡ slice_set (pages self.old) p (Page.Private (record { number = frame.number; bytes = shown (page_at (pages self.old) p) })) }
+        ensures pages { pages self.new ≡ slice_set (pages self.old) p
+            (Page.Private (record { number = frame.number; bytes = shown (page_at (pages self.old) p) })) }
         ensures ticket { result ≡ ticket_of (page_at (pages self.old) p) }
         ensures rest { rest self.new ≡ rest self.old };
 

@@ -51,5 +51,6 @@ pub fn give_back(returned: Returned, pool: &mut Pool, slots: &mut SlotBook, shar
 #[tactic(auto, using(crate::proofs::GoingBack::given_conserves))]
 pub fn a_given_page_is_conserved()
     ensures { (pages pages' : List Page) (p : ℕ) (pool book : FreeList) (es : EntriesAre) (pool' book' : FreeList) (es' : EntriesAre) → p < length pages →
-        pages' ≡ slice_set pages p Given → GoesBack (handed_back (page_at pages p)) pool book es pool' book' es' → Conserves pages pool book es pages' pool' book' es' }
+        pages' ≡ slice_set pages p Given → GoesBack (handed_back (page_at pages p)) pool book es pool' book' es' →
+        Conserves pages pool book es pages' pool' book' es' }
 {}

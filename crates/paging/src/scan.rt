@@ -91,7 +91,8 @@ fn share_in<P: Pages>(
     requires own_once { OwnOnce shares.old.entries (P.pages pages.old) }
     ensures answer { Answered shares.old (P.pages pages.old) (record { guest = guest; page = p }) result.0 }
     ensures comes { Comes shares.old.entries (P.pages pages.old) p result.0 shares.new.entries (P.pages pages.new) (option_to_list result.1) }
-    ensures hints { HintsAfter shares.old.hints (sha256 (shown (page_at (P.pages pages.old) p))) (record { guest = guest; page = p }) result.0 shares.new.hints }
+    ensures hints { HintsAfter shares.old.hints (sha256 (shown (page_at (P.pages pages.old) p)))
+        (record { guest = guest; page = p }) result.0 shares.new.hints }
     ensures rest { P.rest pages.new ≡ P.rest pages.old }
 {
     match shares.join(bytes_of(pages, p)) {
@@ -127,7 +128,8 @@ pub fn scan_in<P: Pages>(
     ensures rest { P.rest pages.new ≡ P.rest pages.old }
     ensures answer { Answered shares.old (P.pages pages.old) (record { guest = guest; page = p }) result.0 }
     ensures comes { Comes shares.old.entries (P.pages pages.old) p result.0 shares.new.entries (P.pages pages.new) (option_to_list result.1) }
-    ensures hints { HintsAfter shares.old.hints (sha256 (shown (page_at (P.pages pages.old) p))) (record { guest = guest; page = p }) result.0 shares.new.hints }
+    ensures hints { HintsAfter shares.old.hints (sha256 (shown (page_at (P.pages pages.old) p)))
+        (record { guest = guest; page = p }) result.0 shares.new.hints }
 {
     if p.number() >= pages.count() {
         return (Scan::Skipped, None);

@@ -85,7 +85,8 @@ pub(crate) fn read_page<S: SwapStore>(
     ensures honest_gives { IfOk result (λ read. S.honest store.old → AreHeld (S.held store.old slot) read.bytes) }
     ensures true_gives { IfOk result (λ read. S.true_to_digests store.old → AreHeldByDigest (S.held store.old slot) read.bytes) }
     ensures back { IfErr result (λ back. back.0.number ≡ frame.number) }
-    ensures err { IfErr result (λ back. WhyUnread (S.failed store.new ≡ one_more (S.failed store.old)) (S.honest store.old → IsDamaged (S.held store.old slot) wanted.now) back.1) }
+    ensures err { IfErr result
+        (λ back. WhyUnread (S.failed store.new ≡ one_more (S.failed store.old)) (S.honest store.old → IsDamaged (S.held store.old slot) wanted.now) back.1) }
     ensures counted { OnOk result (S.failed store.new ≡ S.failed store.old) }
     ensures held { S.true_to_digests store.old → AllStay (S.held store.old) (S.held store.new) }
     ensures slots { S.slots store.new ≡ S.slots store.old }

@@ -142,7 +142,8 @@ pub fn supply_swapped<P: Pages, S: SwapStore>(
     ensures rest { P.rest pages.new ≡ P.rest pages.old }
     ensures supplied { OnOk result (Supplies (P.pages pages.old) p (shown (page_at (P.pages pages.new) p)) (P.pages pages.new)) }
     ensures digest { OnOk result (sha256 (shown (page_at (P.pages pages.new) p)) ≡ digest_of (page_at (P.pages pages.old) p)) }
-    ensures honest_gives { OnOk result (S.honest store.old → AreHeld (S.held store.old (slot_of (page_at (P.pages pages.old) p))) (shown (page_at (P.pages pages.new) p))) }
+    ensures honest_gives { OnOk result
+        (S.honest store.old → AreHeld (S.held store.old (slot_of (page_at (P.pages pages.old) p))) (shown (page_at (P.pages pages.new) p))) }
     ensures slot_free { OnOk result (Gives slots.old (slot_of (page_at (P.pages pages.old) p)) slots.new) }
     ensures some { OnOk result (0 < length pool.old.free) }
     ensures no_failure { OnOk result (S.failed store.new ≡ S.failed store.old) }
