@@ -1,5 +1,5 @@
 -- A log that is stored in the fewest entries stays so when an item is added.
-use Rattle.std.proofs.Common.{ℕ, ◌≡◌, ◌<◌, ◌≤◌, ◌+◌, ◌^◌, Bool, false, if◌then◌else◌, Option, Some, None, List, [], ◌∷◌, ◌++◌, length, All, option_to_list, refl, sym, ap, subst, ◌∙◌, arith, append_assoc, append-nil, length-append, inl, inr, eq-eqb, ne_eqb}
+use Rattle.std.proofs.Common.{ℕ, zero, suc, ◌≡◌, ◌<◌, ◌≤◌, ◌+◌, ◌^◌, Bool, false, if◌then◌else◌, Option, Some, None, List, [], ◌∷◌, ◌++◌, length, All, option_to_list, refl, sym, ap, subst, ◌∙◌, arith, append_assoc, append-nil, length-append, ◌⊎◌, inl, inr, eq-eqb, ne_eqb}
 use Rattle.std.proofs.lemmas.List.Concat.{flat_map-append}
 use Rattle.std.proofs.lemmas.List.Elements.{All-nil, All-push, All-pop}
 use Rattle.std.proofs.lemmas.Bool.{cases_eq}
@@ -47,6 +47,14 @@ items-more earlier seat n =
     ∙ sym (append_assoc (items_of earlier) (steps_of seat n) (step_by seat ∷ []))
     ∙ ap (λ (l : List Item). l ++ step_by seat ∷ []) (sym (items-entries earlier seat n))
 
+pub items-many : (earlier : List Entry) (seat n count : ℕ)
+    → items_of (entries_of earlier (steps_by seat (n + count))) ≡ items_of (entries_of earlier (steps_by seat n)) ++ steps_of seat count
+items-many earlier seat n count =
+    items-entries earlier seat (n + count)
+    ∙ ap (λ (l : List Item). items_of earlier ++ l) (steps_of-join seat n count)
+    ∙ sym (append_assoc (items_of earlier) (steps_of seat n) (steps_of seat count))
+    ∙ ap (λ (l : List Item). l ++ steps_of seat count) (sym (items-entries earlier seat n))
+
 pub items-next : (entries : List Entry) (seat : ℕ) → items_of (entries_of entries (steps_by seat 1)) ≡ items_of entries ++ step_by seat ∷ []
 items-next entries seat = items-entries entries seat 1 ∙ ap (λ (l : List Item). items_of entries ++ l) (steps_of-one seat)
 
@@ -80,6 +88,24 @@ keeps_nothing seat limit = record {
   within = omega arith;
   items_fit = omega arith;
 }
+
+-- how many runs there are with one more step: as many where it joins the last run, else one more
+pub runs_with : (earlier : List Entry) (before seat n other limit : ℕ) → Keeps earlier before (steps_by seat n) limit
+    → let items = items_of (entries_of earlier (steps_by seat n)) in
+    ((0 < n → seat ≡ other → run_count (items ++ step_by other ∷ []) ≡ run_count items)
+    × ((n ≡ 0) ⊎ (seat ≡ other → ⊥) → run_count (items ++ step_by other ∷ []) ≡ run_count items + 1))
+runs_with earlier before seat n other limit k =
+    let items = items_of (entries_of earlier (steps_by seat n)) in (
+      (λ some same. subst (λ (s : ℕ). run_count (items ++ step_by s ∷ []) ≡ run_count items) same
+          (count-grows items seat n (sym k.last_is ∙ run_entry-some seat n (λ e. omega (arith, e, some))))),
+      (λ why. elim why [
+        | inl none ↦ count-begins items (step_by other) (sym k.last_is ∙ run_entry-none seat n none)
+        | inr differ ↦ elim (cases_eq n 0) [
+          | inl none ↦ count-begins items (step_by other) (sym k.last_is ∙ run_entry-none seat n none)
+          | inr some ↦ count-follows items seat n other differ (sym k.last_is ∙ run_entry-some seat n some)
+        ]
+      ]),
+    )
 
 -- one more step by the seat of the last run
 same_counts : (earlier : List Entry) (before seat n limit : ℕ) → Keeps earlier before (steps_by seat n) limit
@@ -123,6 +149,51 @@ keeps_same earlier before seat n limit room fits k =
       items_fit = rw (more, length-more) (omega arith);
     }
 
+-- a step more in a run that has some takes no room for a run
+keeps_longer : (earlier : List Entry) (before seat n limit : ℕ) → (n ≡ 0 → ⊥) → length (items_of (entries_of earlier (steps_by seat n))) < 2 ^ 62
+    → Keeps earlier before (steps_by seat n) limit → Keeps earlier before (steps_by seat (n + 1)) limit
+keeps_longer earlier before seat n limit begun fits k =
+    let items = items_of (entries_of earlier (steps_by seat n)) in
+    let more = items-more earlier seat n in
+    let some = run_entry-some seat (n + 1) (λ e. omega (arith, e)) in
+    let counts = same_counts earlier before seat n limit k in
+    let few : n + 1 ≤ 2 ^ 62 = omega (arith, length-items earlier seat n) in
+    record {
+      fewest = counts ∙ ap run_count (sym more);
+      last_is = some ∙ same_ends earlier before seat n limit k ∙ ap last_run (sym more);
+      before_is = k.before_is;
+      stored = subst (λ (o : Option Entry). All IsStored (earlier ++ option_to_list o)) (sym some) (All-push IsStored earlier (entry.Steps seat (n + 1)) (stored_before earlier seat n k.stored) (omega arith, few));
+      within = omega (arith, k.within, entries-some earlier seat n begun, entries-some earlier seat (n + 1) (λ e. omega (arith, e)));
+      items_fit = rw (more, length-more) (omega arith);
+    }
+
+-- and so many more
+keeps_run : (earlier : List Entry) (before seat n limit more : ℕ) → (n ≡ 0 → ⊥) → length (items_of (entries_of earlier (steps_by seat n))) + more ≤ 2 ^ 62
+    → Keeps earlier before (steps_by seat n) limit → Keeps earlier before (steps_by seat (n + more)) limit
+keeps_run earlier before seat n limit zero begun fits k = subst (λ (j : ℕ). Keeps earlier before (steps_by seat j) limit) (omega arith) k
+keeps_run earlier before seat n limit (suc more) begun fits k =
+    let fewer : length (items_of (entries_of earlier (steps_by seat n))) + more ≤ 2 ^ 62 = omega (arith, fits) in
+    let so_far = keeps_run earlier before seat n limit more begun fewer k in
+    let some : n + more ≡ 0 → ⊥ = λ e. begun (omega (arith, e)) in
+    let fit : length (items_of (entries_of earlier (steps_by seat (n + more)))) < 2 ^ 62 =
+    omega (arith, fits, length-items earlier seat n, length-items earlier seat (n + more)) in
+    let same : n + more + 1 ≡ n + suc more = omega arith in
+    subst (λ (j : ℕ). Keeps earlier before (steps_by seat j) limit) same (keeps_longer earlier before seat (n + more) limit some fit so_far)
+
+-- some steps by the seat of the last run
+pub keeps_same_many : (earlier : List Entry) (before seat n limit count : ℕ) → 0 < count → run_count (items_of (entries_of earlier (steps_by seat n))) < limit
+    → length (items_of (entries_of earlier (steps_by seat n))) + count ≤ 2 ^ 62
+    → Keeps earlier before (steps_by seat n) limit → Keeps earlier before (steps_by seat (n + count)) limit
+keeps_same_many earlier before seat n limit zero some room fits k = absurd (omega (arith, some))
+keeps_same_many earlier before seat n limit (suc more) some room fits k =
+    let fit : length (items_of (entries_of earlier (steps_by seat n))) < 2 ^ 62 = omega (arith, fits) in
+    let one = keeps_same earlier before seat n limit room fit k in
+    let begun : n + 1 ≡ 0 → ⊥ = λ e. omega (arith, e) in
+    let fewer : length (items_of (entries_of earlier (steps_by seat (n + 1)))) + more ≤ 2 ^ 62 =
+    omega (arith, fits, length-items earlier seat n, length-items earlier seat (n + 1)) in
+    let same : n + 1 + more ≡ n + suc more = omega arith in
+    subst (λ (j : ℕ). Keeps earlier before (steps_by seat j) limit) same (keeps_run earlier before seat (n + 1) limit more begun fewer one)
+
 -- a step that begins a run: the last run so far has no steps, or is of another seat
 next_counts : (entries : List Entry) (seat n other : ℕ) → (seat ≡ other → ⊥) → run_entry (steps_by seat n) ≡ last_run (items_of entries)
     → (run_count (items_of entries ++ step_by other ∷ []) ≡ run_count (items_of entries) + 1) × (last_run (items_of entries ++ step_by other ∷ []) ≡ Some (entry.Steps other 1))
@@ -151,6 +222,19 @@ keeps_next earlier before seat n other limit differ room fits k =
       within = omega (arith, one, k.fewest);
       items_fit = rw (more, length-more) (omega arith);
     }
+
+-- some steps that begin a run
+pub keeps_next_many : (earlier : List Entry) (before seat n other limit count : ℕ) → 0 < count → (seat ≡ other → ⊥) → run_count (items_of (entries_of earlier (steps_by seat n))) < limit
+    → length (items_of (entries_of earlier (steps_by seat n))) + count ≤ 2 ^ 62
+    → Keeps earlier before (steps_by seat n) limit → Keeps (entries_of earlier (steps_by seat n)) (before + n) (steps_by other count) limit
+keeps_next_many earlier before seat n other limit zero some differ room fits k = absurd (omega (arith, some))
+keeps_next_many earlier before seat n other limit (suc more) some differ room fits k =
+    let entries = entries_of earlier (steps_by seat n) in
+    let fit : length (items_of entries) < 2 ^ 62 = omega (arith, fits) in
+    let one = keeps_next earlier before seat n other limit differ room fit k in
+    let fewer : length (items_of (entries_of entries (steps_by other 1))) + more ≤ 2 ^ 62 = omega (arith, fits, length-items entries other 1) in
+    let same : 1 + more ≡ suc more = omega arith in
+    subst (λ (j : ℕ). Keeps entries (before + n) (steps_by other j) limit) same (keeps_run entries (before + n) other 1 limit more (λ e. omega (arith, e)) fewer one)
 
 -- an item that is no step
 pub keeps_other : (earlier : List Entry) (before seat n limit : ℕ) (i : Item) → is_step i.what ≡ false → run_count (items_of (entries_of earlier (steps_by seat n))) < limit

@@ -1,6 +1,7 @@
 -- What is seen of a log.
-use Rattle.std.specs.Prelude.{◌≡◌, ℕ, ◌+◌, ◌<◌, ◌≤◌, ◌^◌, ◌⊎◌, List, length, max}
+use Rattle.std.specs.Prelude.{◌≡◌, ℕ, ◌+◌, ◌<◌, ◌≤◌, ◌^◌, ◌⊎◌, List, [], ◌∷◌, ◌++◌, length, max}
 use Rattle.items.specs.declared.item.Item.{Item}
+use Rattle.items.specs.Entries.{step_by}
 use Rattle.guest_log.specs.Runs.{run_count}
 
 pub record LogIs : Type 0 where
@@ -16,6 +17,14 @@ pub record HasRoom (log : LogIs) : Type 0 where
   pub items : length log.items < 2 ^ 62
   pub runs : run_count log.items < log.limit
   pub memory : 0 < log.room
+
+-- whether so many steps of a seat can be added, one after another: there is room for the first, and the log isn't full after it where
+-- another follows, which then adds no run
+pub record HasRoomFor (log : LogIs) (seat count : ℕ) : Type 0 where
+  pub items : length log.items + count ≤ 2 ^ 62
+  pub runs : run_count log.items < log.limit
+  pub memory : 0 < log.room
+  pub more : (count ≤ 1) ⊎ (run_count (log.items ++ step_by seat ∷ []) < log.limit)
 
 -- whether one more item that is no step can be added: it may need two stored entries, the run of steps before it and
 -- itself

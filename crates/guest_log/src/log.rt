@@ -1,8 +1,9 @@
 //! The log.
-ghost use Rattle.std.specs.Prelude.{◌≡◌, ◌==◌, ◌<◌, ◌≤◌, ◌^◌, ◌↔◌, [], ◌∷◌, ◌++◌, false, length, All, OnOk, OnErr, Err, IsErrOf, IfSome, IsTrue, option_to_list};
+ghost use Rattle.std.specs.Prelude.{◌≡◌, ◌==◌, ◌+◌, ◌<◌, ◌≤◌, ◌^◌, ◌↔◌, [], ◌∷◌, ◌++◌};
+ghost use Rattle.std.specs.Prelude.{false, length, All, OnOk, OnErr, Err, IsErrOf, IfSome, IsTrue, option_to_list};
 ghost use Rattle.items.specs.Items.{is_step};
-ghost use Rattle.items.specs.Entries.{step_by, items_of};
-ghost use Rattle.guest_log.specs.Logs.{LogIs, HasRoom, HasItemRoom, IsFull, TakesRoom};
+ghost use Rattle.items.specs.Entries.{step_by, steps_of, items_of};
+ghost use Rattle.guest_log.specs.Logs.{LogIs, HasRoom, HasRoomFor, HasItemRoom, IsFull, TakesRoom};
 ghost use Rattle.guest_log.specs.Runs.{run_count, last_run, IsStored};
 
 use crate::Stop;
@@ -160,6 +161,70 @@ impl Log {
             self.last.store(&mut self.earlier);
             self.before += self.last.steps;
             self.last = Run { seat, steps: 1 };
+        }
+    }
+
+    /// Whether it has at most one run less than its limit.
+    #[inline]
+    fn has_one_run_left(&self) -> bool
+        ensures { IsTrue result ↔ self.now.limit ≤ run_count self.now.items + 1 }
+    {
+        u64::from(self.runs()) + 1 >= u64::from(self.limit)
+    }
+
+    /// Whether it would be full of runs with one more step of a seat.
+    #[inline]
+    fn is_full_after(&self, seat: SeatNo) -> bool
+        requires { HasRoom self.now }
+        ensures { IsTrue result ↔ self.now.limit ≤ run_count (self.now.items ++ step_by seat ∷ []) }
+    {
+        if self.last.steps == 0 {
+            return self.has_one_run_left();
+        }
+        if seat.number() == self.last.seat.number() {
+            return false;
+        }
+        self.has_one_run_left()
+    }
+
+    /// How many of `count` steps of a seat, one after another, find room: all of them, but where the log would be full before the
+    /// last. There is room for one.
+    #[inline]
+    pub fn steps_with_room(&self, seat: SeatNo, count: u32) -> u32
+        requires { HasRoom self.now }
+        ensures few { result ≤ count }
+        ensures some { 0 < count → 0 < result }
+        ensures room { HasRoomFor self.now seat result }
+        ensures fewer { result < count → IsFull (record self.now { items = self.now.items ++ steps_of seat result }) }
+    {
+        if self.is_full_after(seat) {
+            return count.min(1);
+        }
+        let left = (1 << 62) - self.len();
+        if u64::from(count) <= left {
+            count
+        } else {
+            left as u32
+        }
+    }
+
+    /// Adds so many steps of a seat, one at least. It takes no memory.
+    #[inline]
+    pub fn steps(&mut self, seat: SeatNo, count: u32)
+        requires some { 0 < count }
+        requires room { HasRoomFor self.old seat count }
+        ensures items { self.new.items ≡ self.old.items ++ steps_of seat count }
+        ensures limit { self.new.limit ≡ self.old.limit }
+    {
+        if seat.number() == self.last.seat.number() {
+            self.last.steps += u64::from(count);
+        } else {
+            Run::store(self.last, &mut self.earlier);
+            self.before += self.last.steps;
+            self.last = Run {
+                seat,
+                steps: u64::from(count),
+            };
         }
     }
 

@@ -1,6 +1,7 @@
 -- The log of a guest with its pen, and what an item adds to it.
 use Rattle.std.specs.Prelude.{◌≡◌, ℕ, [], ◌∷◌, ◌++◌}
 use Rattle.items.specs.declared.item.Item.{Item}
+use Rattle.items.specs.Entries.{steps_of}
 use Rattle.guest_log.specs.Logs.{LogIs}
 use Rattle.loghead.specs.Heads.{HeadId, PenIs, SeatIs}
 use Rattle.loghead.specs.Legal.{Legal}
@@ -23,5 +24,13 @@ pub record Adds (log : LogIs) (seat : SeatIs) (i : Item) (log' : LogIs) (seat' :
   pub items : log'.items ≡ log.items ++ i ∷ []
   pub limit : log'.limit ≡ log.limit
   pub its_seat : seat' ≡ record seat { saw = log'.items; made = seat.made ++ i ∷ [] }
+  pub before : Legal log.items seat.number seat.saw seat.made
+  pub after : Legal log'.items seat'.number seat'.saw seat'.made
+
+-- the same of so many steps of the seat, one after another
+pub record AddsSteps (log : LogIs) (seat : SeatIs) (count : ℕ) (log' : LogIs) (seat' : SeatIs) : Type 0 where
+  pub items : log'.items ≡ log.items ++ steps_of seat.number count
+  pub limit : log'.limit ≡ log.limit
+  pub its_seat : seat' ≡ record seat { saw = log'.items; made = seat.made ++ steps_of seat.number count }
   pub before : Legal log.items seat.number seat.saw seat.made
   pub after : Legal log'.items seat'.number seat'.saw seat'.made

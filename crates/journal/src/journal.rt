@@ -1,13 +1,13 @@
 //! The log of a guest with the pen that alone appends to it.
-ghost use Rattle.std.specs.Prelude.{◌≡◌, ◌+◌, ◌<◌, ◌↔◌, false, [], IfOk, OnOk, IsErrOf};
-ghost use Rattle.items.specs.Entries.{step_by};
+ghost use Rattle.std.specs.Prelude.{◌≡◌, ◌+◌, ◌<◌, ◌≤◌, ◌↔◌, ◌++◌, false, [], IfOk, OnOk, IsErrOf};
+ghost use Rattle.items.specs.Entries.{step_by, steps_of};
 ghost use Rattle.items.specs.Items.{is_step};
-ghost use Rattle.guest_log.specs.Logs.{HasRoom, HasItemRoom, IsFull, TakesRoom};
+ghost use Rattle.guest_log.specs.Logs.{HasRoom, HasRoomFor, HasItemRoom, IsFull, TakesRoom};
 ghost use Rattle.loghead.specs.Legal.{Legal};
-ghost use Rattle.journal.specs.Journals.{JournalIs, Adds};
+ghost use Rattle.journal.specs.Journals.{JournalIs, Adds, AddsSteps};
 
 use guest_log::{Log, Stop};
-use items::Item;
+use items::{Item, What};
 use loghead::{Head, Pen, Seat};
 use std::alloc::{AllocError, Global};
 use std::marker::Model;
@@ -108,6 +108,37 @@ impl Journal {
     {
         self.head.append_step(&mut self.pen, seat);
         self.log.step(seat.number());
+    }
+
+    /// How many of `count` steps of the seat, one after another, find room, as `Log::steps_with_room`.
+    #[inline]
+    pub fn steps_with_room(&self, seat: &Seat, count: u32) -> u32
+        requires { HasRoom self.now.log }
+        ensures few { result ≤ count }
+        ensures some { 0 < count → 0 < result }
+        ensures room { HasRoomFor self.now.log seat.now.number result }
+        ensures fewer { result < count → IsFull (record self.now.log { items = self.now.log.items ++ steps_of seat.now.number result }) }
+    {
+        self.log.steps_with_room(seat.number(), count)
+    }
+
+    /// Adds so many steps of the seat, one at least. Every seat that looks from now on may see them.
+    #[tactic(auto, unfolding(items::specs::Entries::steps_of))]
+    #[inline]
+    pub fn steps(&mut self, seat: &mut Seat, count: u32)
+        requires head { seat.old.head ≡ self.old.head }
+        requires some { 0 < count }
+        requires room { HasRoomFor self.old.log seat.old.number count }
+        ensures adds { AddsSteps self.old.log seat.old count self.new.log seat.new }
+        ensures head { (self.new.head ≡ self.old.head) × (self.new.seats ≡ self.old.seats) }
+    {
+        let step = Item {
+            seat: seat.number(),
+            what: What::Step,
+        };
+        self.head
+            .append_many(&mut self.pen, seat, &step, u64::from(count));
+        self.log.steps(seat.number(), count);
     }
 
     /// Adds an item of the seat that is no step.

@@ -6,5 +6,6 @@ pub mod Looking
 pub mod PartOfPage
 pub mod Placing
 pub mod Reaching
+pub mod Running
 pub mod Showing
 pub mod Stepping

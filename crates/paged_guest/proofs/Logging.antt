@@ -17,6 +17,10 @@ pub accepted_more : (items now : List Item) (i : Item) (boot : Machine) → now 
 accepted_more items now i boot e accepted all =
     subst (λ (xs : List Item). AllAccepted xs boot) (sym e) ((accepted_append items (i ∷ []) boot).1 (all, (accepted, tt)))
 
+-- the view after more items
+pub run_on : (items now more : List Item) (boot : Machine) → now ≡ items ++ more → run now boot ≡ run more (run items boot)
+run_on items now more boot e = ap (λ (xs : List Item). run xs boot) e ∙ run_append items more boot
+
 -- in a view each page that is given is zeros
 pub view_zeros : (items : List Item) (image : Image) (pages : ℕ) → GivenAreZeros (run items (boot_machine image pages)).world
 view_zeros items image pages = run_zeros items (boot_machine image pages) (boot_zeros image pages)

@@ -8,12 +8,14 @@ use Rattle.flatvm.specs.Items.{run, AllAccepted}
 use Rattle.flatvm.specs.Replies.{probe}
 use Rattle.guest_log.specs.Logs.{LogIs}
 use Rattle.loghead.specs.Heads.{HeadId, SeatIs}
-use Rattle.journal.specs.Journals.{JournalIs, Adds}
+use Rattle.journal.specs.Journals.{JournalIs, Adds, AddsSteps}
 use Rattle.mips_step.specs.declared.access.Why.{Why}
 use Rattle.physmap.specs.declared.page.Page.{Page}
 use Rattle.physmap.specs.declared.page.Returned.{Returned}
 use Rattle.physmap.specs.Outline.{outline}
 use Rattle.paged_bus.specs.Buses.{PagedBusIs, world_of, with_pages, pages_settled, page_returned}
+use Rattle.paged_guest.specs.declared.progress.Pause.{Pause}
+use Rattle.paged_guest.specs.declared.progress.Pause.TheVariants as pause
 use Rattle.paged_guest.specs.declared.stepped.Stepped.{Stepped}
 use Rattle.paged_guest.specs.declared.stepped.Stepped.TheVariants.{Done, Need}
 use Rattle.paged_guest.specs.Views.{Shows}
@@ -77,6 +79,31 @@ pub record Gives (given : Option ℕ) (old : List Page) (returned : Returned) (n
 abbrev pub HandsBack : Option ℕ → List Page → Stepped → List Page → Type 0
 HandsBack given old (Done returned) new = Gives given old returned new
 HandsBack given old (Need page why) new = new ≡ old
+
+-- What has become of the pages, and what came back, in a run of steps of which the last one alone may have given a page: where they
+-- pause because it did, that page is given now; else each page is where it was.
+abbrev pub HasPaused : List Page → Option Pause → List Page → Type 0
+HasPaused old None new = outline new ≡ outline old
+HasPaused old (Some (pause.Need page why)) new = outline new ≡ outline old
+HasPaused old (Some (pause.Gave returned)) new = (given : Option ℕ) × Gives given old returned new
+
+-- how many steps were made by the one at which a run pauses
+abbrev pub steps_by : Pause → ℕ
+steps_by (pause.Gave returned) = 1
+steps_by (pause.Need page why) = 0
+
+-- whether a step was made that pauses a run, or doesn't
+abbrev pub IsMade : Option Pause → Type 0
+IsMade None = Unit {0}
+IsMade (Some (pause.Gave returned)) = Unit {0}
+IsMade (Some (pause.Need page why)) = ⊥
+
+-- steps of a seat are added to the log, and all else stays that is neither processor nor memory
+pub record LogsSteps (g : GuestIs) (seat : SeatIs) (count : ℕ) (g' : GuestIs) (seat' : SeatIs) : Type 0 where
+  pub boot : g'.boot ≡ g.boot
+  pub head : g'.head ≡ g.head
+  pub seats : g'.seats ≡ g.seats
+  pub adds : AddsSteps g.log seat count g'.log seat'
 
 -- an item of a seat is added to the log, and all else stays that is neither processor nor memory
 pub record Logs (g : GuestIs) (seat : SeatIs) (i : Item) (g' : GuestIs) (seat' : SeatIs) : Type 0 where

@@ -3,8 +3,8 @@ ghost use Rattle.std.specs.Prelude.{◌≡◌};
 
 use crate::loading::load_page;
 use crate::placed::pages_reached;
-use crate::step::{input_pages, need_pages, read_pages, step_pages, whole};
-use crate::{Head, Log, Refused, Seat, Stepped, Stop};
+use crate::step::{input_pages, need_pages, read_pages, run_pages, step_pages, whole};
+use crate::{Head, Log, Progress, Refused, Seat, Stepped, Stop};
 use elf32::Image;
 use flatvm::{Reply, Unreached, View};
 use items::Item;
@@ -47,6 +47,7 @@ impl Guest {
     ghost use Rattle.std.specs.Prelude.{length, replicate, slice_set};
     ghost use Rattle.elf32.specs.Images.{FitsPages};
     ghost use Rattle.items.specs.Items.{is_step};
+    ghost use Rattle.items.specs.Entries.{steps_of};
     ghost use Rattle.items.specs.declared.item.What.TheVariants.{Step};
     ghost use Rattle.devices.specs.Devices.{fresh_devices};
     ghost use Rattle.mips_tlb.specs.declared.kind.Kind.TheVariants.{Store};
@@ -56,7 +57,7 @@ impl Guest {
     ghost use Rattle.mips_step.specs.Accesses.{accesses, first_lack};
     ghost use Rattle.flatvm.specs.Answers.{replied};
     ghost use Rattle.flatvm.specs.Boot.{boot_machine, boot_memory};
-    ghost use Rattle.flatvm.specs.Items.{accepts, after, reply};
+    ghost use Rattle.flatvm.specs.Items.{accepts, after, reply, run};
     ghost use Rattle.flatvm.specs.Replies.{bytes_at, SomePlaceIn};
     ghost use Rattle.guest_log.specs.Logs.{HasRoom, IsFull, TakesRoom};
     ghost use Rattle.guest_log.specs.declared.stop.Stop.{Stop};
@@ -69,7 +70,11 @@ impl Guest {
     ghost use Rattle.paging.specs.Faith.{Kept};
     ghost use Rattle.paged_bus.specs.Lacking.{lacks_in};
     ghost use Rattle.paged_bus.specs.Writes.{WritesTo};
-    ghost use Rattle.paged_guest.specs.Guests.{GuestIs, view_of, standing, Intact, IsSized, need_of, without_pages, HandsBack, Logs, LogsOnly};
+    ghost use Rattle.mips_step.specs.declared.access.Why.{Why};
+    ghost use Rattle.physmap.specs.declared.page.Returned.{Returned};
+    ghost use Rattle.paged_guest.specs.Guests.{GuestIs, view_of, standing, Intact, IsSized, need_of, without_pages};
+    ghost use Rattle.paged_guest.specs.Guests.{HandsBack, HasPaused, Logs, LogsSteps, LogsOnly};
+    ghost use Rattle.paged_guest.specs.declared.progress.Pause.{Pause};
     ghost use Rattle.paged_guest.specs.Views.{pages_seen};
 
     /// A guest with a memory of `pages` pages, at most 2^20, which hold the image, and a log of at most `log_runs` runs. No page
@@ -262,6 +267,40 @@ impl Guest {
             }
             Stepped::Need(page, why) => Stepped::Need(page, why),
         }
+    }
+
+    /// At most `count` steps, one after another, as items of the seat: what so many calls of `step` do, each with room in the log, for
+    /// less. It takes no memory; room for the first step is the caller's condition, and `log_room` makes it.
+    ///
+    /// It pauses before a step that needs a page, as of `step`, and then that step has changed nothing; and after a step that gave a page
+    /// to the balloon, where what the page was in comes back. Else as many steps are made as were wanted, or the log is full. The
+    /// view has moved by the steps that are made, and the log has them more; the seat has made them and has seen the whole log, for
+    /// which it is legal, and every seat that looks from now on may see them.
+    #[inline]
+    pub fn run(&mut self, count: u32, seat: &mut Seat) -> Progress
+        requires head { seat.old.head ≡ self.old.head }
+        requires room { HasRoom self.old.log }
+        ensures few { result.steps ≤ count }
+        ensures all { result.pause ≡ None → (result.steps ≡ count) ⊎ IsFull self.new.log }
+        ensures some { result.pause ≡ None → 0 < count → 0 < result.steps }
+        ensures gave { (returned : Returned) → result.pause ≡ Some (Pause.Gave returned) → 0 < result.steps }
+        ensures need { Intact self.old → (p : ℕ) (why : Why) → result.pause ≡ Some (Pause.Need p why) →
+            first_lack (lacks_in self.new.bus.pages) (accesses (view_of self.new)) ≡ Some (p, why) }
+        ensures logs { 0 < result.steps → LogsSteps self.old seat.old result.steps self.new seat.new }
+        ensures moves { view_of self.new ≡ run (steps_of seat.old.number result.steps) (view_of self.old) }
+        ensures intact { Intact self.old → Intact self.new }
+        ensures kept { Intact self.old → (held : ℕ → Option (List ℕ)) →
+            Kept held (pages_seen (view_of self.old)) self.old.bus.pages → Kept held (pages_seen (view_of self.new)) self.new.bus.pages }
+        ensures paused { HasPaused self.old.bus.pages result.pause self.new.bus.pages }
+        ensures unchanged { result.steps ≡ 0 → (self.new ≡ self.old) × (seat.new ≡ seat.old) }
+    {
+        let most = self.journal.steps_with_room(seat, count);
+        let progress = run_pages(&mut self.cpu, &mut self.bus, most);
+        whole(&self.bus);
+        if progress.steps > 0 {
+            self.journal.steps(seat, progress.steps);
+        }
+        progress
     }
 
     /// What happens to the guest by an item of the seat that is no step. It makes the room that the item needs in the log

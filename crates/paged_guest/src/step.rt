@@ -1,6 +1,7 @@
 //! A processor over pages: its steps, what else happens to it, and what is read of it, all as of the machine whose processor
 //! and pages they are.
-ghost use Rattle.std.specs.Prelude.{◌≡◌, ◌≢◌, ◌↔◌, ◌<◌, ℕ, true, false, List, length, Option, Some, None, OnOk, OnErr, IfOk, IfSome, IsErrOf};
+ghost use Rattle.std.specs.Prelude.{◌≡◌, ◌≢◌, ◌↔◌, ◌<◌, ◌≤◌, ℕ, true, false, List, length, Option, Some, None, OnOk, OnErr, IfOk, IfSome, IsErrOf};
+ghost use Rattle.items.specs.Entries.{steps_of};
 ghost use Rattle.items.specs.Items.{is_step};
 ghost use Rattle.items.specs.declared.item.What.TheVariants.{Drain};
 ghost use Rattle.mips_tlb.specs.declared.kind.Kind.TheVariants.{Store};
@@ -9,19 +10,22 @@ ghost use Rattle.mips_step.specs.Agreeing.{GivenAreZeros};
 ghost use Rattle.mips_step.specs.Given.{step_given};
 ghost use Rattle.mips_step.specs.Step.{Machine, in_world, step};
 ghost use Rattle.flatvm.specs.Answers.{replied};
-ghost use Rattle.flatvm.specs.Items.{accepts, after, reply};
+ghost use Rattle.flatvm.specs.Items.{accepts, after, reply, run};
 ghost use Rattle.flatvm.specs.Replies.{bytes_at, SomePlaceIn};
 ghost use Rattle.physmap.specs.declared.page.PageKind.{PageKind};
+ghost use Rattle.physmap.specs.declared.page.Returned.{Returned};
 ghost use Rattle.physmap.specs.Pages.{kind_at, AreWhole};
 ghost use Rattle.physmap.specs.Outline.{outline};
 ghost use Rattle.paging.specs.Faith.{Kept};
 ghost use Rattle.paged_bus.specs.Buses.{IsSettled, world_of, after_settling, page_returned};
 ghost use Rattle.paged_bus.specs.Lacking.{lacks_in};
 ghost use Rattle.paged_bus.specs.Writes.{WritesTo};
-ghost use Rattle.paged_guest.specs.Guests.{need_of, HandsBack};
+ghost use Rattle.mips_step.specs.declared.access.Why.{Why};
+ghost use Rattle.paged_guest.specs.Guests.{need_of, HandsBack, HasPaused, IsMade};
+ghost use Rattle.paged_guest.specs.declared.progress.Pause.{Pause};
 ghost use Rattle.paged_guest.specs.Views.{pages_seen, Shows};
 
-use crate::Stepped;
+use crate::{Pause, Progress, Stepped};
 use flatvm::{Reply, Unreached, debug};
 use items::What;
 use mips_step::{Cpu, Ppn, StepOut, Why};
@@ -70,6 +74,67 @@ pub(crate) fn step_pages(cpu: &mut Cpu, bus: &mut PagedBus) -> Stepped
             whole(bus);
             Stepped::Need(page, why)
         }
+    }
+}
+
+/// One step as of `step_pages`: None where it is made and gave no page, else why a run of steps pauses there.
+#[inline(always)]
+fn step_or_pause(cpu: &mut Cpu, bus: &mut PagedBus) -> Option<Pause>
+    requires settled { IsSettled bus.old }
+    ensures need { (p : ℕ) (why : Why) → result ≡ Some (Pause.Need p why) →
+        first_lack (lacks_in bus.old.pages) (accesses (in_world cpu.old (world_of bus.old))) ≡ Some (p, why) }
+    ensures shows { IsMade result → (m : Machine) → GivenAreZeros m.world → Shows m cpu.old bus.old → Shows (step m) cpu.new bus.new }
+    ensures kept { IsMade result → (m : Machine) → GivenAreZeros m.world → Shows m cpu.old bus.old →
+        (held : ℕ → Option (List ℕ)) → Kept held (pages_seen m) bus.old.pages → Kept held (pages_seen (step m)) bus.new.pages }
+    ensures paused { HasPaused bus.old.pages result bus.new.pages }
+    ensures unchanged { (IsMade result → ⊥) → (cpu.new ≡ cpu.old) × (bus.new ≡ bus.old) }
+    ensures settled { IsSettled bus.new }
+{
+    whole(bus);
+    match cpu.step(bus) {
+        StepOut::Done => match bus.waiting() {
+            None => {
+                whole(bus);
+                None
+            }
+            Some(_) => Some(Pause::Gave(settled(bus))),
+        },
+        StepOut::Need(lacking, why) => {
+            whole(bus);
+            Some(Pause::Need(lacking, why))
+        }
+    }
+}
+
+/// At most `count` steps of a processor over pages, one after another, to the first that needs a page that is lacking, which has
+/// changed nothing, or that gave a page, which has left its place then. Where processor and pages were those of a machine, they are
+/// those of that machine after so many steps.
+#[inline]
+pub(crate) fn run_pages(cpu: &mut Cpu, bus: &mut PagedBus, count: u32) -> Progress
+    requires settled { IsSettled bus.old }
+    ensures few { result.steps ≤ count }
+    ensures all { result.pause ≡ None → result.steps ≡ count }
+    ensures gave { (returned : Returned) → result.pause ≡ Some (Pause.Gave returned) → 0 < result.steps }
+    ensures need { (p : ℕ) (why : Why) → result.pause ≡ Some (Pause.Need p why) →
+        first_lack (lacks_in bus.new.pages) (accesses (in_world cpu.new (world_of bus.new))) ≡ Some (p, why) }
+    ensures shows { (seat : ℕ) (m : Machine) → GivenAreZeros m.world → Shows m cpu.old bus.old → Shows (run (steps_of seat result.steps) m) cpu.new bus.new }
+    ensures kept { (seat : ℕ) (m : Machine) → GivenAreZeros m.world → Shows m cpu.old bus.old → (held : ℕ → Option (List ℕ)) →
+        Kept held (pages_seen m) bus.old.pages → Kept held (pages_seen (run (steps_of seat result.steps) m)) bus.new.pages }
+    ensures paused { HasPaused bus.old.pages result.pause bus.new.pages }
+    ensures unchanged { result.steps ≡ 0 → (cpu.new ≡ cpu.old) × (bus.new ≡ bus.old) }
+    ensures settled { IsSettled bus.new }
+{
+    for made in 0..count {
+        if let Some(pause) = step_or_pause(cpu, bus) {
+            return Progress {
+                steps: made + pause.steps(),
+                pause: Some(pause),
+            };
+        }
+    }
+    Progress {
+        steps: count,
+        pause: None,
     }
 }
 
