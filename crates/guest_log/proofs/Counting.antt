@@ -48,6 +48,16 @@ pub run_count-steps_of : (seat n : ℕ) → 1 ≤ n → run_count (steps_of seat
 unfolding steps_of
 run_count-steps_of = steps_are_one
 
+-- after the first of some steps of a seat the others add no run
+more_run : (items : List Item) (seat n : ℕ) → run_count (items ++ replicate (suc n) (step_by seat)) ≡ run_count (items ++ step_by seat ∷ [])
+more_run items seat n =
+    omega (arith, run_count-append items (replicate (suc n) (step_by seat)), run_count-append items (step_by seat ∷ []), more_steps seat n)
+
+pub run_count-run : (items : List Item) (seat n : ℕ) → 1 ≤ n → run_count (items ++ steps_of seat n) ≡ run_count (items ++ step_by seat ∷ [])
+unfolding steps_of
+run_count-run items seat zero some = absurd (omega arith)
+run_count-run items seat (suc n) some = more_run items seat n
+
 -- the items of one entry need at most one run
 entry_adds_one : (o : Option Item) (e : Entry) → runs_after o (items_in e) ≤ 1
 unfolding steps_of

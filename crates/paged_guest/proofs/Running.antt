@@ -1,14 +1,16 @@
 -- Steps of a guest, one after another.
-use Rattle.std.proofs.Common.{ℕ, zero, suc, ◌≡◌, ◌≤◌, ◌+◌, inl, inr, length, replicate, List, [], ◌∷◌, ◌++◌, Option, Some, None, refl, sym, ap, subst, ◌∙◌, arith}
+use Rattle.std.proofs.Common.{◌<◌, ◌⊎◌, append-nil, length-append, ℕ, zero, suc, ◌≡◌, ◌≤◌, ◌+◌, inl, inr, length, replicate, List, [], ◌∷◌, ◌++◌, Option, Some, None, refl, sym, ap, subst, ◌∙◌, arith}
 use Rattle.items.specs.declared.item.Item.{Item}
 use Rattle.items.specs.Entries.{step_by, steps_of}
-use Rattle.items.proofs.Runs.{steps_of-none, steps_of-one, steps_of-join}
+use Rattle.items.proofs.Runs.{steps_of-none, steps_of-one, steps_of-join, length-steps_of}
+use Rattle.std.proofs.lemmas.Bool.{cases_eq}
 use Rattle.mips_step.specs.Processor.{Processor}
 use Rattle.mips_step.specs.Step.{Machine, step}
 use Rattle.flatvm.specs.Items.{run, AllAccepted}
 use Rattle.flatvm.proofs.Runs.{run_append, accepted_append}
 use Rattle.guest_log.specs.Logs.{LogIs, HasRoomFor, IsFull}
 use Rattle.guest_log.specs.Runs.{run_count}
+use Rattle.guest_log.proofs.Counting.{run_count-run}
 use Rattle.physmap.specs.declared.page.Page.{Page}
 use Rattle.physmap.specs.Outline.{outline}
 use Rattle.paged_guest.specs.declared.progress.Pause.{Pause}
@@ -54,6 +56,22 @@ is_full_too full log items limit is = elim is [
   | inl runs ↦ inl (omega (arith, runs, ap run_count items, limit))
   | inr many ↦ inr (omega (arith, many, ap length items))
 ]
+
+-- where so many steps have room, the log is not full before the last of them
+pub not_full_before : (log log' : LogIs) (seat most count : ℕ) → HasRoomFor log seat most → count < most → log'.items ≡ log.items ++ steps_of seat count → log'.limit ≡ log.limit → IsFull log' → ⊥
+not_full_before log log' seat most count room fewer items limit full = elim full [
+  | inl runs ↦ by_runs (cases_eq count 0) runs
+  | inr many ↦ omega (arith, many, ap length items, length-append log.items (steps_of seat count), length-steps_of seat count, room.items, fewer)
+]
+  where
+    fit : (most ≤ 1) ⊎ (run_count (log.items ++ step_by seat ∷ []) < log.limit) → (count ≡ 0 → ⊥) → run_count (log.items ++ step_by seat ∷ []) < log.limit
+    fit (inl one) some = absurd (some (omega (arith, one, fewer)))
+    fit (inr more) some = more
+    by_runs : (count ≡ 0) ⊎ (count ≡ 0 → ⊥) → log'.limit ≤ run_count log'.items → ⊥
+    by_runs (inl none) runs =
+        let same : log'.items ≡ log.items = items ∙ ap (λ (n : ℕ). log.items ++ steps_of seat n) none ∙ ap (λ (xs : List Item). log.items ++ xs) (steps_of-none seat) ∙ append-nil log.items in
+        omega (arith, runs, ap run_count same, limit, room.runs)
+    by_runs (inr some) runs = omega (arith, runs, ap run_count items, run_count-run log.items seat count (omega (arith, some)), limit, fit room.more some)
 
 -- pages that are where they were have paused as pages before them
 pub paused_later : (old now new : List Page) (o : Option Pause) → outline now ≡ outline old → HasPaused now o new → HasPaused old o new

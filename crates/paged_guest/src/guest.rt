@@ -286,6 +286,8 @@ impl Guest {
         ensures gave { (returned : Returned) → result.pause ≡ Some (Pause.Gave returned) → 0 < result.steps }
         ensures need { Intact self.old → (p : ℕ) (why : Why) → result.pause ≡ Some (Pause.Need p why) →
             first_lack (lacks_in self.new.bus.pages) (accesses (view_of self.new)) ≡ Some (p, why) }
+        ensures short { (p : ℕ) (why : Why) → result.pause ≡ Some (Pause.Need p why) → result.steps < count }
+        ensures room { (p : ℕ) (why : Why) → result.pause ≡ Some (Pause.Need p why) → IsFull self.new.log → ⊥ }
         ensures logs { 0 < result.steps → LogsSteps self.old seat.old result.steps self.new seat.new }
         ensures moves { view_of self.new ≡ run (steps_of seat.old.number result.steps) (view_of self.old) }
         ensures intact { Intact self.old → Intact self.new }

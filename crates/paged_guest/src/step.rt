@@ -117,6 +117,7 @@ pub(crate) fn run_pages(cpu: &mut Cpu, bus: &mut PagedBus, count: u32) -> Progre
     ensures gave { (returned : Returned) → result.pause ≡ Some (Pause.Gave returned) → 0 < result.steps }
     ensures need { (p : ℕ) (why : Why) → result.pause ≡ Some (Pause.Need p why) →
         first_lack (lacks_in bus.new.pages) (accesses (in_world cpu.new (world_of bus.new))) ≡ Some (p, why) }
+    ensures short { (p : ℕ) (why : Why) → result.pause ≡ Some (Pause.Need p why) → result.steps < count }
     ensures shows { (seat : ℕ) (m : Machine) → GivenAreZeros m.world → Shows m cpu.old bus.old → Shows (run (steps_of seat result.steps) m) cpu.new bus.new }
     ensures kept { (seat : ℕ) (m : Machine) → GivenAreZeros m.world → Shows m cpu.old bus.old → (held : ℕ → Option (List ℕ)) →
         Kept held (pages_seen m) bus.old.pages → Kept held (pages_seen (run (steps_of seat result.steps) m)) bus.new.pages }

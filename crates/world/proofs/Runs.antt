@@ -1,7 +1,7 @@
 -- Steps of a guest, one after another.
 use Rattle.std.proofs.Common.{ℕ, suc, ◌≡◌, ◌+◌, ◌<◌, ◌≤◌, ◌^◌, ◌⊎◌, Bool, true, false, if◌then◌else◌, ◌==◌, List, [], ◌∷◌, ◌++◌, length, get_or, map, replicate, refl, sym, ap, subst, ◌∙◌, arith, append_assoc, ◌≢◌, Option, Some, None, Result, Ok, Err, IfOk, OnErr, IfSome, IfNone, IsErrOf}
 use Rattle.std.specs.List.{Contains}
-use Rattle.std.proofs.lemmas.List.{append-nil, length-map, replicate_more}
+use Rattle.std.proofs.lemmas.List.{append-nil, length-map, replicate_more, replicate-append-replicate}
 use Rattle.items.specs.declared.item.Item.{Item}
 use Rattle.items.specs.Entries.{step_by}
 use Rattle.guest_log.specs.Logs.{LogIs, IsFull}
@@ -43,6 +43,15 @@ pub steps_more : (h g n : ℕ) (old now after : List Item) → now ≡ old ++ st
 steps_more h g n old now after so_far more =
     more ∙ ap (λ (xs : List Item). xs ++ item_for h g (step_by 0)) so_far ∙ append_assoc old (steps_for h g n) (item_for h g (step_by 0))
     ∙ ap (λ (xs : List Item). old ++ xs) (step_more (h == g) n (step_by 0))
+
+steps_joined : (b : Bool) (m n : ℕ) (step : Item) → (if b then replicate m step else []) ++ (if b then replicate n step else []) ≡ (if b then replicate (m + n) step else [])
+steps_joined true m n step = replicate-append-replicate m n step
+steps_joined false m n step = refl
+
+pub steps_join : (h g m n : ℕ) (old now after : List Item) → now ≡ old ++ steps_for h g m → after ≡ now ++ steps_for h g n → after ≡ old ++ steps_for h g (m + n)
+steps_join h g m n old now after so_far more =
+    more ∙ ap (λ (xs : List Item). xs ++ steps_for h g n) so_far ∙ append_assoc old (steps_for h g m) (steps_for h g n)
+    ∙ ap (λ (xs : List Item). old ++ xs) (steps_joined (h == g) m n (step_by 0))
 
 no_step : (b : Bool) (step : Item) → (if b then replicate 0 step else []) ≡ []
 no_step true step = refl

@@ -6,7 +6,7 @@ use Rattle.std.proofs.lemmas.List.Elements.{All-nil, All-push, All-get_or, All-f
 use Rattle.frames.specs.Counts.{count_of, below}
 use Rattle.frames.specs.FreeList.{FreeList}
 use Rattle.items.specs.declared.item.Item.{Item}
-use Rattle.items.specs.Entries.{step_by}
+use Rattle.items.specs.Entries.{step_by, steps_of}
 use Rattle.guest_log.specs.declared.stop.Stop.{Stop}
 use Rattle.flatvm.specs.declared.reply.Reply.{Reply}
 use Rattle.mips_step.specs.Answer.{need_of}
@@ -29,8 +29,8 @@ use Rattle.paging.proofs.Booking.{books_after, covered, own_once, reads_each, ha
 use Rattle.world.specs.Lent.{Lent, UsedStay}
 use Rattle.world.specs.declared.events.Event.{Event}
 use Rattle.world.specs.declared.events.Answer.{Answer}
-use Rattle.world.specs.Events.{step_items, input_items, own_items, own}
-use Rattle.world.specs.Tenants.{TenantIs, pages_in, beside_pages, IsKept, Stays, Adds, NothingHappens}
+use Rattle.world.specs.Events.{step_items, steps_for, input_items, own_items, own}
+use Rattle.world.specs.Tenants.{TenantIs, pages_in, beside_pages, IsKept, Stays, Adds, AddsSteps, NothingHappens}
 use Rattle.world.specs.Worlds.{WorldIs, Sound, Changes, PagesMove, items_of, boot_of, log_at, item_for}
 use Rattle.world.proofs.Giving.{outline_conserves, outline_reads}
 use Rattle.world.proofs.Keeping.{used_kept}
@@ -155,6 +155,19 @@ log_adds g ts ts' item d inside c h =
     ∙ log_set ts g h (get_or ts' g d) d inside
     ∙ ap (λ (xs : List Item). if h == g then xs else log_at ts h) (c.so d)
     ∙ one_log (h == g) (log_at ts h) (items_of (get_or ts g d)) item (λ e. ap (log_at ts) (eqb-true h g e) ∙ its_log ts g d inside)
+
+many_log : (b : Bool) (before own more : List Item) → (b ≡ true → before ≡ own) → (if b then own ++ more else before) ≡ before ++ (if b then more else [])
+many_log true before own more is = ap (λ (xs : List Item). xs ++ more) (sym (is refl))
+many_log false before own more is = sym (append-nil before)
+
+pub log_adds_steps : (g : ℕ) (ts ts' : List TenantIs) (count : ℕ) (d : TenantIs) → g < length ts → Changes (λ t t'. AddsSteps t count t') g ts ts'
+    → (h : ℕ) → log_at ts' h ≡ log_at ts h ++ steps_for h g count
+unfolding steps_of
+log_adds_steps g ts ts' count d inside c h =
+    ap (λ (l : List TenantIs). log_at l h) (c.one d)
+    ∙ log_set ts g h (get_or ts' g d) d inside
+    ∙ ap (λ (xs : List Item). if h == g then xs else log_at ts h) (c.so d)
+    ∙ many_log (h == g) (log_at ts h) (items_of (get_or ts g d)) (replicate count (step_by 0)) (λ e. ap (log_at ts) (eqb-true h g e) ∙ its_log ts g d inside)
 
 same_log : (b : Bool) (before own : List Item) → (b ≡ true → before ≡ own) → (if b then own else before) ≡ before
 same_log true before own is = sym (is refl)
@@ -300,6 +313,13 @@ step_logs Around g ts ts' (Ok out.Done) inside adds needs err h = log_adds g ts 
 step_logs Around g ts ts' (Ok (out.Need page why)) inside adds needs err h =
     log_stays NothingHappens g ts ts' (some_tenant ts g inside) inside (needs (λ e. absurd (cc))).0 (λ t t' n. n.items) h
 step_logs Around g ts ts' (Err stop) inside adds needs err h = log_stays NothingHappens g ts ts' (some_tenant ts g inside) inside err.0 (λ t t' n. n.items) h
+
+pub steps_logs : (g : ℕ) (ts ts' : List TenantIs) (count : ℕ) → g < length ts → Changes (λ t t'. AddsSteps t count t') g ts ts' → (h : ℕ) → log_at ts' h ≡ log_at ts h ++ steps_for h g count
+steps_logs g ts ts' count inside c = log_adds_steps g ts ts' count (some_tenant ts g inside) inside c
+
+pub same_logs : (g : ℕ) (ts ts' : List TenantIs) → g < length ts → Changes NothingHappens g ts ts' → (h : ℕ) → log_at ts' h ≡ log_at ts h
+same_logs g ts ts' inside c h =
+    log_stays NothingHappens g ts ts' (some_tenant ts g inside) inside c (λ t t' n. n.items) h ∙ append-nil (log_at ts h)
 
 pub input_logs : (g : ℕ) (ts ts' : List TenantIs) (item : Item) (r : Result Reply Refused) → g < length ts
     → OnOk r (Changes (λ t t'. Adds t item t') g ts ts') → OnErr r (Changes NothingHappens g ts ts') → (h : ℕ) → log_at ts' h ≡ log_at ts h ++ input_items h g item r

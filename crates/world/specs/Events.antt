@@ -147,6 +147,11 @@ end_at (Ok (out.Need page why)) = Some (end.Need page why)
 end_at (Err halt.Memory) = Some (end.Stop stop.Memory)
 end_at (Err halt.LogFull) = Some (end.Stop stop.LogFull)
 
+-- why a run of steps stops where its log has no room
+abbrev pub for_room : Stop → RunStop
+for_room halt.Memory = stop.Memory
+for_room halt.LogFull = stop.LogFull
+
 -- what is so where a run of steps stopped
 abbrev pub IfStop : End → (RunStop → Type 0) → Type 0
 IfStop end.Done so = Unit {0}

@@ -1,6 +1,7 @@
 -- A guest with its seats and its shares, and what becomes of it.
 use Rattle.std.specs.Prelude.{◌≡◌, ℕ, ◌∷◌, ◌++◌, List, [], Option, length}
 use Rattle.items.specs.declared.item.Item.{Item}
+use Rattle.items.specs.Entries.{steps_of}
 use Rattle.elf32.specs.declared.image.Image.{Image}
 use Rattle.flatvm.specs.Boot.{boot_machine}
 use Rattle.loghead.specs.Heads.{SeatIs}
@@ -46,6 +47,10 @@ pub record Stays (t t' : TenantIs) : Type 0 where
 -- its log has one more item, by which its view has moved
 abbrev pub Adds : TenantIs → Item → TenantIs → Type 0
 Adds t item t' = t'.guest.log.items ≡ t.guest.log.items ++ item ∷ []
+
+-- its log has so many more steps of seat 0, by which its view has moved
+abbrev pub AddsSteps : TenantIs → ℕ → TenantIs → Type 0
+AddsSteps t count t' = t'.guest.log.items ≡ t.guest.log.items ++ steps_of 0 count
 
 -- processor, devices, pages and log are as before
 pub record NothingHappens (t t' : TenantIs) : Type 0 where

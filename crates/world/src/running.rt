@@ -1,7 +1,8 @@
 //! Many steps of a guest by one call.
 ghost use Rattle.std.specs.Prelude.{◌≡◌};
-ghost use Rattle.world.specs.Events.{stop_of, end_at};
+ghost use Rattle.world.specs.Events.{stop_of, end_at, for_room};
 
+use crate::stepping::run_in;
 use crate::{FaultError, World};
 use mips_step::{StepOut, Why};
 use paged_guest::Stop;
@@ -64,6 +65,16 @@ pub(crate) fn stop_of(error: FaultError) -> RunStop
     }
 }
 
+// Why a run of steps stops where its log has no room.
+fn for_room(stop: Stop) -> RunStop
+    ensures { result ≡ for_room stop }
+{
+    match stop {
+        Stop::Memory => RunStop::Memory,
+        Stop::LogFull => RunStop::LogFull,
+    }
+}
+
 // How a run of steps ends at what a step is answered: not at all where the step is made.
 fn end_at(answer: Result<StepOut, Stop>) -> Option<End>
     ensures { result ≡ end_at answer }
@@ -80,7 +91,7 @@ fn end_at(answer: Result<StepOut, Stop>) -> Option<End>
 }
 
 impl<S: SwapStore> World<S> {
-    ghost use Rattle.std.specs.Prelude.{◌≡◌, ◌≢◌, ◌<◌, ◌≤◌, ◌↔◌, ◌++◌, ℕ, Some, IfSome, IfNone, length, map, slice_index_or};
+    ghost use Rattle.std.specs.Prelude.{◌≡◌, ◌≢◌, ◌<◌, ◌≤◌, ◌↔◌, ◌++◌, ℕ, Some, None, IfSome, IfNone, IsSome, IfOk, OnErr, IsErrOf, length, map, slice_index_or};
     ghost use Rattle.items.specs.Entries.{step_by};
     ghost use Rattle.guest_log.specs.Logs.{IsFull};
     ghost use Rattle.mips_step.specs.Accesses.{accesses, first_lack};
@@ -89,7 +100,8 @@ impl<S: SwapStore> World<S> {
     ghost use Rattle.paged_guest.specs.Guests.{view_of};
     ghost use Rattle.swapstore.specs.Failures.{one_more};
     ghost use Rattle.world.specs.Events.{steps_for, IfStop, IsForRoom, IsSupplied, WhyStopped};
-    ghost use Rattle.world.specs.Tenants.{TenantIs, pages_in, Stays, NothingHappens};
+    ghost use Rattle.guest_log.specs.declared.stop.Stop.{Stop};
+    ghost use Rattle.world.specs.Tenants.{TenantIs, pages_in, Stays, AddsSteps, NothingHappens};
     ghost use Rattle.world.specs.Victims.{stat_of};
     ghost use Rattle.world.specs.Worlds.{Changes, boot_of, log_at, item_for};
 
@@ -115,6 +127,35 @@ impl<S: SwapStore> World<S> {
         end_at(self.step(g))
     }
 
+    // At most `count` steps of a guest, up to one that needs a page or gave one to the balloon (`stepping::run_in`).
+    #[inline]
+    fn run_once(&mut self, g: usize, count: u32) -> Result<(u32, Option<(Ppn, Why)>), Stop>
+        requires guest { g < length self.old.tenants }
+        requires some { 0 < count }
+        ensures few { IfOk result (λ made. made.0 ≤ count) }
+        ensures some { IfOk result (λ made. made.1 ≡ None → 0 < made.0) }
+        ensures short { IfOk result (λ made. IsSome made.1 → made.0 < count) }
+        ensures need { S.true_to_digests self.old.store → (t : TenantIs) → IfOk result (λ made. (p : ℕ) (why : Why) → made.1 ≡ Some (p, why) →
+            first_lack (lacks_in (pages_in (slice_index_or self.new.tenants g t)))
+            (accesses (view_of (slice_index_or self.new.tenants g t).guest)) ≡ Some (p, why)) }
+        ensures room { (t : TenantIs) → IfOk result (λ made. IsSome made.1 → IsFull (slice_index_or self.new.tenants g t).guest.log → ⊥) }
+        ensures adds { IfOk result (λ made. Changes (λ t t'. AddsSteps t made.0 t') g self.old.tenants self.new.tenants) }
+        ensures full { (t : TenantIs) → (IsErrOf result Stop.LogFull ↔ IsFull (slice_index_or self.old.tenants g t).guest.log) }
+        ensures unchanged { OnErr result (Changes NothingHappens g self.old.tenants self.new.tenants) }
+        ensures stays { Changes Stays g self.old.tenants self.new.tenants }
+        ensures hints { self.new.shares.hints ≡ self.old.shares.hints }
+        ensures store { self.new.store ≡ self.old.store }
+        ensures frames { self.new.frames ≡ self.old.frames }
+    {
+        run_in(
+            &mut self.tenants[g],
+            count,
+            &mut self.pool,
+            &mut self.slots,
+            &mut self.shares,
+        )
+    }
+
     /// At most `count` steps of a guest with no page supplied: those that it makes before one needs a page, or before its log has no
     /// room, which is `Stop(LogFull)`, or `Stop(Memory)` where a request for memory was refused. After the last step it is not
     /// asked what the next one needs.
@@ -135,9 +176,21 @@ impl<S: SwapStore> World<S> {
         ensures store { self.new.store ≡ self.old.store }
         ensures frames { self.new.frames ≡ self.old.frames }
     {
-        for steps in 0..count {
-            if let Some(end) = self.step_once(g) {
-                return Ran { steps, end };
+        let mut made = 0;
+        while made < count {
+            let (steps, needed) = match self.run_once(g, count - made) {
+                Ok(ran) => ran,
+                Err(stop) => return Ran {
+                    steps: made,
+                    end: End::Stop(for_room(stop)),
+                },
+            };
+            made += steps;
+            if let Some((page, why)) = needed {
+                return Ran {
+                    steps: made,
+                    end: End::Need(page, why),
+                };
             }
         }
         Ran {

@@ -6,7 +6,7 @@ use flatvm::Reply;
 use frames::{Frame, SharePage, ShareTicket, SlotTicket};
 use items::Item;
 use mips_step::Why;
-use paged_guest::{Guest, Refused, Seat, Stepped, Stop};
+use paged_guest::{Guest, Progress, Refused, Seat, Stepped, Stop};
 use paging::Pages;
 use physmap::{PageKind, Returned};
 use sharetab::Shares;
@@ -40,7 +40,8 @@ impl Model for Tenant {
 }
 
 impl Tenant {
-    ghost use Rattle.std.specs.Prelude.{◌≡◌, ◌≢◌, ◌<◌, ◌≤◌, ◌^◌, ℕ, true, false, List, Option, None, OnOk, OnErr, IfOk, IfSome, IsErrOf, ◌↔◌, length, slice_set};
+    ghost use Rattle.std.specs.Prelude.{◌≡◌, ◌≢◌, ◌<◌, ◌≤◌, ◌^◌, ℕ, true, false, List, Option, None, Some, OnOk, OnErr, IfOk, IfSome, IsErrOf, ◌↔◌};
+    ghost use Rattle.std.specs.Prelude.{length, slice_set};
     ghost use Rattle.elf32.specs.Images.{FitsPages};
     ghost use Rattle.items.specs.Items.{is_step};
     ghost use Rattle.items.specs.Entries.{step_by};
@@ -59,8 +60,11 @@ impl Tenant {
     ghost use Rattle.physmap.specs.Outline.{outline};
     ghost use Rattle.paged_bus.specs.Lacking.{lacks_in};
     ghost use Rattle.paged_bus.specs.Writes.{WritesTo};
-    ghost use Rattle.paged_guest.specs.Guests.{view_of, standing, need_of, HandsBack};
-    ghost use Rattle.world.specs.Tenants.{TenantIs, pages_in, beside_pages, IsKept, Stays, Adds, NothingHappens};
+    ghost use Rattle.mips_step.specs.declared.access.Why.{Why};
+    ghost use Rattle.physmap.specs.declared.page.Returned.{Returned};
+    ghost use Rattle.paged_guest.specs.Guests.{view_of, standing, need_of, HandsBack, HasPaused};
+    ghost use Rattle.paged_guest.specs.declared.progress.Pause.{Pause};
+    ghost use Rattle.world.specs.Tenants.{TenantIs, pages_in, beside_pages, IsKept, Stays, Adds, AddsSteps, NothingHappens};
     ghost use Rattle.world.specs.Victims.{stat_of};
 
     /// A guest that has no seat yet, with this many shares.
@@ -182,6 +186,27 @@ impl Tenant {
     {
         self.guest.log_room()?;
         Ok(self.guest.step(&mut self.runner))
+    }
+
+    /// At most `count` steps of it, with room made for them in the log, by `Guest::log_room` and `Guest::run`.
+    #[inline]
+    pub(crate) fn run(&mut self, count: u32) -> Result<Progress, Stop>
+        ensures few { IfOk result (λ p. p.steps ≤ count) }
+        ensures some { IfOk result (λ p. p.pause ≡ None → 0 < count → 0 < p.steps) }
+        ensures gave { IfOk result (λ p. (returned : Returned) → p.pause ≡ Some (Pause.Gave returned) → 0 < p.steps) }
+        ensures short { IfOk result (λ p. (page : ℕ) (why : Why) → p.pause ≡ Some (Pause.Need page why) → p.steps < count) }
+        ensures need { (held : ℕ → Option (List ℕ)) → IsKept held self.old → IfOk result (λ p. (page : ℕ) (why : Why) →
+            p.pause ≡ Some (Pause.Need page why) → first_lack (lacks_in (pages_in self.new)) (accesses (view_of self.new.guest)) ≡ Some (page, why)) }
+        ensures room { IfOk result (λ p. (page : ℕ) (why : Why) → p.pause ≡ Some (Pause.Need page why) → IsFull self.new.guest.log → ⊥) }
+        ensures adds { IfOk result (λ p. AddsSteps self.old p.steps self.new) }
+        ensures paused { IfOk result (λ p. HasPaused (pages_in self.old) p.pause (pages_in self.new)) }
+        ensures full { IsErrOf result Stop.LogFull ↔ IsFull self.old.guest.log }
+        ensures unchanged { OnErr result (NothingHappens self.old self.new) }
+        ensures kept { (held : ℕ → Option (List ℕ)) → IsKept held self.old → IsKept held self.new }
+        ensures stays { Stays self.old self.new }
+    {
+        self.guest.log_room()?;
+        Ok(self.guest.run(count, &mut self.runner))
     }
 
     /// What happens to the guest by an item of one of its seats that is no step, as `Guest::input` has it.

@@ -74,6 +74,7 @@ impl<S: SwapStore> World<S> {
     ghost use Rattle.mips_step.specs.Answer.{need_of};
     ghost use Rattle.flatvm.specs.Answers.{replied};
     ghost use Rattle.flatvm.specs.Items.{accepts, reply};
+    ghost use Rattle.sharetab.specs.Entries.{AllFit};
     ghost use Rattle.sharetab.specs.Maps.{at_page};
     ghost use Rattle.sharetab.specs.declared.guest_page.GuestPage.{GuestPage};
     ghost use Rattle.swapstore.specs.Failures.{one_more};
@@ -211,6 +212,14 @@ impl<S: SwapStore> World<S> {
     {
         // A function knows what its type keeps once it uses a field.
         let _tenants = &self.tenants;
+    }
+
+    /// The entry of each shared frame is at the place of its number, and a page names it. It does nothing: its clause says what every
+    /// world keeps.
+    pub fn shared_frames_are_named(&self)
+        ensures { AllFit self.now.shares.entries }
+    {
+        self.shares.each_has_its_place();
     }
 
     /// How many guests there are. Their numbers are below it.

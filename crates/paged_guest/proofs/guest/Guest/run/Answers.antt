@@ -11,7 +11,7 @@ use Rattle.paged_guest.specs.declared.progress.Pause.TheVariants as pause
 use Rattle.paged_guest.specs.Guests.{GuestIs, guest_of, view_of, Intact}
 use Rattle.paged_guest.specs.Views.{pages_seen, Shows}
 use Rattle.paged_guest.proofs.Logging.{run_on, view_zeros}
-use Rattle.paged_guest.proofs.Running.{accepted_on, no_step}
+use Rattle.paged_guest.proofs.Running.{accepted_on, no_step, not_full_before}
 use Rattle.paged_guest.proofs.Stepping.{need_alike}
 use Rattle.paged_guest.proofs.guest.Guest.run.Goals as goal
 
@@ -92,3 +92,9 @@ returns-else-progress-gt0-clause-moves c =
     let moves : view_of now ≡ run (steps_of c.args.seat.now.number c.run_pages-progress.result.steps) (view_of now) =
         sym (ap (λ (n : ℕ). run (steps_of c.args.seat.now.number n) (view_of now)) none ∙ no_step c.args.seat.now.number (view_of now)) in
     subst (λ (g : GuestIs). view_of after ≡ run (steps_of c.args.seat.now.number c.run_pages-progress.result.steps) (view_of g)) c.self.view_is moves
+
+pub returns-then-progress-gt0-clause-room : goal.returns-then-progress-gt0-clause-room
+returns-then-progress-gt0-clause-room c = λ p why is full.
+    let g = c.self.inside in
+    not_full_before g.journal.log c.steps.new.self.log c.args.seat.now.number c.steps_with_room-most.result c.run_pages-progress.result.steps c.steps_with_room-most.ensures.room
+    (c.run_pages-progress.ensures.short p why is) c.steps.ensures.adds.items c.steps.ensures.adds.limit full

@@ -1,15 +1,20 @@
-use Rattle.std.proofs.Common.{◌≡◌, ℕ, ◌<◌, ◌++◌, length, map}
+use Rattle.std.proofs.Common.{◌≡◌, ℕ, ◌-◌, ◌<◌, ◌≤◌, ◌++◌, length, map}
 use Rattle.world.specs.Events.{steps_for}
 use Rattle.world.specs.Worlds.{boot_of, log_at}
 use Rattle.world.proofs.world.World.steps.Given as goal
 
 -- the log has the steps so far
-abbrev pub invariant-loop-steps : goal.invariant-loop-steps
-invariant-loop-steps g l = record {
+abbrev pub invariant-loop-made : goal.invariant-loop-made
+invariant-loop-made g l = record {
   inside : l.g < length l.self.tenants;
-  logs : (h : ℕ) → log_at l.self.tenants h ≡ log_at l.fn.self.tenants h ++ steps_for h l.g l.steps;
+  few : l.made ≤ l.count;
+  logs : (h : ℕ) → log_at l.self.tenants h ≡ log_at l.fn.self.tenants h ++ steps_for h l.g l.made;
   boots : map boot_of l.self.tenants ≡ map boot_of l.fn.self.tenants;
   hints : l.self.shares.hints ≡ l.fn.self.shares.hints;
   store : l.self.store ≡ l.fn.self.store;
   frames : l.self.frames ≡ l.fn.self.frames;
 }
+
+-- each turn makes a step or is the last
+abbrev pub decreases-loop-made : goal.decreases-loop-made
+decreases-loop-made g l = l.count - l.made
