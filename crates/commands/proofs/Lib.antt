@@ -1,4 +1,5 @@
 mod Feeding
+mod Hosting
 mod Reading
 mod Replaying
 mod Reports

@@ -1,4 +1,5 @@
 pub mod Faults
+pub mod Hosted
 pub mod LogFiles
 pub mod Raw
 pub mod Replays

@@ -11,13 +11,13 @@ ghost use Rattle.commands.specs.Raw.{IsPageCount};
 ghost use Rattle.commands.specs.Runs.{after_run, IsImageOf, IsReport, IsReportOf};
 
 use crate::fault::{Fault, LogRefusal, of_file};
+use crate::hosted::HostedGuest;
 use crate::image_file::{Loaded, elf_image, is_page_count, raw_image};
 use crate::log_file::write_log;
-use crate::machine::{Ran, Runnable, boot_guest, run};
+use crate::machine::{Ran, Runnable, run};
 use crate::order::{ConsoleInput, Exec, Format, MachineKind};
 use dump::dump;
 use flatvm::Flat;
-use guest::Runner;
 use std::alloc::{AllocError, Global};
 use std::fs::File;
 use std::io::Read;
@@ -39,7 +39,7 @@ pub struct Done {
     /// What it prints, and how it went.
     pub report: Report,
     /// The guest, which has the log; none where the table machine ran.
-    pub runner: Option<Runner>,
+    pub runner: Option<HostedGuest>,
     /// The SHA-256 digest of the file's bytes, by which a log names the image.
     pub digest: [u8; 32],
 }
@@ -131,7 +131,7 @@ fn run_guest(
     ensures runner { IfOk result (λ done. done.runner ≢ None) }
 {
     let Loaded { image, digest } = loaded;
-    let mut runner = boot_guest(alloc, image, order.pages)?;
+    let mut runner = HostedGuest::boot(alloc, image, order.pages)?;
     let ran = run(&mut runner, input.as_slice(), order.steps);
     let report = report_of(alloc, &runner, ran)?;
     Ok(Done {
@@ -182,7 +182,7 @@ fn write_order<'a, R: Files + AllocGlobal>(
 {
     match (order.log, &done.runner) {
         (Some(name), Some(runner)) => {
-            write_log(rt, name, runner.guest().log(), order.pages, &done.digest)
+            write_log(rt, name, runner.log(), order.pages, &done.digest)
         }
         _ => Ok(()),
     }

@@ -1,20 +1,14 @@
 //! Machines and their runs.
-ghost use Rattle.std.specs.Prelude.{◌≡◌, ◌+◌, ◌<◌, ◌≤◌, ◌^◌, ◌↔◌, [], None, length, take, IfOk, IfErr, IfSome, OnOk, OnErr, IsOk, IsErrOf};
-ghost use Rattle.elf32.specs.Images.{FitsPages};
+ghost use Rattle.std.specs.Prelude.{◌≡◌, ◌+◌, ◌<◌, ◌≤◌, None, length, take, IfErr, IfSome, OnOk, OnErr};
 ghost use Rattle.items.specs.declared.item.What.TheVariants.{In};
-ghost use Rattle.mips_step.specs.Step.{Machine as State, step};
-ghost use Rattle.flatvm.specs.Boot.{boot_machine};
+ghost use Rattle.mips_step.specs.Step.{Machine as State};
 ghost use Rattle.flatvm.specs.Items.{after};
-ghost use Rattle.guest_log.specs.Logs.{IsFull};
 ghost use Rattle.guest_log.specs.declared.stop.Stop.{Stop};
-ghost use Rattle.commands.specs.Runs.{after_run, after_steps, fed, IsCount, MayStop};
+ghost use Rattle.commands.specs.Runs.{after_run, after_steps, fed, IsCount};
 
-use elf32::Image;
 use flatvm::{Flat, Rejection, View};
-use guest::{Guest, Refused, Runner, Stop, share_image};
 use items::What;
-use mips_step::StepOut;
-use std::alloc::{AllocError, Global};
+use paged_guest::Stop;
 
 /// A machine that makes steps.
 pub trait Runnable {
@@ -24,11 +18,13 @@ pub trait Runnable {
     /// For which reason it may stop.
     ghost may_stop: { Self → Stop → Type 0 };
 
-    /// Makes one step, or says why it stops; then the state is as before.
-    fn step(&mut self) -> Result<(), Stop>
-        ensures made { OnOk result (state self.new ≡ step (state self.old)) }
-        ensures stopped { OnErr result (state self.new ≡ state self.old) }
-        ensures reason { IfErr result (may_stop self.new) };
+    /// Makes `count` steps, or fewer where it stops before: how many, and why no more.
+    fn steps(&mut self, count: u32) -> (u32, Option<Stop>)
+        ensures few { result.0 ≤ count }
+        ensures all { result.1 ≡ None → result.0 ≡ count }
+        ensures fewer { IfSome result.1 (λ stop. result.0 < count) }
+        ensures state { state self.new ≡ after_steps result.0 (state self.old) }
+        ensures reason { IfSome result.1 (may_stop self.new) };
 
     /// Takes a byte of console input, for which the console has room, or says why it stops; then the state is as before.
     fn feed(&mut self, byte: u8) -> Result<(), Stop>
@@ -49,12 +45,17 @@ impl Runnable for Flat {
 
     ghost may_stop = { λ f stop. ⊥ };
 
-    fn step(&mut self) -> Result<(), Stop>
-        ensures made { self.new ≡ step self.old }
-        ensures never_stops { IsOk result }
+    fn steps(&mut self, count: u32) -> (u32, Option<Stop>)
+        ensures all { result.0 ≡ count }
+        ensures state { self.new ≡ after_steps count self.old }
+        ensures never_stops { result.1 ≡ None }
     {
-        Flat::step(self);
-        Ok(())
+        for made in 0..count {
+            // The turn is the number of steps that were made: the loop's invariant speaks of it.
+            let _made = made;
+            self.step();
+        }
+        (count, None)
     }
 
     fn feed(&mut self, byte: u8) -> Result<(), Stop> {
@@ -69,57 +70,6 @@ impl Runnable for Flat {
 
     fn view(&self) -> View<'_> {
         Flat::view(self)
-    }
-}
-
-/// The greatest number of runs of a guest's log.
-const LOG_RUNS: u32 = 1 << 20;
-
-/// A guest as its image boots, with a memory of `pages` pages, at most 2^20, which hold the image, and its runner.
-pub fn boot_guest(alloc: Global, image: Image, pages: u32) -> Result<Runner, AllocError>
-    requires fits { FitsPages image pages }
-    requires few { pages ≤ 2 ^ 20 }
-    ensures machine { IfOk result (λ r. r.machine ≡ boot_machine image pages) }
-    ensures log { IfOk result (λ r. r.log.items ≡ []) }
-    ensures limit { IfOk result (λ r. r.log.limit ≡ 1048576) }
-{
-    let image = share_image(alloc, image)?;
-    Ok(Runner::new(Guest::boot(alloc, image, pages, LOG_RUNS)?))
-}
-
-/// A guest stops where its log is full, or where a request for memory was refused.
-impl Runnable for Runner {
-    ghost use Rattle.commands.specs.Runs.{MayStop};
-
-    ghost state = { λ r. r.machine };
-
-    ghost may_stop = { λ r stop. MayStop r.log stop };
-
-    #[tactic(auto, using(flatvm::proofs::Never::never_lacks))]
-    fn step(&mut self) -> Result<(), Stop>
-        ensures made { OnOk result (self.new.machine ≡ step self.old.machine) }
-        ensures stopped { OnErr result (self.new.machine ≡ self.old.machine) }
-        ensures reason { IfErr result (MayStop self.new.log) }
-        ensures full { IsErrOf result Stop.LogFull ↔ IsFull self.old.log }
-    {
-        match Runner::step(self)? {
-            StepOut::Done => Ok(()),
-            StepOut::Need(_, _) => unreachable!(),
-        }
-    }
-
-    fn feed(&mut self, byte: u8) -> Result<(), Stop> {
-        match self.input(What::In(byte)) {
-            Ok(_) => Ok(()),
-            Err(refused) => match refused {
-                Refused::Machine => unreachable!(),
-                Refused::Stop(stop) => Err(stop),
-            },
-        }
-    }
-
-    fn view(&self) -> View<'_> {
-        self.guest().view()
     }
 }
 
@@ -153,22 +103,6 @@ fn feed_all<M: Runnable>(machine: &mut M, bytes: &[u8]) -> (usize, Option<Stop>)
     (taken, None)
 }
 
-/// Makes `steps` steps, or fewer where the machine stops before.
-fn step_all<M: Runnable>(machine: &mut M, steps: u32) -> (u32, Option<Stop>)
-    ensures few { result.0 ≤ steps }
-    ensures all { result.1 ≡ None → result.0 ≡ steps }
-    ensures fewer { IfSome result.1 (λ stop. result.0 < steps) }
-    ensures state { M.state machine.new ≡ after_steps result.0 (M.state machine.old) }
-    ensures reason { IfSome result.1 (M.may_stop machine.new) }
-{
-    for made in 0..steps {
-        if let Err(stop) = machine.step() {
-            return (made, Some(stop));
-        }
-    }
-    (steps, None)
-}
-
 /// Takes the console input, and makes `steps` steps, or fewer where the machine stops before.
 pub fn run<M: Runnable>(machine: &mut M, input: &[u8], steps: u32) -> Ran
     requires { length (M.state machine.old).world.devices.console.input + length input.now ≤ 256 }
@@ -183,7 +117,7 @@ pub fn run<M: Runnable>(machine: &mut M, input: &[u8], steps: u32) -> Ran
             stop: Some(stop),
         },
         (taken, None) => {
-            let (steps, stop) = step_all(machine, steps);
+            let (steps, stop) = machine.steps(steps);
             Ran { taken, steps, stop }
         }
     }

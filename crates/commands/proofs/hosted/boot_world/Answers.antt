@@ -1,0 +1,25 @@
+use Rattle.std.proofs.Common.{ap, ◌∙◌, arith}
+use Rattle.elf32.specs.declared.image.Image.{Image}
+use Rattle.flatvm.specs.Boot.{boot_machine}
+use Rattle.commands.proofs.Hosting.{booted, booted_alone, booted_one}
+use Rattle.commands.proofs.hosted.boot_world.Goals as goal
+
+pub returns-in-Ok-clause-alone : goal.returns-in-Ok-clause-alone
+returns-in-Ok-clause-alone c =
+    let w = c.in-Ok.world in
+    let items = c.in_ok-guests.ensures.items in
+    let at = booted 1048576 c.in_ok-guests.guests.items _ w.tenants items c.in-Ok.ensures.booted in
+    let sound = c.in-Ok.ensures.honest.1 c.in_ok-store.ensures.sound in
+    booted_alone _ _ _ c.args.pages w (booted_one 1048576 c.in_ok-guests.guests.items _ w.tenants items c.in-Ok.ensures.booted) sound c.is_sound.ensures at.count
+    (omega (arith, c.in-Ok.ensures.frames)) sound
+
+pub returns-in-Ok-clause-machine : goal.returns-in-Ok-clause-machine
+returns-in-Ok-clause-machine c =
+    (booted 1048576 c.in_ok-guests.guests.items _ c.in-Ok.world.tenants c.in_ok-guests.ensures.items c.in-Ok.ensures.booted).machine
+    ∙ ap (λ (i : Image). boot_machine i c.args.pages) c.in_ok-image.ensures.ok
+
+pub returns-in-Ok-clause-log : goal.returns-in-Ok-clause-log
+returns-in-Ok-clause-log c = (booted 1048576 c.in_ok-guests.guests.items _ c.in-Ok.world.tenants c.in_ok-guests.ensures.items c.in-Ok.ensures.booted).items
+
+pub returns-in-Ok-clause-limit : goal.returns-in-Ok-clause-limit
+returns-in-Ok-clause-limit c = (booted 1048576 c.in_ok-guests.guests.items _ c.in-Ok.world.tenants c.in_ok-guests.ensures.items c.in-Ok.ensures.booted).limit
