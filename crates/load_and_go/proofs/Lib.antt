@@ -6,3 +6,4 @@ pub mod Ranges
 pub mod Refused
 pub mod Same
 pub mod Told
+pub mod Worlds

@@ -11,11 +11,11 @@ use Rattle.mips_step.specs.Step.{Machine}
 use Rattle.masm.specs.Executables.{IsExecutableOf}
 use Rattle.load_and_go.specs.Errors.{IsErrorOf, of_reading}
 use Rattle.load_and_go.specs.Holds.{Holds}
-use Rattle.load_and_go.specs.declared.error.BootError.{BootError}
+use Rattle.load_and_go.specs.declared.error.TextError.{TextError}
 use Rattle.load_and_go.proofs.Refused.{executable_fault}
 
 -- an error that `?` has made of another one is as that one says
-pub error_told : {A : Type 0} (P : BootError → Type 0) (r : Result A BootError) (e : BootError) → IsErrAnd r (λ x. x ≡ e) → P e → IfErr r P
+pub error_told : {A : Type 0} (P : TextError → Type 0) (r : Result A TextError) (e : TextError) → IsErrAnd r (λ x. x ≡ e) → P e → IfErr r P
 error_told P (Ok a) e h p = absurd h
 error_told P (Err x) e h p = subst P (sym h) p
 

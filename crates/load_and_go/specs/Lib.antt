@@ -1,3 +1,4 @@
 pub mod Holds
 pub mod Executables
 pub mod Errors
+pub mod Guests

@@ -1,15 +1,19 @@
-//! The guest's own calls: its steps, its log and its seats, and reads of its memory.
+//! The calls of a world of one guest: its steps, its log and its seats, and reads of its memory.
 ghost use Rattle.std.specs.Prelude.{◌<◌};
 
 use super::code::Code;
 use super::code::Code::*;
 use super::expect;
-use super::run::{boot_guest, make_steps, raw_image};
-use guest::{Guest, Log, Refused, Runner, Stop};
-use items::SeatNo;
+use super::run::{LOG_RUNS, TAX, boot_world, guest_of, make_steps, raw_image, run_steps};
+use guest_log::{Log, Stop};
+use items::{Item, SeatNo, What};
 use mips_instr::Reg;
+use paged_guest::{Guest, Refused};
+use rand_pcg::Pcg32;
 use std::process::Abort;
 use std::test::Fail;
+use swapstore::MemStore;
+use world::{DebugError, End, Ran, RunStop, World};
 
 const COUNTING: [Code; 4] = [
     Word(0x2421_0001), // addiu $1,$1,1
@@ -18,13 +22,13 @@ const COUNTING: [Code; 4] = [
     Word(0x0020_0000), // a word of no row
 ];
 
-/// A guest with 2 pages that has booted this code, with its runner.
-fn booted<R: AllocGlobal + Abort>(rt: &R, code: &[Code], log_runs: u32) -> Result<Runner, Fail> {
+/// A world of one guest with 2 pages that has booted this code.
+fn booted<R: AllocGlobal + Abort>(rt: &R, code: &[Code]) -> Result<World<MemStore>, Fail> {
     let image = raw_image(rt, "boot", code)?;
-    boot_guest(rt, "boot", image, 2, log_runs)
+    boot_world(rt, "boot", image, 2)
 }
 
-/// Checks PC and register 1, and how many steps of the runner were made, in how many runs.
+/// Checks PC and register 1, and how many steps were made by seat 0, in how many runs.
 fn check_steps(rt: &impl Abort, guest: &Guest, (pc, count): (u32, u32), (steps, runs): (u64, u32)) {
     let cpu = guest.view().cpu;
     let log = guest.log();
@@ -40,27 +44,57 @@ fn check_steps(rt: &impl Abort, guest: &Guest, (pc, count): (u32, u32), (steps, 
 }
 
 /// Checks the guest at boot, after three steps, and after a fourth that is an exception.
-fn check_exception(rt: &impl Abort, runner: &mut Runner) {
-    check_steps(rt, runner.guest(), (0x8000_0000, 0), (0, 0));
-    make_steps(rt, runner, 3);
-    check_steps(rt, runner.guest(), (0x8000_000c, 3), (3, 1));
-    make_steps(rt, runner, 1);
-    runner.guest().replay();
-    check_steps(rt, runner.guest(), (0x8000_0180, 3), (4, 1));
+fn check_exception<R: AllocGlobal + Abort>(rt: &R, world: &mut World<MemStore>) {
+    check_steps(rt, guest_of(rt, world), (0x8000_0000, 0), (0, 0));
+    make_steps(rt, world, 3);
+    check_steps(rt, guest_of(rt, world), (0x8000_000c, 3), (3, 1));
+    make_steps(rt, world, 1);
+    world.is_sound();
+    check_steps(rt, guest_of(rt, world), (0x8000_0180, 3), (4, 1));
 }
 
 #[test]
 fn a_guest_steps_into_an_exception(rt: HostRuntime) -> Result<(), Fail> {
-    let mut runner = booted(&rt, &COUNTING, 16)?;
-    check_exception(&rt, &mut runner);
+    let mut world = booted(&rt, &COUNTING)?;
+    check_exception(&rt, &mut world);
+    let _store = world.close();
     Ok(())
+}
+
+/// The console's input becomes a byte more, and a step is made: two runs of the log.
+fn type_and_step<R: AllocGlobal + Abort>(rt: &R, world: &mut World<MemStore>) {
+    if world.count() == 0 {
+        panic!(rt; "there is no guest");
+    }
+    let item = Item {
+        seat: SeatNo::runner(),
+        what: What::In(7),
+    };
+    assert!(rt; world.input(0, item).is_ok());
+    make_steps(rt, world, 1);
+}
+
+/// A step of a guest whose log is full.
+fn check_full<R: AllocGlobal + Abort>(rt: &R, world: &mut World<MemStore>) {
+    let end = End::Stop(RunStop::LogFull);
+    expect(
+        rt,
+        "at last",
+        run_steps(rt, world, 1),
+        Ran { steps: 0, end },
+    );
+    let runs = guest_of(rt, world).log().runs();
+    expect(rt, "runs", runs, LOG_RUNS);
 }
 
 #[test]
 fn a_guest_stops_where_its_log_is_full(rt: HostRuntime) -> Result<(), Fail> {
-    let mut runner = booted(&rt, &COUNTING, 1)?;
-    make_steps(&rt, &mut runner, 1);
-    expect(&rt, "after a step", runner.step(), Err(Stop::LogFull));
+    let mut world = booted(&rt, &COUNTING)?;
+    for _ in 0..LOG_RUNS / 2 {
+        type_and_step(&rt, &mut world);
+    }
+    check_full(&rt, &mut world);
+    let _store = world.close();
     Ok(())
 }
 
@@ -186,50 +220,79 @@ fn check_read<R: AllocGlobal + Abort>(
     Ok(())
 }
 
+/// The same by the world's own call, where there is at least 1 byte, and there are at most 1,024.
+fn check_world_read<R: AllocGlobal + Abort>(
+    rt: &R,
+    world: &mut World<MemStore>,
+    address: u32,
+    answer: Result<(), DebugError>,
+    bytes: &[u8],
+) -> Result<(), Fail> {
+    if world.count() == 0 || bytes.is_empty() || bytes.len() > 1024 {
+        return Ok(());
+    }
+    let mut buffer = vec![in rt.alloc(); 0xa5; bytes.len()]?;
+    let mut rng = Pcg32::new(42, 54);
+    let found = world.debug_read(rt.alloc(), 0, address, &mut buffer, TAX, &mut rng);
+    expect(rt, address, (found, buffer.as_slice()), (answer, bytes));
+    Ok(())
+}
+
 fn check_given<R: AllocGlobal + Abort>(
     rt: &R,
-    guest: &Guest,
+    world: &mut World<MemStore>,
     reads: &[(u32, &[u8])],
 ) -> Result<(), Fail> {
     for (address, bytes) in reads {
-        check_read(rt, guest, *address, Ok(()), *bytes)?;
+        check_read(rt, guest_of(rt, world), *address, Ok(()), *bytes)?;
+        check_world_read(rt, world, *address, Ok(()), *bytes)?;
     }
     Ok(())
 }
 
 fn check_refused<R: AllocGlobal + Abort>(
     rt: &R,
-    guest: &Guest,
+    world: &mut World<MemStore>,
     reads: &[(u32, usize)],
 ) -> Result<(), Fail> {
     for (address, count) in reads {
         let unread = vec![in rt.alloc(); 0xa5; *count]?;
-        check_read(rt, guest, *address, Err(Refused::Machine), &unread)?;
+        let refused = Err(Refused::Machine);
+        check_read(rt, guest_of(rt, world), *address, refused, &unread)?;
+        let no_place = Err(DebugError::NoPlace);
+        check_world_read(rt, world, *address, no_place, &unread)?;
     }
     Ok(())
 }
 
-fn check_at_boot<R: AllocGlobal + Abort>(rt: &R, guest: &Guest) -> Result<(), Fail> {
-    check_given(rt, guest, &GIVEN_AT_BOOT)?;
-    check_refused(rt, guest, &REFUSED_AT_BOOT)
+fn check_at_boot<R: AllocGlobal + Abort>(rt: &R, world: &mut World<MemStore>) -> Result<(), Fail> {
+    check_given(rt, world, &GIVEN_AT_BOOT)?;
+    check_refused(rt, world, &REFUSED_AT_BOOT)
 }
 
 #[test]
 fn a_guest_gives_its_bytes_at_boot(rt: HostRuntime) -> Result<(), Fail> {
-    let runner = booted(&rt, &MAPPING, 16)?;
-    check_at_boot(&rt, runner.guest())
+    let mut world = booted(&rt, &MAPPING)?;
+    let checked = check_at_boot(&rt, &mut world);
+    let _store = world.close();
+    checked
 }
 
-fn check_where_mapped<R: AllocGlobal + Abort>(rt: &R, guest: &Guest) -> Result<(), Fail> {
-    let is_user_mode = guest.view().cpu.cp0().is_user_mode();
+fn check_where_mapped<R: AllocGlobal + Abort>(
+    rt: &R,
+    world: &mut World<MemStore>,
+) -> Result<(), Fail> {
+    let is_user_mode = guest_of(rt, world).view().cpu.cp0().is_user_mode();
     expect(rt, "user mode", is_user_mode, true);
-    check_given(rt, guest, &GIVEN_WHERE_MAPPED)?;
-    check_refused(rt, guest, &REFUSED_WHERE_MAPPED)
+    check_given(rt, world, &GIVEN_WHERE_MAPPED)?;
+    check_refused(rt, world, &REFUSED_WHERE_MAPPED)
 }
 
 #[test]
 fn a_guest_gives_its_bytes_where_mapped(rt: HostRuntime) -> Result<(), Fail> {
-    let mut runner = booted(&rt, &MAPPING, 16)?;
-    make_steps(&rt, &mut runner, MAPPING.len());
-    check_where_mapped(&rt, runner.guest())
+    let mut world = booted(&rt, &MAPPING)?;
+    make_steps(&rt, &mut world, MAPPING.len());
+    let checked = check_where_mapped(&rt, &mut world);
+    let _store = world.close();
+    checked
 }

@@ -4,14 +4,25 @@ use super::code::{Code, image_of};
 use super::expect;
 use elf32::Image;
 use flatvm::Flat;
-use guest::{Guest, Runner, share_image};
 use mips_instr::Reg;
-use mips_step::{Cpu, StepOut};
+use mips_step::Cpu;
+use paged_guest::Guest;
+use rand_pcg::Pcg32;
+use std::alloc::{AllocError, Global};
 use std::process::Abort;
+use std::sync::Arc;
 use std::test::Fail;
+use swapstore::MemStore;
+use taxpolicy::Tax;
+use world::{BootError, Config, End, NewGuest, Ran, World};
 
 /// The most pages that a physical address reaches.
 const MOST_PAGES: u32 = 1 << 20;
+
+/// The greatest number of runs of a guest's log.
+pub const LOG_RUNS: u32 = 16;
+
+pub const TAX: Tax = Tax { percent: 75 };
 
 /// A run of a raw image, and what its machine has at the end.
 #[derive(Clone, Copy)]
@@ -31,7 +42,7 @@ pub struct Run<'a> {
     pub system: [u32; 4],
 }
 
-/// Makes the steps of each run on the table machine and on a guest.
+/// Makes the steps of each run on the table machine and in a world of one guest.
 pub fn check_runs<R: AllocGlobal + Abort>(rt: &R, runs: &[Run]) -> Result<(), Fail> {
     for run in runs {
         check_run(rt, run)?;
@@ -39,7 +50,7 @@ pub fn check_runs<R: AllocGlobal + Abort>(rt: &R, runs: &[Run]) -> Result<(), Fa
     Ok(())
 }
 
-/// Makes the steps on the table machine and on a guest.
+/// Makes the steps on the table machine and in a world of one guest.
 pub fn check_run<R: AllocGlobal + Abort>(rt: &R, run: &Run) -> Result<(), Fail> {
     let image = raw_image(rt, run.name, run.code)?;
     check_table_machine(rt, run, &image)?;
@@ -58,10 +69,23 @@ fn check_table_machine<R: AllocGlobal + Abort>(
 }
 
 fn check_guest<R: AllocGlobal + Abort>(rt: &R, run: &Run, image: Image) -> Result<(), Fail> {
-    let mut runner = boot_guest(rt, run.name, image, run.pages, 2)?;
-    make_steps(rt, &mut runner, run.steps);
-    check_cpu(rt, runner.guest().view().cpu, run, "guest");
+    let mut world = boot_world(rt, run.name, image, run.pages)?;
+    make_steps(rt, &mut world, run.steps);
+    check_stepped(rt, guest_of(rt, &world), run);
+    let _store = world.close();
     Ok(())
+}
+
+/// The guest's processor, and its log, which has the steps as one run.
+fn check_stepped(rt: &impl Abort, guest: &Guest, run: &Run) {
+    check_cpu(rt, guest.view().cpu, run, "guest");
+    let log = guest.log();
+    expect(
+        rt,
+        (run.name, "items, runs"),
+        (log.len(), log.runs()),
+        (run.steps as u64, 1),
+    );
 }
 
 /// The raw image of this code, of the test of this name.
@@ -82,17 +106,43 @@ pub fn boot_table_machine<R: AllocGlobal + Abort>(
     Ok(Flat::boot(rt.alloc(), image, pages)?)
 }
 
-/// A guest of so many pages, which has to hold the image, with its runner.
-pub fn boot_guest<R: AllocGlobal + Abort>(
+/// A world of one guest of so many pages, at least 2, which have to hold the image. It has a frame for each of them and one more, and
+/// no slot.
+pub fn boot_world<R: AllocGlobal + Abort>(
     rt: &R,
     name: &str,
     image: Image,
     pages: u32,
-    log_runs: u32,
-) -> Result<Runner, Fail> {
-    assert!(rt; image.fits(pages) && pages <= MOST_PAGES, "{name}");
-    let image = share_image(rt.alloc(), image)?;
-    Ok(Runner::new(Guest::boot(rt.alloc(), image, pages, log_runs)?))
+) -> Result<World<MemStore>, Fail> {
+    let guests = alone(rt.alloc(), image, pages)?;
+    let store = MemStore::new(rt.alloc(), 0)?;
+    let config = Config {
+        frames: pages.saturating_add(1).max(4),
+        log_runs: LOG_RUNS,
+    };
+    match World::boot(rt.alloc(), config, guests, store) {
+        Ok(world) => Ok(world),
+        Err((BootError::Memory, _store)) => Err(Fail::from(AllocError)),
+        Err((error, _store)) => panic!(rt; "{name}: {error:?}"),
+    }
+}
+
+/// A guest of so many pages that is to boot the image, and no other.
+fn alone(alloc: Global, image: Image, pages: u32) -> Result<Vec<NewGuest>, Fail> {
+    let guest = NewGuest {
+        image: Arc::new(alloc, image)?,
+        pages,
+        shares: 1,
+    };
+    Ok(Vec::from_array(alloc, [guest])?)
+}
+
+/// The guest of a world of one.
+pub fn guest_of<'a>(rt: &impl Abort, world: &'a World<MemStore>) -> &'a Guest {
+    match world.tenants() {
+        [tenant] => tenant.guest(),
+        _ => panic!(rt; "not one guest"),
+    }
 }
 
 pub fn step_table_machine(flat: &mut Flat, count: usize) {
@@ -101,12 +151,21 @@ pub fn step_table_machine(flat: &mut Flat, count: usize) {
     }
 }
 
-/// Makes so many steps, which a guest of the whole memory never has to wait for.
-pub fn make_steps(rt: &impl Abort, runner: &mut Runner, count: usize) {
-    for _ in 0..count {
-        assert!(rt; runner.guest().need().is_none());
-        assert!(rt; runner.step() == Ok(StepOut::Done));
+/// Makes so many steps, each of which gets the pages that it needs.
+pub fn make_steps<R: AllocGlobal + Abort>(rt: &R, world: &mut World<MemStore>, count: usize) {
+    let Ok(steps) = u32::try_from(count) else {
+        panic!(rt; "too many steps");
+    };
+    let end = End::Done;
+    expect(rt, "steps", run_steps(rt, world, steps), Ran { steps, end });
+}
+
+/// What becomes of so many steps.
+pub fn run_steps<R: AllocGlobal + Abort>(rt: &R, world: &mut World<MemStore>, count: u32) -> Ran {
+    if world.count() == 0 {
+        panic!(rt; "there is no guest");
     }
+    world.run_steps(rt.alloc(), 0, count, TAX, &mut Pcg32::new(42, 54))
 }
 
 /// PC, HI and LO, and then Status, Cause, EPC and BadVAddr.

@@ -1,15 +1,32 @@
-use Rattle.std.proofs.Common.{ap, ◌∙◌}
-use Rattle.elf32.specs.declared.image.Image.{Image}
-use Rattle.flatvm.specs.Boot.{boot_machine}
-use Rattle.load_and_go.proofs.Told.{held_by}
+use Rattle.std.proofs.Common.{List, [], ◌∷◌, subst}
+use Rattle.world.specs.declared.boot.NewGuest.{NewGuest}
+use Rattle.world.specs.Boots.{AreWithinLimits, AreBooted}
+use Rattle.load_and_go.proofs.Worlds.{view_holds, refused_alone}
 use Rattle.load_and_go.proofs.boot.boot_text.Goals as goal
 
-pub returns-clause-machine : goal.returns-clause-machine
-returns-clause-machine c =
-    let booted = c.in_ok-boot.ensures.machine ∙ ap (λ (image : Image). boot_machine image c.args.pages) c.in_ok-image.ensures in
-    held_by c.args.text.now c.in_ok-boot.field-0.machine _ booted c.in_ok-image_of_text.ensures.holds
+pub returns-in-Ok-boot-clause-view : goal.returns-in-Ok-boot-clause-view
+returns-in-Ok-boot-clause-view g c =
+    let one = c.in-Ok.ensures.one in
+    let runs = c.args.config.log_runs in
+    let tenants = c.in-Ok-boot.world.tenants in
+    let booted : AreBooted runs (one.0 ∷ []) tenants = subst (λ (guests : List NewGuest). AreBooted runs guests tenants) one.1 c.in-Ok-boot.ensures.booted in
+    view_holds c.args.text.now runs one.0 tenants booted one.4
 
-pub returns-clause-image : goal.returns-clause-image
-returns-clause-image c =
-    let booted = c.in_ok-boot.ensures.machine ∙ ap (λ (image : Image). boot_machine image c.args.pages) c.in_ok-image.ensures in
-    (c.in_ok-image_of_text.field-0, c.in_ok-image_of_text.ensures.read, booted)
+pub returns-in-Ok-boot-clause-booted : goal.returns-in-Ok-boot-clause-booted
+returns-in-Ok-boot-clause-booted g c =
+    let one = c.in-Ok.ensures.one in
+    let config = c.args.config in
+    let tenants = c.in-Ok-boot.world.tenants in
+    let within = AreWithinLimits config.frames (g.S.SwapStore.slots c.args.store) config.log_runs in (
+      one.0,
+      one.2,
+      subst (λ (guests : List NewGuest). AreBooted config.log_runs guests tenants) one.1 c.in-Ok-boot.ensures.booted,
+      subst within one.1 c.in-Ok-boot.ensures.within.0,
+    )
+
+pub returns-in-Err-boot-clause-refused : goal.returns-in-Err-boot-clause-refused
+returns-in-Err-boot-clause-refused g c =
+    let one = c.in-Ok.ensures.one in
+    let config = c.args.config in
+    let within = AreWithinLimits config.frames (g.S.SwapStore.slots c.args.store) config.log_runs in
+    (one.0, one.2, refused_alone within one.0 c.in-Ok.guests.items c.in-Err-boot.error one.1 one.3 c.in-Err-boot.ensures.err)
