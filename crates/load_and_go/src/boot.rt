@@ -46,7 +46,8 @@ pub fn boot_text<S: SwapStore>(
     store: S,
 ) -> Result<World<S>, (BootError, S)>
     // The view of the guest holds the listing that the text means.
-    ensures view { IfOk result (λ w. (listing : Listing) × Means text.now listing × ((t : TenantIs) → Holds (view_of (slice_index_or w.tenants 0 t).guest) listing)) }
+    ensures view { IfOk result (λ w. (listing : Listing) × Means text.now listing
+        × ((t : TenantIs) → Holds (view_of (slice_index_or w.tenants 0 t).guest) listing)) }
     // It is the one guest, at the boot of an image that the text's executable stands for.
     ensures booted { IfOk result (λ w. (guest : boot.NewGuest) × IsGuestOf text.now pages shares guest
         × AreBooted config.log_runs (guest ∷ []) w.tenants × AreWithinLimits config.frames (S.slots store) config.log_runs (guest ∷ [])) }
@@ -76,7 +77,8 @@ fn guests_of_text(
     pages: u32,
     shares: u32,
 ) -> Result<Vec<NewGuest>, TextError>
-    ensures one { IfOk result (λ guests. (guest : boot.NewGuest) × (guests.items ≡ guest ∷ []) × IsGuestOf text.now pages shares guest × HoldsImage guest
+    ensures one { IfOk result (λ guests. (guest : boot.NewGuest) × (guests.items ≡ guest ∷ [])
+        × IsGuestOf text.now pages shares guest × HoldsImage guest
         × ((listing : Listing) × Means text.now listing × Holds (boot_machine guest.image.value guest.pages) listing)) }
     ensures refused { IfErr result (IsErrorOf text.now pages) }
 {
