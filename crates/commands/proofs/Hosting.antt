@@ -34,11 +34,11 @@ use Rattle.physmap.specs.Pages.{page_at, kind_of, kind_at}
 use Rattle.physmap.specs.Holdings.{one_private, one_shared, private_pages, shared_pages}
 use Rattle.paging.proofs.Totals.{frames_add_up, tickets_add_up}
 use Rattle.paged_bus.specs.Lacking.{lack_of, lacks_in}
-use Rattle.paged_guest.specs.Guests.{view_of}
-use Rattle.paged_guest.proofs.Reaching.{accesses_inside}
+use Rattle.guest.specs.Guests.{view_of}
+use Rattle.guest.proofs.Reaching.{accesses_inside}
 use Rattle.swapstore.specs.Memories.{MemoryIs}
-use Rattle.paged_guest.specs.declared.refused.Refused.{Refused}
-use Rattle.paged_guest.specs.declared.refused.Refused.TheVariants as refused
+use Rattle.guest.specs.declared.refused.Refused.{Refused}
+use Rattle.guest.specs.declared.refused.Refused.TheVariants as refused
 use Rattle.world.specs.Boots.{AreBooted}
 use Rattle.world.specs.declared.boot.NewGuest.{NewGuest}
 use Rattle.world.specs.declared.running.End.{End}

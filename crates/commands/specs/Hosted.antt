@@ -8,7 +8,7 @@ use Rattle.swapstore.specs.Memories.{MemoryIs}
 use Rattle.physmap.specs.declared.page.Page.{Page}
 use Rattle.physmap.specs.declared.page.PageKind.TheVariants.{Private}
 use Rattle.physmap.specs.Pages.{kind_at}
-use Rattle.paged_guest.specs.Guests.{view_of}
+use Rattle.guest.specs.Guests.{view_of}
 use Rattle.world.specs.Tenants.{TenantIs, pages_in}
 use Rattle.world.specs.Worlds.{WorldIs}
 

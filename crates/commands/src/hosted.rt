@@ -8,7 +8,6 @@ ghost use Rattle.flatvm.specs.Items.{after};
 ghost use Rattle.guest_log.specs.Logs.{IsFull};
 ghost use Rattle.guest_log.specs.declared.stop.Stop.{Stop};
 ghost use Rattle.physmap.specs.Holdings.{private_pages};
-ghost use Rattle.sharetab.specs.Entries.{AllFit};
 ghost use Rattle.world.specs.Events.{IsForRoom};
 ghost use Rattle.world.specs.declared.running.RunStop.TheVariants as why;
 ghost use Rattle.commands.specs.Hosted.{first_pages, hosted_of, IsAlone, IsLacking};
@@ -18,9 +17,9 @@ ghost use Rattle.commands.specs.Runs.{after_steps, MayStop};
 use crate::machine::Runnable;
 use elf32::Image;
 use flatvm::View;
+use guest::{Log, Refused, Stop};
 use items::{Item, SeatNo, What};
 use mips_step::{Ppn, StepOut};
-use paged_guest::{Log, Refused, Stop};
 use paging::SupplyError;
 use std::alloc::{AllocError, Global};
 use std::marker::Model;
@@ -145,13 +144,6 @@ fn boot_world(alloc: Global, image: Image, pages: u32) -> Result<World<MemStore>
     }
 }
 
-/// Each shared frame is that of its place, and a page names it.
-fn shared_frames_are_named(world: &World<MemStore>)
-    ensures { AllFit world.now.shares.entries }
-{
-    let _world = world;
-}
-
 /// A page that is lacking gets a frame of its own. An error says that a request for memory was refused, and nothing has moved then.
 fn supply(alloc: Global, world: &mut World<MemStore>, page: Ppn) -> Result<(), AllocError>
     requires alone { IsAlone world.old }
@@ -162,7 +154,7 @@ fn supply(alloc: Global, world: &mut World<MemStore>, page: Ppn) -> Result<(), A
     ensures one_more { OnOk result (private_pages (first_pages world.new.tenants) ≡ private_pages (first_pages world.old.tenants) + 1) }
 {
     world.is_sound();
-    shared_frames_are_named(world);
+    world.shared_frames_are_named();
     match world.supply(alloc, 0, page) {
         Ok(()) => Ok(()),
         Err(SupplyError::Memory) => Err(AllocError),

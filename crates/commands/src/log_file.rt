@@ -4,8 +4,8 @@ ghost use Rattle.commands.specs.LogFiles.{IsLogFile};
 
 use crate::asm::write_file;
 use crate::fault::{Fault, of_file};
+use guest::Log;
 use logfile::{append, write};
-use paged_guest::Log;
 use std::alloc::{AllocError, Global};
 use std::fs::File;
 use std::rt::Files;

@@ -7,8 +7,8 @@ ghost use Rattle.guest_log.specs.declared.stop.Stop.{Stop};
 ghost use Rattle.commands.specs.Runs.{after_run, after_steps, fed, IsCount};
 
 use flatvm::{Flat, Rejection, View};
+use guest::Stop;
 use items::What;
-use paged_guest::Stop;
 
 /// A machine that makes steps.
 pub trait Runnable {

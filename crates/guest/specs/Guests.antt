@@ -1,15 +1,29 @@
--- What is seen of a guest, and what an item does to it.
-use Rattle.std.specs.Prelude.{◌≡◌, ℕ, true, None, List}
+-- What is seen of a guest, and what becomes of it.
+use Rattle.std.specs.Prelude.{◌≡◌, ℕ, ◌*◌, Option, Some, None, List, [], length}
+use Rattle.word32.specs.Pages.{page_number}
 use Rattle.items.specs.declared.item.Item.{Item}
-use Rattle.mips_step.specs.Bus.{Lacks}
-use Rattle.mips_step.specs.Step.{Machine}
-use Rattle.flatvm.specs.Items.{accepts, after, run, AllAccepted}
+use Rattle.mips_step.specs.Processor.{Processor}
+use Rattle.mips_step.specs.Step.{Machine, in_world}
+use Rattle.flatvm.specs.Items.{run, AllAccepted}
+use Rattle.flatvm.specs.Replies.{probe}
 use Rattle.guest_log.specs.Logs.{LogIs}
 use Rattle.loghead.specs.Heads.{HeadId, SeatIs}
-use Rattle.journal.specs.Journals.{JournalIs, Adds}
+use Rattle.journal.specs.Journals.{JournalIs, Adds, AddsSteps}
+use Rattle.mips_step.specs.declared.access.Why.{Why}
+use Rattle.physmap.specs.declared.page.Page.{Page}
+use Rattle.physmap.specs.declared.page.Returned.{Returned}
+use Rattle.physmap.specs.Outline.{outline}
+use Rattle.paged_bus.specs.Buses.{PagedBusIs, world_of, with_pages, pages_settled, page_returned}
+use Rattle.guest.specs.declared.progress.Pause.{Pause}
+use Rattle.guest.specs.declared.progress.Pause.TheVariants as pause
+use Rattle.guest.specs.declared.stepped.Stepped.{Stepped}
+use Rattle.guest.specs.declared.stepped.Stepped.TheVariants.{Done, Need}
+use Rattle.guest.specs.Views.{Shows}
 
 pub record GuestIs : Type 0 where
-  pub machine : Machine
+  pub cpu : Processor
+  -- its pages and its devices
+  pub bus : PagedBusIs
   -- the machine that the guest's image boots
   pub boot : Machine
   pub log : LogIs
@@ -18,23 +32,81 @@ pub record GuestIs : Type 0 where
   -- how many seats were made
   pub seats : ℕ
 
-abbrev pub guest_of : Machine → Machine → JournalIs → GuestIs
-guest_of machine boot journal =
-    record { machine = machine; boot = boot; log = journal.log; head = journal.head; seats = journal.seats }
+abbrev pub guest_of : Processor → PagedBusIs → Machine → JournalIs → GuestIs
+guest_of cpu bus boot journal =
+    record { cpu = cpu; bus = bus; boot = boot; log = journal.log; head = journal.head; seats = journal.seats }
 
--- a machine is the run of a log from the boot, and accepted each of its items
-pub record IsReplay (items : List Item) (boot machine : Machine) : Type 0 where
-  pub is_run : machine ≡ run items boot
-  pub accepted : AllAccepted items boot
+-- The guest's view: the machine that a table machine with a plain memory of its own is after the items of the guest's log,
+-- from the boot of the guest's image.
+abbrev pub view_of : GuestIs → Machine
+view_of g = run g.log.items g.boot
 
--- why a page of a guest is lacking: all of its memory is there
-abbrev pub no_lack : Lacks
-no_lack page kind = None
+-- the processor and the memory as they stand, in which a page that is in a slot is zeros
+abbrev pub standing : GuestIs → Machine
+standing g = in_world g.cpu (world_of g.bus)
 
--- an item of a seat: that the machine accepts it, and what it does to the guest and to the seat
-pub record Does (g : GuestIs) (seat : SeatIs) (i : Item) (g' : GuestIs) (seat' : SeatIs) : Type 0 where
-  pub accepted : accepts i.what g.machine ≡ true
-  pub machine : g'.machine ≡ after i.what g.machine
+-- Processor, devices and pages are those of the view, a page in a slot by its SHA-256; and each item of the log was accepted.
+pub record Intact (g : GuestIs) : Type 0 where
+  pub shows : Shows (view_of g) g.cpu g.bus
+  pub accepted : AllAccepted g.log.items g.boot
+
+-- the byte at a virtual address lies in a page
+abbrev pub LiesIn : Machine → ℕ → ℕ → Type 0
+LiesIn m address page = (at : ℕ) × (probe m address ≡ Some at) × (page_number at ≡ page)
+
+-- the memory of the guest as it stands has 4,096 bytes for each page
+abbrev pub IsSized : GuestIs → Type 0
+IsSized g = length (standing g).world.memory ≡ length g.bus.pages * 4096
+
+-- all of a guest but its pages
+abbrev pub without_pages : GuestIs → GuestIs
+without_pages g = record g { bus = with_pages [] g.bus }
+
+-- the page that a step needs
+abbrev pub need_of : Stepped → Option (ℕ × Why)
+need_of (Done returned) = None
+need_of (Need page why) = Some (page, why)
+
+-- A step that is made may have given a page to the balloon. Of the pages that were, with bytes that the step may have changed,
+-- that page is given now, and what it was in has come back.
+pub record Gives (given : Option ℕ) (old : List Page) (returned : Returned) (new : List Page) : Type 0 where
+  pub before : List Page
+  pub same : outline before ≡ outline old
+  pub pages : new ≡ pages_settled given before
+  pub what : returned ≡ page_returned given before
+
+-- what came back from a step that is made
+abbrev pub HandsBack : Option ℕ → List Page → Stepped → List Page → Type 0
+HandsBack given old (Done returned) new = Gives given old returned new
+HandsBack given old (Need page why) new = new ≡ old
+
+-- What has become of the pages, and what came back, in a run of steps of which the last one alone may have given a page: where they
+-- pause because it did, that page is given now; else each page is where it was.
+abbrev pub HasPaused : List Page → Option Pause → List Page → Type 0
+HasPaused old None new = outline new ≡ outline old
+HasPaused old (Some (pause.Need page why)) new = outline new ≡ outline old
+HasPaused old (Some (pause.Gave returned)) new = (given : Option ℕ) × Gives given old returned new
+
+-- how many steps were made by the one at which a run pauses
+abbrev pub steps_by : Pause → ℕ
+steps_by (pause.Gave returned) = 1
+steps_by (pause.Need page why) = 0
+
+-- whether a step was made that pauses a run, or doesn't
+abbrev pub IsMade : Option Pause → Type 0
+IsMade None = Unit {0}
+IsMade (Some (pause.Gave returned)) = Unit {0}
+IsMade (Some (pause.Need page why)) = ⊥
+
+-- steps of a seat are added to the log, and all else stays that is neither processor nor memory
+pub record LogsSteps (g : GuestIs) (seat : SeatIs) (count : ℕ) (g' : GuestIs) (seat' : SeatIs) : Type 0 where
+  pub boot : g'.boot ≡ g.boot
+  pub head : g'.head ≡ g.head
+  pub seats : g'.seats ≡ g.seats
+  pub adds : AddsSteps g.log seat count g'.log seat'
+
+-- an item of a seat is added to the log, and all else stays that is neither processor nor memory
+pub record Logs (g : GuestIs) (seat : SeatIs) (i : Item) (g' : GuestIs) (seat' : SeatIs) : Type 0 where
   pub boot : g'.boot ≡ g.boot
   pub head : g'.head ≡ g.head
   pub seats : g'.seats ≡ g.seats
@@ -42,7 +114,8 @@ pub record Does (g : GuestIs) (seat : SeatIs) (i : Item) (g' : GuestIs) (seat' :
 
 -- all of a guest stays, but perhaps its log
 pub record LogsOnly (g g' : GuestIs) : Type 0 where
-  pub machine : g'.machine ≡ g.machine
+  pub cpu : g'.cpu ≡ g.cpu
+  pub bus : g'.bus ≡ g.bus
   pub boot : g'.boot ≡ g.boot
   pub head : g'.head ≡ g.head
   pub seats : g'.seats ≡ g.seats

@@ -1,58 +1,85 @@
 //! A guest.
 ghost use Rattle.std.specs.Prelude.{◌≡◌};
 
-use crate::{Head, Log, Refused, Seat, Stop};
+use crate::loading::load_page;
+use crate::placed::pages_reached;
+use crate::step::{input_pages, need_pages, read_pages, run_pages, step_pages, whole};
+use crate::{Head, Log, Progress, Refused, Seat, Stepped, Stop};
 use elf32::Image;
-use flatvm::{FlatBus, Rejection, Reply, Unreached, View, debug};
+use flatvm::{Reply, Unreached, View};
 use items::Item;
 use journal::Journal;
-use mips_step::{Cpu, Ppn, StepOut, Why};
+use mips_step::{Cpu, Ppn, Why};
+use paged_bus::{InputError, PagedBus};
 use std::alloc::{AllocError, Global};
 use std::marker::Model;
 use std::sync::Arc;
 
-/// A guest. In clauses it is a record, `GuestIs`: its machine, the machine that its image boots, its log, the log's head, and how
-/// many seats it has. Its machine is always the run of its log from the boot.
-#[derive(Drop)]
+/// A guest whose memory is pages, each of which is in a frame, in a slot of the swap store, or nowhere yet. In clauses it is a
+/// record, `GuestIs`: its processor, its pages and devices, the machine that its image boots, its log, the log's head, and how
+/// many seats it has.
+///
+/// Its view is the machine that runs the log's items alone, on a plain memory, from the boot (`view_of`). While the guest is
+/// `Intact`, its processor, its devices and its pages are the view's, a page in a slot by its SHA-256.
 pub struct Guest {
-    cpu: Cpu,
-    bus: FlatBus,
-    image: Arc<Image, Global>,
-    pages: u32,
-    journal: Journal,
+    pub(crate) cpu: Cpu,
+    pub(crate) bus: PagedBus,
+    /// What the guest has booted, with as many pages: the view begins there.
+    pub(crate) image: Arc<Image, Global>,
+    pub(crate) pages: u32,
+    pub(crate) journal: Journal,
 }
 
 impl Model for Guest {
-    ghost use Rattle.mips_step.specs.Step.{in_world};
     ghost use Rattle.flatvm.specs.Boot.{boot_machine};
-    ghost use Rattle.guest.specs.Guests.{GuestIs, guest_of, IsReplay};
+    ghost use Rattle.paged_bus.specs.Buses.{IsSettled};
+    ghost use Rattle.guest.specs.Guests.{GuestIs, guest_of};
 
     ghost Value = { GuestIs };
 
-    ghost view = { λ g. guest_of (in_world g.cpu g.bus) (boot_machine g.image.value g.pages) g.journal };
+    ghost view = { λ g. guest_of g.cpu g.bus (boot_machine g.image.value g.pages) g.journal };
 
-    ghost invariant = { λ g. IsReplay g.journal.log.items (boot_machine g.image.value g.pages) (in_world g.cpu g.bus) };
+    ghost invariant = { λ g. IsSettled g.bus };
 }
 
 impl Guest {
-    ghost use Rattle.std.specs.Prelude.{◌≡◌, ◌+◌, ◌<◌, ◌≤◌, ◌^◌, false, [], OnOk, OnErr, IsErrOf, ◌↔◌, IfOk, IfSome, Some, None, length};
+    ghost use Rattle.std.specs.Prelude.{◌≡◌, ◌≢◌, ◌+◌, ◌<◌, ◌≤◌, ◌^◌, ◌⊎◌, ℕ, true, false, List, [], OnOk, OnErr, IsErrOf, ◌↔◌, IfOk, IfSome, IsNone, None, Some, Option};
+    ghost use Rattle.std.specs.Prelude.{length, replicate, slice_set};
     ghost use Rattle.elf32.specs.Images.{FitsPages};
     ghost use Rattle.items.specs.Items.{is_step};
+    ghost use Rattle.items.specs.Entries.{steps_of};
     ghost use Rattle.items.specs.declared.item.What.TheVariants.{Step};
+    ghost use Rattle.devices.specs.Devices.{fresh_devices};
+    ghost use Rattle.mips_tlb.specs.declared.kind.Kind.TheVariants.{Store};
     ghost use Rattle.mips_step.specs.Step.{step};
+    ghost use Rattle.mips_step.specs.World.{page_bytes};
+    ghost use Rattle.mips_step.specs.Given.{step_given};
     ghost use Rattle.mips_step.specs.Accesses.{accesses, first_lack};
-    ghost use Rattle.mips_step.specs.Answer.{Answers, need_of};
     ghost use Rattle.flatvm.specs.Answers.{replied};
-    ghost use Rattle.flatvm.specs.Boot.{boot_machine};
-    ghost use Rattle.flatvm.specs.Items.{accepts, reply};
-    ghost use Rattle.flatvm.specs.Replies.{bytes_at};
+    ghost use Rattle.flatvm.specs.Boot.{boot_machine, boot_memory};
+    ghost use Rattle.flatvm.specs.Items.{accepts, after, reply, run};
+    ghost use Rattle.flatvm.specs.Replies.{bytes_at, SomePlaceIn};
     ghost use Rattle.guest_log.specs.Logs.{HasRoom, IsFull, TakesRoom};
     ghost use Rattle.guest_log.specs.declared.stop.Stop.{Stop};
     ghost use Rattle.loghead.specs.Legal.{Legal};
-    ghost use Rattle.guest.specs.Guests.{GuestIs, IsReplay, Does, LogsOnly, no_lack};
+    ghost use Rattle.physmap.specs.declared.page.Page.{Page};
+    ghost use Rattle.physmap.specs.declared.page.PageKind.{PageKind};
+    ghost use Rattle.physmap.specs.Pages.{page_at, kind_at, own_frame};
+    ghost use Rattle.physmap.specs.Holdings.{private_pages, shared_pages, swapped_pages, resident_pages};
+    ghost use Rattle.physmap.specs.Outline.{outline};
+    ghost use Rattle.paging.specs.Faith.{Kept};
+    ghost use Rattle.paged_bus.specs.Lacking.{lacks_in};
+    ghost use Rattle.paged_bus.specs.Writes.{WritesTo};
+    ghost use Rattle.mips_step.specs.declared.access.Why.{Why};
+    ghost use Rattle.physmap.specs.declared.page.Returned.{Returned};
+    ghost use Rattle.guest.specs.Guests.{GuestIs, view_of, standing, Intact, IsSized, need_of, without_pages};
+    ghost use Rattle.guest.specs.Guests.{HandsBack, HasPaused, Logs, LogsSteps, LogsOnly};
+    ghost use Rattle.guest.specs.declared.progress.Pause.{Pause};
+    ghost use Rattle.guest.specs.Views.{pages_seen};
 
-    /// A guest as its image boots, with a memory of `pages` pages, at most 2^20, which hold the image, and a log of at most
-    /// `log_runs` runs. Guests of one image may share it.
+    /// A guest with a memory of `pages` pages, at most 2^20, which hold the image, and a log of at most `log_runs` runs. No page
+    /// was ever touched: before the first step each page that the image reaches (`reaches`) is to be supplied and loaded
+    /// (`load_page`), and then the guest is intact. Guests of one image may share it.
     pub fn boot(
         alloc: Global,
         image: Arc<Image, Global>,
@@ -61,19 +88,36 @@ impl Guest {
     ) -> Result<Guest, AllocError>
         requires fits { FitsPages image.value pages }
         requires few { pages ≤ 2 ^ 20 }
-        ensures machine { IfOk result (λ g. g.machine ≡ boot_machine image.value pages) }
+        ensures cpu { IfOk result (λ g. g.cpu ≡ g.boot.cpu) }
+        ensures bus { IfOk result (λ g. g.bus ≡ record { pages = replicate pages Page.Zero; devices = fresh_devices pages; waiting = None }) }
         ensures boot { IfOk result (λ g. g.boot ≡ boot_machine image.value pages) }
         ensures log { IfOk result (λ g. g.log.items ≡ []) }
         ensures limit { IfOk result (λ g. g.log.limit ≡ log_runs) }
         ensures seats { IfOk result (λ g. g.seats ≡ 0) }
     {
+        let journal = Journal::new(alloc, log_runs)?;
         Ok(Guest {
             cpu: Cpu::boot(image.entry),
-            bus: FlatBus::boot(alloc, &image, pages)?,
+            bus: PagedBus::new(alloc, pages)?,
             image,
             pages,
-            journal: Journal::new(alloc, log_runs)?,
+            journal,
         })
+    }
+
+    /// Puts the bytes that a page has as the image boots into the frame that the page has for its own. All else of the guest
+    /// stays.
+    pub fn load_page(&mut self, image: &Image, p: Ppn)
+        requires fits { FitsPages image.now (length self.old.bus.pages) }
+        requires there { p < length self.old.bus.pages }
+        requires private { kind_at self.old.bus.pages p ≡ PageKind.Private }
+        ensures pages { self.new.bus.pages ≡ slice_set self.old.bus.pages p (Page.Private (record {
+          number = (own_frame (page_at self.old.bus.pages p)).number;
+          bytes = page_bytes p (boot_memory image.now (length self.old.bus.pages));
+        })) }
+        ensures rest { without_pages self.new ≡ without_pages self.old }
+    {
+        load_page(&mut self.bus, image, p);
     }
 
     /// The next seat of the guest, which has seen and made nothing. The seats' numbers rise from 0, and a guest has at most four.
@@ -99,41 +143,14 @@ impl Guest {
         self.journal.head()
     }
 
-    /// A law of the type: the machine is the run of the log from the boot, and each item of the log was accepted.
-    pub fn replay(&self)
-        ensures { IsReplay self.now.log.items self.now.boot self.now.machine }
-    {
-        // The law is the invariant, which is known once the value is read.
-        let _cpu = &self.cpu;
-    }
-
     /// What is seen of the machine beside its memory.
     pub fn view(&self) -> View<'_>
-        ensures cpu { result.cpu.now ≡ self.now.machine.cpu }
-        ensures devices { result.devices.now ≡ self.now.machine.world.devices }
+        ensures cpu { result.cpu.now ≡ self.now.cpu }
+        ensures devices { result.devices.now ≡ self.now.bus.devices }
     {
         View {
             cpu: &self.cpu,
             devices: self.bus.devices(),
-        }
-    }
-
-    /// Reads as many bytes of memory as `bytes` has, from a virtual address on: byte k at that address + k modulo 2^32,
-    /// as for a load of kernel mode, whatever mode runs. It takes no memory, and changes nothing of the guest.
-    ///
-    /// It answers `Machine` exactly where one of the bytes has no place in memory, and then `bytes` is as before.
-    pub fn debug_read(&self, address: u32, bytes: &mut [u8]) -> Result<(), Refused>
-        ensures read { OnOk result (bytes_at self.now.machine address (length bytes.old) ≡ Some bytes.new) }
-        ensures refused { IsErrOf result Refused.Machine ↔ (bytes_at self.now.machine address (length bytes.old) ≡ None) }
-        ensures never_stops { (stop : Stop) → IsErrOf result (Refused.Stop stop) → ⊥ }
-        ensures unchanged { OnErr result (bytes.new ≡ bytes.old) }
-    {
-        match debug::read(&self.cpu, &self.bus, address, bytes) {
-            Ok(()) => Ok(()),
-            Err(unreached) => match unreached {
-                Unreached::NoPlace => Err(Refused::Machine),
-                Unreached::Away(_) => unreachable!(),
-            },
         }
     }
 
@@ -177,49 +194,143 @@ impl Guest {
         self.journal.settle(seat);
     }
 
-    /// The `Need` that `step` would answer.
-    pub fn need(&self) -> Option<(Ppn, Why)>
-        ensures { result ≡ first_lack no_lack (accesses self.now.machine) }
+    /// How many pages it has, at most 2^20.
+    pub fn page_count(&self) -> u32
+        ensures value { result ≡ length self.now.bus.pages }
+        ensures small { result ≤ 2 ^ 20 }
     {
-        self.cpu.need(&self.bus)
+        self.bus.pages()
+    }
+
+    /// How many of its pages are in frames of their own.
+    pub fn private(&self) -> u32
+        ensures { result ≡ private_pages self.now.bus.pages }
+    {
+        self.bus.private()
+    }
+
+    /// How many of its pages are in shared frames.
+    pub fn shared(&self) -> u32
+        ensures { result ≡ shared_pages self.now.bus.pages }
+    {
+        self.bus.shared()
+    }
+
+    /// How many of its pages are in slots of the swap store.
+    pub fn swapped(&self) -> u32
+        ensures { result ≡ swapped_pages self.now.bus.pages }
+    {
+        self.bus.swapped()
+    }
+
+    /// How many of its pages are in a frame, their own or a shared one.
+    pub fn resident(&self) -> u32
+        ensures value { result ≡ resident_pages self.now.bus.pages }
+        ensures within { result ≤ length self.now.bus.pages }
+    {
+        self.bus.resident()
+    }
+
+    /// The `Need` that `step` would answer. The page is one of the guest's.
+    pub fn need(&self) -> Option<(Ppn, Why)>
+        ensures need { Intact self.now → result ≡ first_lack (lacks_in self.now.bus.pages) (accesses (view_of self.now)) }
+        ensures there { IfSome result (λ needed. needed.0 < length self.now.bus.pages) }
+    {
+        need_pages(&self.cpu, &self.bus)
     }
 
     /// One step, as an item of the seat. It takes no memory; room in the log is the caller's condition, and `log_room` makes
     /// it.
     ///
-    /// It answers `Need` exactly where the step would access a page that is lacking, and then nothing has changed. Else it
-    /// answers `Done`: the machine has moved by one step, and the log has that step more; the seat has made it and has seen the
-    /// whole log, for which it is legal. Other seats may not see the step before `publish`.
-    pub fn step(&mut self, seat: &mut Seat) -> StepOut
+    /// It answers `Need` exactly where the view's step would access a page that was never touched or was given (`First`), that
+    /// is in a slot (`Swapped`), or that is shared and would be stored to (`Copy`), the fetch's page first, and then nothing has
+    /// changed. Else it answers `Done`: the view has moved by one step, and the log has that step more; the seat has made it and
+    /// has seen the whole log, for which it is legal. Other seats may not see the step before `publish`. Where the step gave a
+    /// page to the balloon, what that page was in comes back.
+    #[inline]
+    pub fn step(&mut self, seat: &mut Seat) -> Stepped
         requires head { seat.old.head ≡ self.old.head }
         requires room { HasRoom self.old.log }
-        ensures need { need_of result ≡ first_lack no_lack (accesses self.old.machine) }
-        ensures moves { Answers (step self.old.machine) result self.old.machine self.new.machine }
-        ensures done { need_of result ≡ None → Does self.old seat.old (record { seat = seat.old.number; what = Step }) self.new seat.new }
-        ensures need_unchanged { IfSome (need_of result) (λ _. (self.new ≡ self.old) × (seat.new ≡ seat.old)) }
+        ensures need { Intact self.old → need_of result ≡ first_lack (lacks_in self.old.bus.pages) (accesses (view_of self.old)) }
+        ensures logs { need_of result ≡ None → Logs self.old seat.old (record { seat = seat.old.number; what = Step }) self.new seat.new }
+        ensures moves { need_of result ≡ None → view_of self.new ≡ step (view_of self.old) }
+        ensures intact { Intact self.old → Intact self.new }
+        ensures kept { Intact self.old → (held : ℕ → Option (List ℕ)) →
+            Kept held (pages_seen (view_of self.old)) self.old.bus.pages → Kept held (pages_seen (view_of self.new)) self.new.bus.pages }
+        ensures hands_back { HandsBack (step_given (standing self.old)) self.old.bus.pages result self.new.bus.pages }
+        ensures need_unchanged { need_of result ≢ None → (self.new ≡ self.old) × (seat.new ≡ seat.old) }
     {
-        let out = self.cpu.step(&mut self.bus);
-        match out {
-            StepOut::Done => self.journal.step(seat),
-            StepOut::Need(_, _) => {}
+        match step_pages(&mut self.cpu, &mut self.bus) {
+            Stepped::Done(returned) => {
+                self.journal.step(seat);
+                Stepped::Done(returned)
+            }
+            Stepped::Need(page, why) => Stepped::Need(page, why),
         }
-        out
     }
 
-    /// What happens to the guest by an item of the seat that is no step. It makes the room that the item needs itself.
+    /// At most `count` steps, one after another, as items of the seat: what so many calls of `step` do, each with room in the log, for
+    /// less. It takes no memory; room for the first step is the caller's condition, and `log_room` makes it.
     ///
-    /// It answers `Machine` only where the machine does not accept the item; `Stop(LogFull)` exactly where the log has its
-    /// greatest number of runs or 2^62 items; `Stop(Memory)` only where a request for memory was refused. Then machine, log
-    /// and seat are as before. Else the machine has moved by the item, and the log has it more; the seat has made it and has
-    /// seen the whole log, for which it is legal, and so may every other that looks from now on.
+    /// It pauses before a step that needs a page, as of `step`, and then that step has changed nothing; and after a step that gave a page
+    /// to the balloon, where what the page was in comes back. Else as many steps are made as were wanted, or the log is full. The
+    /// view has moved by the steps that are made, and the log has them more; the seat has made them and has seen the whole log, for
+    /// which it is legal, and every seat that looks from now on may see them.
+    #[inline]
+    pub fn run(&mut self, count: u32, seat: &mut Seat) -> Progress
+        requires head { seat.old.head ≡ self.old.head }
+        requires room { HasRoom self.old.log }
+        ensures few { result.steps ≤ count }
+        ensures all { result.pause ≡ None → (result.steps ≡ count) ⊎ IsFull self.new.log }
+        ensures some { result.pause ≡ None → 0 < count → 0 < result.steps }
+        ensures gave { (returned : Returned) → result.pause ≡ Some (Pause.Gave returned) → 0 < result.steps }
+        ensures need { Intact self.old → (p : ℕ) (why : Why) → result.pause ≡ Some (Pause.Need p why) →
+            first_lack (lacks_in self.new.bus.pages) (accesses (view_of self.new)) ≡ Some (p, why) }
+        ensures short { (p : ℕ) (why : Why) → result.pause ≡ Some (Pause.Need p why) → result.steps < count }
+        ensures room { (p : ℕ) (why : Why) → result.pause ≡ Some (Pause.Need p why) → IsFull self.new.log → ⊥ }
+        ensures logs { 0 < result.steps → LogsSteps self.old seat.old result.steps self.new seat.new }
+        ensures moves { view_of self.new ≡ run (steps_of seat.old.number result.steps) (view_of self.old) }
+        ensures intact { Intact self.old → Intact self.new }
+        ensures kept { Intact self.old → (held : ℕ → Option (List ℕ)) →
+            Kept held (pages_seen (view_of self.old)) self.old.bus.pages → Kept held (pages_seen (view_of self.new)) self.new.bus.pages }
+        ensures paused { HasPaused self.old.bus.pages result.pause self.new.bus.pages }
+        ensures unchanged { result.steps ≡ 0 → (self.new ≡ self.old) × (seat.new ≡ seat.old) }
+    {
+        let most = self.journal.steps_with_room(seat, count);
+        let progress = run_pages(&mut self.cpu, &mut self.bus, most);
+        whole(&self.bus);
+        if progress.steps > 0 {
+            self.journal.steps(seat, progress.steps);
+        }
+        progress
+    }
+
+    /// What happens to the guest by an item of the seat that is no step. It makes the room that the item needs in the log
+    /// itself.
+    ///
+    /// It answers `Machine` only where the view does not accept the item; `Away` only of a write, with a page that one of its bytes
+    /// lies in and that is in no frame of its own; `Stop(LogFull)` exactly where the log has its greatest number of runs or 2^62
+    /// items; `Stop(Memory)` only where a request for memory was refused. Then processor, pages, log and seat are as before. Else
+    /// the view has moved by the item, and the log has it more; the seat has made it and has seen the whole log, for which it is
+    /// legal, and so may every other that looks from now on. Where pages are stays in both cases.
     pub fn input(&mut self, item: Item, seat: &mut Seat) -> Result<Reply, Refused>
         requires head { seat.old.head ≡ self.old.head }
         requires seat { item.seat ≡ seat.old.number }
         requires input { is_step item.what ≡ false }
-        ensures done { OnOk result (Does self.old seat.old item self.new seat.new) }
-        ensures reply { IfOk result (λ r. replied r ≡ reply item.what self.old.machine) }
-        ensures refused { IsErrOf result Refused.Machine → accepts item.what self.old.machine ≡ false }
+        ensures logs { OnOk result (Logs self.old seat.old item self.new seat.new) }
+        ensures moves { OnOk result (view_of self.new ≡ after item.what (view_of self.old)) }
+        ensures accepted { OnOk result (Intact self.old → accepts item.what (view_of self.old) ≡ true) }
+        ensures reply { IfOk result (λ r. Intact self.old → replied r ≡ reply item.what (view_of self.old)) }
+        ensures refused { IsErrOf result Refused.Machine → Intact self.old → accepts item.what (view_of self.old) ≡ false }
+        ensures refused_as_it_stands { IsErrOf result Refused.Machine → accepts item.what (standing self.old) ≡ false }
+        ensures reply_as_it_stands { IfOk result (λ r. replied r ≡ reply item.what (standing self.old)) }
+        ensures away { (page : ℕ) → IsErrOf result (Refused.Away page) → lacks_in self.old.bus.pages page Store ≢ None }
+        ensures its_page { (page : ℕ) → IsErrOf result (Refused.Away page) → WritesTo item.what (standing self.old) page }
         ensures full { IsErrOf result (Refused.Stop Stop.LogFull) ↔ IsFull self.old.log }
+        ensures intact { Intact self.old → Intact self.new }
+        ensures kept { Intact self.old → (held : ℕ → Option (List ℕ)) →
+            Kept held (pages_seen (view_of self.old)) self.old.bus.pages → Kept held (pages_seen (view_of self.new)) self.new.bus.pages }
+        ensures outline { outline self.new.bus.pages ≡ outline self.old.bus.pages }
         ensures unchanged { OnErr result (LogsOnly self.old self.new × TakesRoom self.old.log self.new.log) }
         ensures seat_unchanged { OnErr result (seat.new ≡ seat.old) }
         // What a lock that holds the guest has to know in each case.
@@ -230,15 +341,78 @@ impl Guest {
         if let Err(stop) = self.journal.make_item_room() {
             return Err(Refused::Stop(stop));
         }
-        match self.bus.input(&mut self.cpu, &item.what) {
+        match input_pages(&mut self.cpu, &mut self.bus, &item.what) {
             Ok(reply) => {
                 self.journal.add(item, seat);
                 Ok(reply)
             }
-            Err(rejection) => match rejection {
-                Rejection::Machine => Err(Refused::Machine),
-                Rejection::Memory => Err(Refused::Stop(Stop::Memory)),
+            Err(error) => match error {
+                InputError::Machine => Err(Refused::Machine),
+                InputError::Memory => Err(Refused::Stop(Stop::Memory)),
+                InputError::Away(page) => Err(Refused::Away(page)),
             },
         }
+    }
+
+    /// Reads as many bytes of the view's memory as `bytes` has, from a virtual address on: byte k at that address + k modulo
+    /// 2^32, as for a load of kernel mode, whatever mode runs. A page that was never touched or was given is zeros. It takes no
+    /// memory, and changes nothing of the guest.
+    ///
+    /// It answers `Machine` exactly where one of the bytes has no place in memory, and else `Away` exactly where one of them
+    /// lies in a page that is in a slot, with such a page. Then `bytes` is as before.
+    pub fn debug_read(&self, address: u32, bytes: &mut [u8]) -> Result<(), Refused>
+        ensures read { OnOk result (Intact self.now → bytes_at (view_of self.now) address (length bytes.old) ≡ Some bytes.new) }
+        ensures refused { Intact self.now → (IsErrOf result Refused.Machine ↔ (bytes_at (view_of self.now) address (length bytes.old) ≡ None)) }
+        ensures away { (page : ℕ) → IsErrOf result (Refused.Away page) → kind_at self.now.bus.pages page ≡ PageKind.Swapped }
+        ensures its_page { (page : ℕ) → IsErrOf result (Refused.Away page) →
+            Intact self.now → SomePlaceIn (view_of self.now) address (length bytes.old) page }
+        ensures not_placed { IsErrOf result Refused.Machine ↔ (bytes_at (standing self.now) address (length bytes.old) ≡ None) }
+        ensures placed_in { (page : ℕ) → IsErrOf result (Refused.Away page) → SomePlaceIn (standing self.now) address (length bytes.old) page }
+        ensures never_stops { (stop : Stop) → IsErrOf result (Refused.Stop stop) → ⊥ }
+        ensures unchanged { OnErr result (bytes.new ≡ bytes.old) }
+    {
+        match read_pages(&self.cpu, &self.bus, address, bytes) {
+            Ok(()) => Ok(()),
+            Err(unreached) => match unreached {
+                Unreached::NoPlace => Err(Refused::Machine),
+                Unreached::Away(page) => Err(Refused::Away(page)),
+            },
+        }
+    }
+
+    /// The pages that `count` bytes from a virtual address on lie in, by the addresses that a debugger's reads lead to: the lower
+    /// number first, one page twice where they lie in one. None exactly where one of the bytes has no place in memory.
+    pub fn debug_pages(&self, address: u32, count: u32) -> Option<(Ppn, Ppn)>
+        requires some { 0 < count }
+        requires few { count ≤ 1024 }
+        ensures none { IsNone result ↔ (bytes_at (standing self.now) address count ≡ None) }
+        ensures reached { IfSome result (λ pages. (page : ℕ) →
+            (SomePlaceIn (standing self.now) address count page ↔ ((page ≡ pages.0) ⊎ (page ≡ pages.1)))) }
+        ensures order { IfSome result (λ pages. pages.0 ≤ pages.1) }
+        ensures there { IfSome result (λ pages. pages.1 < length self.now.bus.pages) }
+    {
+        pages_reached(&self.cpu, &self.bus, address, count)
+    }
+
+    /// Its memory as it stands has 4,096 bytes for each page. It does nothing: its clause says what every guest keeps.
+    pub fn is_sized(&self)
+        ensures { IsSized self.now }
+    {
+        whole(&self.bus);
+    }
+
+    /// Gives the guest up, and with it what its pages hold.
+    pub fn close(self) {
+        let Guest {
+            cpu,
+            bus,
+            image,
+            pages: _,
+            journal,
+        } = self;
+        drop(cpu);
+        drop(image);
+        drop(journal);
+        bus.close();
     }
 }

@@ -1,23 +1,30 @@
-//! A guest: a machine over its memory that keeps the log of what happened to it.
+//! A guest whose memory is pages, each in a frame of its own, in one that others read too, in a slot of the swap store, or nowhere yet.
 //!
-//! The type of `Guest` keeps that its machine is the run, from the boot of its image, of its own stored log, and that the
-//! machine accepted each item of it (`replay` states both). The crates above use `Guest::boot`, `Guest::log_room`,
-//! `Guest::need`, `Guest::step`, which answers `Need` exactly where the step would access a page that is lacking and else
-//! moves the machine and the log by one step, `Guest::input`, which does the same by any other item that the machine
-//! accepts, `Guest::debug_read`, which gives the bytes at virtual addresses exactly where each has a place in memory, and
-//! `Guest::view`.
+//! In clauses a `Guest` is a record, `GuestIs` (`specs/Guests.antt`): its view is the run of its log's items from its boot
+//! (`view_of`), on a memory of its own, and it is `Intact` where processor, devices and pages are the view's (`Shows`,
+//! `specs/Views.antt`), a page in a slot by its SHA-256. The calls say what they answer by the view, and keep it so: `Guest::step`,
+//! `Guest::run` and `Guest::need`, `Guest::input`, `Guest::debug_read`. What `step` hands back where it gave a page is `HandsBack`. The crates
+//! above move a guest's pages by `paging`, whose trait `Pages` it has; `laws` says that its view stays then, and that a guest that
+//! was booted is intact once its pages are loaded (`reaches` names them, `Guest::load_page` loads one).
 #![tactic(auto)]
 
 pub mod guest;
-pub mod image;
+pub mod laws;
+pub mod loading;
+pub mod pages;
+mod placed;
+pub mod progress;
 pub mod refused;
-pub mod runner;
-#[cfg(test)]
-mod tests;
+mod step;
+pub mod stepped;
 
 pub use guest::Guest;
 pub use guest_log::{Log, Stop};
-pub use image::share_image;
+pub use loading::{load_image_page, reaches};
 pub use loghead::{Head, Seat};
+pub use progress::{Pause, Progress};
 pub use refused::Refused;
-pub use runner::Runner;
+pub use stepped::Stepped;
+
+#[cfg(test)]
+mod tests;

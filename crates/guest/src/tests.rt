@@ -1,537 +1,763 @@
-//! Guests that run, are given items and are read. Programs and values are worked out by hand.
-ghost use Rattle.std.specs.Prelude.{◌≡◌, ◌<◌, false, IfOk};
+//! Guests whose pages are supplied as steps and items need them. An instruction is written as the word that the manual encodes
+//! it to, with its text beside; what it leads to is worked out by hand.
+ghost use Rattle.std.specs.Prelude.{◌≡◌, ◌<◌, ◌≤◌, ℕ, false, length};
+ghost use Rattle.elf32.specs.Images.{FitsPages};
 ghost use Rattle.items.specs.Items.{is_step};
+ghost use Rattle.physmap.specs.Holdings.{tickets_held};
 
-use crate::{Guest, Log, Refused, Seat, Stop, share_image};
-use elf32::Image;
-use flatvm::Reply;
-use items::{DebugRegister, Item, SeatNo, What, WriteBytes};
-use mips_step::{Ppn, StepOut};
+use crate::loading::{load_image_page, reaches};
+use crate::{Guest, Refused, Seat, Stepped};
+use elf32::{Image, Segment};
+use framepool::Pool;
+use frames::{Frame, FrameNo};
+use items::{Item, What, WriteBytes};
+use mips_instr::Reg;
+use mips_step::{Ppn, Why};
+use paging::{Pages, evict_in, supply_first, supply_swapped};
+use physmap::{PageKind, Returned};
+use sharetab::Shares;
 use std::alloc::Global;
+use std::fmt::Debug;
 use std::marker::Model;
 use std::process::Abort;
 use std::sync::Arc;
-use std::test::Fail;
+use swapstore::{MemStore, SlotBook, SwapStore};
 
-/// How many pages of memory each guest has.
-const PAGES: u32 = 2;
-
-/// Counts in register 1 to 5, and stores it at 80000100.
-const COUNTING: [u32; 7] = [
-    0x2421_0001, // addiu $1,$1,1
-    0x2421_0001,
-    0x2421_0001,
-    0x2421_0001,
-    0x2421_0001,
-    0x3c02_8000, // lui $2,0x8000
-    0xac41_0100, // sw $1,0x100($2)
-];
-
-/// Writes `k` to the console.
-const WRITING: [u32; 3] = [
-    0x3c01_bf00, // lui $1,0xbf00
-    0x2402_006b, // addiu $2,$0,0x6b
-    0xac22_0008, // sw $2,8($1)
-];
-
-/// Gives page 1 to the balloon.
-const GIVING: [u32; 3] = [
-    0x3c01_bf00, // lui $1,0xbf00
-    0x2402_0001, // addiu $2,$0,1
-    0xac22_0018, // sw $2,24($1)
-];
-
-/// What happens by an item.
-#[derive(Clone, Copy, Debug)]
-enum Input {
-    In(u8),
-    Drain,
-    Target(u32),
-    Poke(u8, u32),
-    Write(u32, &'static [u8]),
-    /// A write of so many bytes 5a.
-    Fill(u32, usize),
+/// Asserts one case. The tests share it, since each assertion in a function's own body makes its proof much longer.
+fn expect<T: PartialEq + Debug + Drop>(rt: &impl Abort, case: &'static str, got: T, wanted: T) {
+    assert!(rt; got == wanted, "{case}: {got:?}, not {wanted:?}");
 }
 
-/// What the guest answers.
-#[derive(Clone, Copy)]
-enum Answer {
-    Done,
-    Output(&'static [u8]),
-    Refused(Refused),
-}
-
-/// A guest with two of its seats.
-#[derive(Drop)]
-struct Seated {
+/// A guest with its first seat, the image that it boots, and four frames for its pages.
+struct Parts {
     guest: Guest,
-    runner: Seat,
-    console: Seat,
+    seat: Seat,
+    image: Arc<Image, Global>,
+    pool: Pool,
 }
 
-impl Model for Seated {
+impl Model for Parts {
     ghost use Rattle.std.specs.Prelude.{◌≡◌};
     ghost use Rattle.guest.specs.Guests.{GuestIs};
 
     ghost Value = { GuestIs };
 
-    ghost view = { λ s. s.guest };
+    ghost view = { λ p. p.guest };
 
-    ghost invariant = { λ s. (s.runner.head ≡ s.guest.head) × (s.console.head ≡ s.guest.head) };
+    ghost invariant = { λ p. p.seat.head ≡ p.guest.head };
 }
 
-/// Which of them.
-#[derive(Clone, Copy)]
-enum By {
-    Runner,
-    Console,
+/// The page of a number, which has to be there.
+fn page(rt: &impl Abort, guest: &Guest, number: u32) -> Ppn
+    ensures { result < length guest.now.bus.pages }
+{
+    if number >= 4 {
+        panic!(rt; "there is no page {number}");
+    }
+    if number >= guest.count() {
+        panic!(rt; "there is no page {number}");
+    }
+    Ppn::new(number)
 }
 
-impl Seated {
-    ghost use Rattle.std.specs.Prelude.{◌≡◌, ◌↔◌, false, OnOk};
-    ghost use Rattle.items.specs.Items.{is_step};
-    ghost use Rattle.guest_log.specs.Logs.{HasRoom};
+fn kind(rt: &impl Abort, guest: &Guest, number: u32) -> PageKind {
+    guest.kind(page(rt, guest, number))
+}
 
-    fn new(mut guest: Guest) -> Seated
-        requires { guest.seats ≡ 0 }
-    {
-        let runner = guest.seat();
-        let console = guest.seat();
-        Seated {
-            guest,
-            runner,
-            console,
+/// A page gets a frame of zeros.
+fn supply(rt: &impl Abort, alloc: Global, guest: &mut Guest, pool: &mut Pool, number: u32)
+    ensures guest { guest.new.head ≡ guest.old.head }
+    ensures tickets { (k : ℕ) → tickets_held k guest.new.bus.pages ≡ tickets_held k guest.old.bus.pages }
+{
+    let p = page(rt, guest, number);
+    match guest.kind(p) {
+        PageKind::Zero | PageKind::Given => {}
+        other => panic!(rt; "page {number} is {other:?}"),
+    }
+    match supply_first(alloc, guest, p, pool) {
+        Ok(()) => {}
+        Err(error) => panic!(rt; "page {number}: {error:?}"),
+    }
+}
+
+/// A page that has a frame gets its bytes of the image.
+fn load(rt: &impl Abort, guest: &mut Guest, image: &Image, number: u32)
+    ensures { guest.new.head ≡ guest.old.head }
+{
+    let p = page(rt, guest, number);
+    if !image.fits(guest.count()) {
+        panic!(rt; "the image has no room");
+    }
+    match guest.kind(p) {
+        PageKind::Private => guest.load_page(image, p),
+        other => panic!(rt; "page {number} is {other:?}"),
+    }
+}
+
+/// One step, for which the log has room.
+fn step(rt: &impl Abort, guest: &mut Guest, seat: &mut Seat) -> Stepped
+    requires { seat.old.head ≡ guest.old.head }
+    ensures { seat.new.head ≡ guest.new.head }
+{
+    if let Err(stop) = guest.log_room() {
+        panic!(rt; "no room in the log: {stop:?}");
+    }
+    match guest.step(seat) {
+        Stepped::Done(returned) => Stepped::Done(returned),
+        Stepped::Need(page, why) => Stepped::Need(page, why),
+    }
+}
+
+/// A frame that came back is free again. A number that is taken before and stays out shows that one is out.
+fn give(rt: &impl Abort, pool: &mut Pool, number: FrameNo) {
+    match pool.take() {
+        Some(other) => {
+            let _number = other.close();
+            pool.give(number);
         }
-    }
-
-    fn log(&self) -> &Log {
-        self.guest.log()
-    }
-
-    fn log_room(&mut self) -> Result<(), Stop>
-        ensures { OnOk result (HasRoom self.new.log) }
-    {
-        self.guest.log_room()
-    }
-
-    fn step(&mut self) -> StepOut
-        requires { HasRoom self.old.log }
-    {
-        self.guest.step(&mut self.runner)
-    }
-
-    fn input(&mut self, by: By, what: What) -> Result<Reply, Refused>
-        requires { is_step what ≡ false }
-    {
-        match by {
-            By::Runner => input_by(&mut self.guest, &mut self.runner, what),
-            By::Console => input_by(&mut self.guest, &mut self.console, what),
-        }
-    }
-
-    /// How much of the log the console's seat has seen once it has looked.
-    fn look(&mut self) -> Result<u64, Fail> {
-        let head = self.guest.head()?;
-        Ok(head.look(&mut self.console))
-    }
-
-    fn publish(&mut self) {
-        self.guest.publish();
-    }
-
-    fn settle(&mut self) {
-        self.guest.settle(&mut self.console);
-    }
-
-    fn observe(&self) -> Seen {
-        let view = self.guest.view();
-        Seen {
-            items: self.log().len(),
-            runs: self.log().runs(),
-            seen: (self.runner.seen_len(), self.console.seen_len()),
-            pc: view.cpu.pc(),
-            lines: view.devices.lines(),
-            output: view.devices.output_len(),
-        }
+        None => panic!(rt; "no frame is free beside {}", number.close()),
     }
 }
 
-/// What is seen of a guest, and how much of its log its seats have seen.
-#[derive(Clone, Copy, Debug, PartialEq, Eq)]
-struct Seen {
-    items: u64,
-    runs: u32,
-    seen: (u64, u64),
-    pc: u32,
-    lines: u8,
-    output: usize,
-}
-
-/// Items for a guest that has written `k`, with the answers, in order.
-static ITEMS: [(Input, Answer); 16] = [
-    (Input::In(0xff), Answer::Done),
-    (Input::Target(1), Answer::Done),
-    (Input::Drain, Answer::Output(b"k")),
-    (Input::Drain, Answer::Output(b"")),
-    (Input::Poke(2, 0x6f), Answer::Done),
-    (Input::Poke(37, 0x8000_0008), Answer::Done),
-    (Input::Write(0x8000_0200, &[1, 2, 3]), Answer::Done),
-    (Input::Write(0x8000_1ffe, &[4, 5]), Answer::Done),
-    // across the end of memory, and beside it
-    (
-        Input::Write(0x8000_1fff, &[6, 7]),
-        Answer::Refused(Refused::Machine),
-    ),
-    (
-        Input::Write(0x8000_2000, &[8]),
-        Answer::Refused(Refused::Machine),
-    ),
-    // where no entry of the TLB matches
-    (
-        Input::Write(0x0000_0200, &[8]),
-        Answer::Refused(Refused::Machine),
-    ),
-    (Input::Fill(0x8000_1000, 1024), Answer::Done),
-    (
-        Input::Fill(0x8000_0200, 1025),
-        Answer::Refused(Refused::Machine),
-    ),
-    // no byte needs no place
-    (Input::Write(0x8000_0200, &[]), Answer::Done),
-    (Input::Write(0x8000_2000, &[]), Answer::Done),
-    (Input::Write(0x0000_0200, &[]), Answer::Done),
-];
-
-/// Virtual addresses and the bytes from there on after those items.
-static BYTES: [(u32, &[u8]); 5] = [
-    (0x8000_0008, &[0x08, 0x00, 0x22, 0xac]),
-    (0x8000_01ff, &[0, 1, 2, 3, 0]),
-    (0x8000_0fff, &[0, 0x5a]),
-    (0x8000_13ff, &[0x5a, 0]),
-    (0x8000_1ffd, &[0, 4, 5]),
-];
-
-/// Gives the guest an item of the seat.
-fn input_by(guest: &mut Guest, seat: &mut Seat, what: What) -> Result<Reply, Refused>
+/// Why what happens is refused.
+fn refusal(guest: &mut Guest, seat: &mut Seat, what: What) -> Option<Refused>
     requires head { seat.old.head ≡ guest.old.head }
     requires input { is_step what ≡ false }
-    ensures guest { guest.new.head ≡ guest.old.head }
-    ensures seat { seat.new.head ≡ seat.old.head }
+    ensures seat { seat.new.head ≡ guest.new.head }
+    ensures tickets { (k : ℕ) → tickets_held k guest.new.bus.pages ≡ tickets_held k guest.old.bus.pages }
 {
     let item = Item {
         seat: seat.number(),
         what,
     };
-    guest.input(item, seat)
+    match guest.input(item, seat) {
+        Ok(_reply) => None,
+        Err(refused) => Some(refused),
+    }
 }
 
-fn image_of<R: AllocGlobal + Abort>(rt: &R, words: &[u32]) -> Result<Image, Fail> {
-    let mut bytes = Vec::new(rt.alloc());
+/// How much of the log another seat sees, which is new, then looks, and is then settled.
+fn another_seat(rt: &impl Abort, guest: &mut Guest) -> [u64; 3]
+    ensures { guest.new.head ≡ guest.old.head }
+{
+    if guest.seats() >= 4 {
+        panic!(rt; "no seat is left");
+    }
+    let mut other = guest.seat();
+    let new = other.seen_len();
+    guest.publish();
+    let looked = match guest.head() {
+        Ok(head) => head.look(&mut other),
+        Err(_) => panic!(rt; "no more owners"),
+    };
+    guest.settle(&mut other);
+    [new, looked, other.seen_len()]
+}
+
+/// Two slots of a store in memory, and no shared frame.
+struct Swap {
+    slots: SlotBook,
+    store: MemStore,
+    shares: Shares,
+}
+
+/// A page leaves its frame, which comes free, for the lowest slot that is free.
+fn evict(rt: &impl Abort, guest: &mut Guest, swap: &mut Swap, number: u32) -> FrameNo
+    requires { (k : ℕ) → tickets_held k guest.old.bus.pages ≡ 0 }
+    ensures { guest.new.head ≡ guest.old.head }
+{
+    let p = page(rt, guest, number);
+    if !guest.kind(p).is_resident() {
+        panic!(rt; "page {number} is in no frame");
+    }
+    let Some(slot) = swap.slots.take() else {
+        panic!(rt; "no slot is free");
+    };
+    if slot.number() >= swap.store.slot_count() {
+        panic!(rt; "no slot {}", slot.close());
+    }
+    match evict_in(guest, p, slot, &mut swap.store, &mut swap.shares) {
+        Ok(Some(no)) => no,
+        Ok(None) => panic!(rt; "no frame came free"),
+        Err(slot) => panic!(rt; "slot {} is not written", slot.close()),
+    }
+}
+
+/// A page comes back from its slot.
+fn restore(
+    rt: &impl Abort,
+    alloc: Global,
+    guest: &mut Guest,
+    pool: &mut Pool,
+    swap: &mut Swap,
+    number: u32,
+)
+    ensures { guest.new.head ≡ guest.old.head }
+{
+    let p = page(rt, guest, number);
+    match guest.kind(p) {
+        PageKind::Swapped => {}
+        other => panic!(rt; "page {number} is {other:?}"),
+    }
+    let (slot, _digest) = guest.away(p);
+    if slot >= swap.store.slot_count() {
+        panic!(rt; "no slot {slot}");
+    }
+    if swap.slots.used() == 0 {
+        panic!(rt; "no slot is used");
+    }
+    match supply_swapped(alloc, guest, p, pool, &mut swap.slots, &mut swap.store) {
+        Ok(()) => {}
+        Err(error) => panic!(rt; "page {number}: {error:?}"),
+    }
+}
+
+impl Parts {
+    ghost use Rattle.std.specs.Prelude.{◌≡◌, ◌<◌, false};
+    ghost use Rattle.items.specs.Items.{is_step};
+
+    fn supply(&mut self, rt: &impl Abort, alloc: Global, number: u32) {
+        supply(rt, alloc, &mut self.guest, &mut self.pool, number);
+    }
+
+    fn load(&mut self, rt: &impl Abort, number: u32) {
+        load(rt, &mut self.guest, &self.image, number);
+    }
+
+    fn step(&mut self, rt: &impl Abort) -> Stepped {
+        step(rt, &mut self.guest, &mut self.seat)
+    }
+
+    fn need(&self) -> Option<(Ppn, Why)> {
+        self.guest.need()
+    }
+
+    fn kind(&self, rt: &impl Abort, number: u32) -> PageKind {
+        kind(rt, &self.guest, number)
+    }
+
+    fn log_len(&self) -> u64 {
+        self.guest.log().len()
+    }
+
+    fn free(&self) -> u32 {
+        self.pool.free()
+    }
+
+    fn give(&mut self, rt: &impl Abort, frame: Frame) {
+        give(rt, &mut self.pool, frame.strip());
+    }
+
+    fn restore(&mut self, rt: &impl Abort, alloc: Global, swap: &mut Swap, number: u32) {
+        restore(rt, alloc, &mut self.guest, &mut self.pool, swap, number);
+    }
+
+    fn another_seat(&mut self, rt: &impl Abort) -> [u64; 3] {
+        another_seat(rt, &mut self.guest)
+    }
+
+    fn reg(&self, number: u32) -> u32
+        requires { number < 32 }
+    {
+        self.guest.view().cpu.reg(Reg::new(number))
+    }
+
+    fn refusal(&mut self, what: What) -> Option<Refused>
+        requires { is_step what ≡ false }
+    {
+        refusal(&mut self.guest, &mut self.seat, what)
+    }
+
+    /// What is answered to a read of two bytes, and those bytes after it.
+    fn two_bytes(&self, address: u32) -> (Result<(), Refused>, [u8; 2]) {
+        let mut bytes = [0xa5; 2];
+        let answer = self.guest.debug_read(address, &mut bytes);
+        (answer, bytes)
+    }
+
+    /// The pages that so many bytes lie in.
+    fn pages_of(&self, address: u32, count: u32) -> Option<(u32, u32)>
+        requires some { 0 < count }
+        requires few { count ≤ 1024 }
+    {
+        let (first, last) = self.guest.debug_pages(address, count)?;
+        Some((first.number(), last.number()))
+    }
+
+    fn close(self) {
+        let Parts {
+            guest,
+            seat,
+            image,
+            pool,
+        } = self;
+        guest.close();
+        drop(seat);
+        drop(image);
+        pool.close();
+    }
+}
+
+/// The bytes of words, in order.
+fn bytes_of(rt: &impl Abort, alloc: Global, words: &[u32]) -> Vec<u8> {
+    let mut bytes = Vec::new(alloc);
     for word in words {
-        bytes.extend_from_slice(&word.to_le_bytes())?;
+        if bytes.extend_from_slice(&word.to_le_bytes()).is_err() {
+            panic!(rt; "no memory for the words");
+        }
     }
-    assert!(rt; bytes.len() <= 4096);
-    Ok(Image::raw(rt.alloc(), bytes)?)
+    bytes
 }
 
-fn boot_shared<R: AllocGlobal + Abort>(
-    rt: &R,
-    image: Arc<Image, Global>,
-    log_runs: u32,
-) -> Result<Seated, Fail> {
-    assert!(rt; image.fits(PAGES));
-    Ok(Seated::new(Guest::boot(rt.alloc(), image, PAGES, log_runs)?))
-}
-
-fn boot<R: AllocGlobal + Abort>(rt: &R, words: &[u32], log_runs: u32) -> Result<Seated, Fail> {
-    let image = share_image(rt.alloc(), image_of(rt, words)?)?;
-    boot_shared(rt, image, log_runs)
-}
-
-/// Makes steps, before each of which the room for it is made.
-fn make_steps(rt: &impl Abort, seated: &mut Seated, count: usize) -> Result<(), Fail> {
-    for _ in 0..count {
-        let before = seated.observe();
-        let room = seated.log_room();
-        assert_eq!(rt; seated.observe(), before);
-        room?;
-        assert_eq!(rt; seated.guest.need(), None);
-        assert_eq!(rt; seated.step(), StepOut::Done);
+/// An image of these words from 80000000 on.
+fn image_of(rt: &impl Abort, alloc: Global, words: &[u32]) -> Image {
+    let bytes = bytes_of(rt, alloc, words);
+    if bytes.len() > 4096 {
+        panic!(rt; "too many words");
     }
-    Ok(())
+    match Image::raw(alloc, bytes) {
+        Ok(image) => image,
+        Err(_) => panic!(rt; "no memory for the image"),
+    }
 }
 
-fn write(rt: &impl Abort, address: u32, bytes: Vec<u8>) -> What
+fn shared(rt: &impl Abort, alloc: Global, image: Image) -> Arc<Image, Global> {
+    match Arc::new(alloc, image) {
+        Ok(image) => image,
+        Err(_) => panic!(rt; "no memory for the image"),
+    }
+}
+
+fn owner(rt: &impl Abort, image: &Arc<Image, Global>) -> Arc<Image, Global> {
+    match image.clone() {
+        Ok(image) => image,
+        Err(_) => panic!(rt; "no more owners"),
+    }
+}
+
+/// A guest of four pages, whose log has at most eight runs.
+fn booted(rt: &impl Abort, alloc: Global, image: Arc<Image, Global>) -> Guest
+    ensures seats { result.seats ≡ 0 }
+    ensures tickets { (k : ℕ) → tickets_held k result.bus.pages ≡ 0 }
+{
+    if !image.fits(4) {
+        panic!(rt; "the image has no room");
+    }
+    match Guest::boot(alloc, image, 4, 8) {
+        Ok(guest) => guest,
+        Err(_) => panic!(rt; "no memory for the guest"),
+    }
+}
+
+fn new_pool(rt: &impl Abort, alloc: Global) -> Pool {
+    match Pool::new(alloc, 4) {
+        Ok(pool) => pool,
+        Err(_) => panic!(rt; "no memory for the pool"),
+    }
+}
+
+fn started(rt: &impl Abort, alloc: Global, words: &[u32]) -> Parts {
+    let image = shared(rt, alloc, image_of(rt, alloc, words));
+    let mut guest = booted(rt, alloc, owner(rt, &image));
+    let seat = guest.seat();
+    Parts {
+        guest,
+        seat,
+        image,
+        pool: new_pool(rt, alloc),
+    }
+}
+
+/// What a step that is made hands back.
+fn returned(rt: &impl Abort, stepped: Stepped) -> Returned {
+    match stepped {
+        Stepped::Done(returned) => returned,
+        Stepped::Need(_, why) => panic!(rt; "a page is needed: {why:?}"),
+    }
+}
+
+/// A step is made, and hands nothing back.
+fn made(rt: &impl Abort, stepped: Stepped) {
+    match returned(rt, stepped) {
+        Returned::Nothing => {}
+        other => {
+            other.close();
+            panic!(rt; "something came back")
+        }
+    }
+}
+
+/// A step is made, and hands a frame back.
+fn frame_back(rt: &impl Abort, stepped: Stepped) -> Frame {
+    match returned(rt, stepped) {
+        Returned::Frame(frame) => frame,
+        other => {
+            other.close();
+            panic!(rt; "no frame came back")
+        }
+    }
+}
+
+/// A step is not made, since it needs a page.
+fn needed(rt: &impl Abort, stepped: Stepped) -> (Ppn, Why) {
+    match stepped {
+        Stepped::Need(page, why) => (page, why),
+        Stepped::Done(returned) => {
+            returned.close();
+            panic!(rt; "the step is made")
+        }
+    }
+}
+
+/// The first touch of a page.
+fn first(number: u32) -> (Ppn, Why)
+    requires { number < 4 }
+{
+    (Ppn::new(number), Why::First)
+}
+
+/// A load from page 1.
+static LOADING: [u32; 2] = [
+    0x3c01_8000, // lui $1,0x8000
+    0x8c22_1000, // lw $2,0x1000($1)
+];
+
+/// The first step needs page 0, which gets its bytes.
+fn first_page(rt: &impl Abort, alloc: Global, parts: &mut Parts) {
+    expect(rt, "page 0", needed(rt, parts.step(rt)), first(0));
+    parts.supply(rt, alloc, 0);
+    parts.load(rt, 0);
+    made(rt, parts.step(rt));
+}
+
+/// The next step needs page 1, as is told before.
+fn second_page(rt: &impl Abort, alloc: Global, parts: &mut Parts) {
+    expect(rt, "told", parts.need(), Some(first(1)));
+    expect(rt, "page 1", needed(rt, parts.step(rt)), first(1));
+    parts.supply(rt, alloc, 1);
+    expect(rt, "no more", parts.need(), None);
+    made(rt, parts.step(rt));
+}
+
+#[test]
+fn a_step_needs_its_pages(rt: HostRuntime) {
+    let mut parts = started(&rt, rt.alloc(), &LOADING);
+    first_page(&rt, rt.alloc(), &mut parts);
+    expect(&rt, "one step", parts.log_len(), 1);
+    second_page(&rt, rt.alloc(), &mut parts);
+    expect(&rt, "two steps", parts.log_len(), 2);
+    parts.close();
+}
+
+/// It gives page 1 to the balloon.
+static GIVING: [u32; 3] = [
+    0x3c01_bf00, // lui $1,0xbf00
+    0x2402_0001, // addiu $2,$0,1
+    0xac22_0018, // sw $2,24($1): BAL_GIVE
+];
+
+/// Pages 0 and 1 have frames, and two steps are made.
+fn about_to_give(rt: &impl Abort, alloc: Global) -> Parts {
+    let mut parts = started(rt, alloc, &GIVING);
+    parts.supply(rt, alloc, 0);
+    parts.load(rt, 0);
+    parts.supply(rt, alloc, 1);
+    made(rt, parts.step(rt));
+    made(rt, parts.step(rt));
+    parts
+}
+
+#[test]
+fn a_page_that_was_given_hands_back_its_frame(rt: HostRuntime) {
+    let mut parts = about_to_give(&rt, rt.alloc());
+    expect(&rt, "its own", parts.kind(&rt, 1), PageKind::Private);
+    let frame = frame_back(&rt, parts.step(&rt));
+    expect(&rt, "given", parts.kind(&rt, 1), PageKind::Given);
+    expect(&rt, "free before", parts.free(), 2);
+    parts.give(&rt, frame);
+    // one stays out
+    expect(&rt, "free after", parts.free(), 2);
+    parts.close();
+}
+
+/// A write of two bytes.
+fn write(rt: &impl Abort, alloc: Global, address: u32) -> What
     ensures { is_step result ≡ false }
 {
-    assert!(rt; bytes.len() <= 65535);
-    What::Write {
-        address,
-        bytes: WriteBytes::from_vec(bytes),
-    }
-}
-
-fn what<R: AllocGlobal + Abort>(rt: &R, input: Input) -> Result<What, Fail>
-    ensures { IfOk result (λ what. is_step what ≡ false) }
-{
-    Ok(match input {
-        Input::In(byte) => What::In(byte),
-        Input::Drain => What::Drain,
-        Input::Target(pages) => What::Target(pages),
-        Input::Poke(number, value) => {
-            assert!(rt; number < 38);
-            What::Poke {
-                register: DebugRegister::new(number),
-                value,
+    match [7, 8].to_vec(alloc) {
+        Ok(bytes) => {
+            if bytes.len() > 65535 {
+                panic!(rt; "too many bytes");
+            }
+            What::Write {
+                address,
+                bytes: WriteBytes::from_vec(bytes),
             }
         }
-        Input::Write(address, bytes) => write(rt, address, bytes.to_vec(rt.alloc())?),
-        Input::Fill(address, count) => write(rt, address, vec![in rt.alloc(); 0x5a; count]?),
-    })
-}
-
-/// Gives the guest an item of a seat, whose answer has to be this one. An item that is refused changes nothing.
-fn give<R: AllocGlobal + Abort>(
-    rt: &R,
-    seated: &mut Seated,
-    by: By,
-    input: Input,
-    wanted: Answer,
-) -> Result<(), Fail> {
-    let before = seated.observe();
-    let answer = seated.input(by, what(rt, input)?);
-    let after = seated.observe();
-    match answer {
-        Ok(reply) => {
-            assert_eq!(rt; after.items, before.items.wrapping_add(1), "{input:?}");
-            assert_eq!(rt; after.runs, before.runs.wrapping_add(1), "{input:?}");
-            let seen = match by {
-                By::Runner => (after.items, before.seen.1),
-                By::Console => (before.seen.0, after.items),
-            };
-            assert_eq!(rt; after.seen, seen, "{input:?}");
-            check_reply(rt, input, reply, wanted);
-        }
-        Err(refused) => {
-            assert_eq!(rt; after, before, "{input:?}");
-            check_refusal(rt, input, refused, wanted)?;
-        }
+        Err(_) => panic!(rt; "no memory for the bytes"),
     }
-    Ok(())
 }
 
-fn check_reply(rt: &impl Abort, input: Input, reply: Reply, wanted: Answer) {
-    match wanted {
-        Answer::Done => assert!(rt; matches!(reply, Reply::Done), "{input:?}"),
-        Answer::Output(bytes) => match reply {
-            Reply::Output(output) => assert_eq!(rt; output.as_slice(), bytes, "{input:?}"),
-            Reply::Done => assert!(rt; false, "{input:?}"),
+fn away(number: u32) -> Option<Refused>
+    requires { number < 4 }
+{
+    Some(Refused::Away(Ppn::new(number)))
+}
+
+/// Pages 1 and 2 get frames, before which a write across their border is refused.
+fn written(rt: &impl Abort, alloc: Global, parts: &mut Parts) {
+    let answer = parts.refusal(write(rt, alloc, 0x8000_1fff));
+    expect(rt, "neither", answer, away(1));
+    parts.supply(rt, alloc, 1);
+    let answer = parts.refusal(write(rt, alloc, 0x8000_1fff));
+    expect(rt, "one", answer, away(2));
+    parts.supply(rt, alloc, 2);
+    let answer = parts.refusal(write(rt, alloc, 0x8000_1fff));
+    expect(rt, "both", answer, None);
+}
+
+/// A write past the end of memory is refused, whatever pages have frames.
+fn past_the_end(rt: &impl Abort, alloc: Global, parts: &mut Parts) {
+    let answer = parts.refusal(write(rt, alloc, 0x8000_4000));
+    expect(rt, "past the end", answer, Some(Refused::Machine));
+}
+
+/// What is read after that.
+fn read(rt: &impl Abort, parts: &Parts) {
+    let answer = parts.two_bytes(0x8000_1fff);
+    expect(rt, "written", answer, (Ok(()), [7, 8]));
+    let answer = parts.two_bytes(0x8000_2fff);
+    expect(rt, "beside", answer, (Ok(()), [0, 0]));
+    expect(rt, "untouched", parts.kind(rt, 3), PageKind::Zero);
+    let answer = parts.two_bytes(0xc000_0000);
+    expect(rt, "no place", answer, (Err(Refused::Machine), [0xa5; 2]));
+    let across = parts.pages_of(0x8000_1fff, 2);
+    expect(rt, "pages 1 and 2", across, Some((1, 2)));
+    let inside = parts.pages_of(0x8000_1000, 1024);
+    expect(rt, "page 1", inside, Some((1, 1)));
+    expect(rt, "no pages", parts.pages_of(0x8000_3fff, 2), None);
+}
+
+#[test]
+fn a_write_wants_its_pages(rt: HostRuntime) {
+    let mut parts = started(&rt, rt.alloc(), &LOADING);
+    written(&rt, rt.alloc(), &mut parts);
+    past_the_end(&rt, rt.alloc(), &mut parts);
+    read(&rt, &parts);
+    expect(&rt, "one item", parts.log_len(), 1);
+    parts.close();
+}
+
+#[test]
+fn another_seat_sees_the_log(rt: HostRuntime) {
+    let mut parts = started(&rt, rt.alloc(), &LOADING);
+    expect(&rt, "input", parts.refusal(What::In(7)), None);
+    expect(&rt, "one item", parts.another_seat(&rt), [0, 1, 1]);
+    first_page(&rt, rt.alloc(), &mut parts);
+    expect(&rt, "a step too", parts.another_seat(&rt), [0, 2, 2]);
+    parts.close();
+}
+
+/// Bytes and zeros from an address on.
+fn segment(rt: &impl Abort, alloc: Global, address: u32, bytes: &[u8], size: u32) -> Segment {
+    match bytes.to_vec(alloc) {
+        Ok(bytes) => Segment {
+            address,
+            bytes,
+            size,
         },
-        Answer::Refused(_) => assert!(rt; false, "{input:?}"),
+        Err(_) => panic!(rt; "no memory for the bytes"),
     }
 }
 
-/// Want of memory ends the test.
-fn check_refusal(
+fn add(rt: &impl Abort, segments: &mut Vec<Segment>, segment: Segment) {
+    if segments.push(segment).is_err() {
+        panic!(rt; "no memory for the segments");
+    }
+}
+
+/// Three bytes and three zeros from the last two bytes of page 0 on, and a byte with 4,096 zeros from the start of page 3 on.
+fn two_segments(rt: &impl Abort, alloc: Global) -> Image {
+    let mut segments = Vec::new(alloc);
+    let low = segment(rt, alloc, 0x8000_0ffe, &[1, 2, 3], 6);
+    add(rt, &mut segments, low);
+    let high = segment(rt, alloc, 0x8000_3000, &[4], 4097);
+    add(rt, &mut segments, high);
+    Image {
+        entry: 0x8000_0000,
+        segments,
+    }
+}
+
+/// The image fits a memory of eight pages.
+fn fits_eight(rt: &impl Abort, image: &Image)
+    ensures { FitsPages image.now 8 }
+{
+    if !image.fits(8) {
+        panic!(rt; "the image has no room");
+    }
+}
+
+/// The image fits some memory.
+fn fitting(rt: &impl Abort, image: &Image)
+    ensures { (pages : ℕ) × FitsPages image.now pages }
+{
+    fits_eight(rt, image);
+}
+
+/// Whether the image reaches a page of eight.
+fn is_reached(rt: &impl Abort, image: &Image, number: u32) -> bool {
+    if number >= 8 {
+        panic!(rt; "there is no page {number}");
+    }
+    fitting(rt, image);
+    reaches(image, Ppn::new(number))
+}
+
+/// The first and the last two bytes of a page, and how many are not 0.
+fn outer_bytes(page: &[u8; 4096]) -> ([u8; 2], [u8; 2], u32) {
+    let mut count = 0u32;
+    for byte in page {
+        if *byte != 0 {
+            count = count.wrapping_add(1);
+        }
+    }
+    ([page[0], page[1]], [page[4094], page[4095]], count)
+}
+
+/// The same of a page as the image boots.
+fn loaded(rt: &impl Abort, image: &Image, number: u32) -> ([u8; 2], [u8; 2], u32) {
+    if number >= 8 {
+        panic!(rt; "there is no page {number}");
+    }
+    fitting(rt, image);
+    let mut page = [0xa5; 4096];
+    load_image_page(image, Ppn::new(number), &mut page);
+    outer_bytes(&page)
+}
+
+/// Whether each page from 0 on is reached, its first and last two bytes, and how many are not 0.
+static IMAGE_PAGES: [(bool, ([u8; 2], [u8; 2], u32)); 6] = [
+    (true, ([0, 0], [1, 2], 2)),
+    (true, ([3, 0], [0, 0], 1)),
+    (false, ([0, 0], [0, 0], 0)),
+    (true, ([4, 0], [0, 0], 1)),
+    (true, ([0, 0], [0, 0], 0)),
+    (false, ([0, 0], [0, 0], 0)),
+];
+
+fn check_page(
     rt: &impl Abort,
-    input: Input,
-    refused: Refused,
-    wanted: Answer,
-) -> Result<(), Fail> {
-    if refused == Refused::Stop(Stop::Memory) {
-        Err(refused)?;
+    image: &Image,
+    number: u32,
+    wanted: (bool, ([u8; 2], [u8; 2], u32)),
+) {
+    let got = (is_reached(rt, image, number), loaded(rt, image, number));
+    assert!(rt; got == wanted, "page {number}: {got:?}, not {wanted:?}");
+}
+
+#[test]
+fn bytes_of_an_image_page(rt: HostRuntime) {
+    let image = two_segments(&rt, rt.alloc());
+    for k in 0..6 {
+        check_page(&rt, &image, k as u32, IMAGE_PAGES[k]);
     }
-    match wanted {
-        Answer::Refused(wanted) => assert_eq!(rt; refused, wanted, "{input:?}"),
-        Answer::Done | Answer::Output(_) => assert!(rt; false, "{input:?}"),
+}
+
+fn new_slots(rt: &impl Abort, alloc: Global) -> SlotBook {
+    match SlotBook::new(alloc, 2) {
+        Ok(slots) => slots,
+        Err(_) => panic!(rt; "no memory for the slots"),
     }
-    Ok(())
 }
 
-fn check_bytes<R: AllocGlobal + Abort>(
-    rt: &R,
-    guest: &Guest,
-    address: u32,
-    bytes: &[u8],
-) -> Result<(), Fail> {
-    let mut buffer = vec![in rt.alloc(); 0xa5; bytes.len()]?;
-    let answer = guest.debug_read(address, &mut buffer);
-    assert_eq!(rt;
-        (answer, buffer.as_slice()),
-        (Ok(()), bytes),
-        "{address:08x}"
-    );
-    Ok(())
-}
-
-fn check_seen(rt: &impl Abort, seated: &Seated, wanted: Seen) {
-    assert_eq!(rt; seated.observe(), wanted);
-}
-
-fn check_pc(rt: &impl Abort, guest: &Guest, pc: u32) {
-    assert_eq!(rt; guest.view().cpu.pc(), pc);
-}
-
-fn check_numbers(rt: &impl Abort, seated: &Seated) {
-    assert_eq!(rt; seated.runner.number(), SeatNo::runner());
-    assert_eq!(rt; seated.console.number(), SeatNo::new(1));
-    assert_eq!(rt; seated.guest.seats(), 2);
-}
-
-#[test]
-fn steps_and_an_item_are_logged(rt: HostRuntime) -> Result<(), Fail> {
-    let mut seated = boot(&rt, &COUNTING, 4)?;
-    check_numbers(&rt, &seated);
-    make_steps(&rt, &mut seated, 3)?;
-    give(&rt, &mut seated, By::Console, Input::In(0x41), Answer::Done)?;
-    make_steps(&rt, &mut seated, 2)?;
-    seated.guest.replay();
-    let after = Seen {
-        items: 6,
-        runs: 3,
-        seen: (6, 4),
-        pc: 0x8000_0014,
-        lines: 4,
-        output: 0,
-    };
-    check_seen(&rt, &seated, after);
-    Ok(())
-}
-
-/// A seat that looks sees the items of others at once, and steps once they are published or it is settled.
-#[test]
-fn seats_see_the_log(rt: HostRuntime) -> Result<(), Fail> {
-    let mut seated = boot(&rt, &COUNTING, 4)?;
-    give(&rt, &mut seated, By::Runner, Input::In(0x41), Answer::Done)?;
-    assert_eq!(rt; seated.look()?, 1);
-    make_steps(&rt, &mut seated, 3)?;
-    seated.publish();
-    assert_eq!(rt; seated.console.seen_len(), 1);
-    assert_eq!(rt; seated.look()?, 4);
-    make_steps(&rt, &mut seated, 1)?;
-    seated.settle();
-    assert_eq!(rt; seated.console.seen_len(), 5);
-    Ok(())
-}
-
-#[test]
-fn steps_move_the_machine(rt: HostRuntime) -> Result<(), Fail> {
-    let mut seated = boot(&rt, &COUNTING, 2)?;
-    check_bytes(&rt, &seated.guest, 0x8000_0100, &[0, 0, 0, 0])?;
-    make_steps(&rt, &mut seated, 7)?;
-    check_bytes(&rt, &seated.guest, 0x8000_0100, &[5, 0, 0, 0])
-}
-
-#[test]
-fn input_beyond_256_bytes_is_refused(rt: HostRuntime) -> Result<(), Fail> {
-    let mut seated = boot(&rt, &COUNTING, 300)?;
-    for byte in 0..=255 {
-        give(&rt, &mut seated, By::Console, Input::In(byte), Answer::Done)?;
+fn new_store(rt: &impl Abort, alloc: Global) -> MemStore {
+    match MemStore::new(alloc, 2) {
+        Ok(store) => store,
+        Err(_) => panic!(rt; "no memory for the store"),
     }
-    let refused = Answer::Refused(Refused::Machine);
-    give(&rt, &mut seated, By::Console, Input::In(7), refused)?;
-    assert_eq!(rt; seated.log().len(), 256);
-    Ok(())
 }
 
-/// Gives the guest each of the items.
-fn give_items<R: AllocGlobal + Abort>(rt: &R, seated: &mut Seated) -> Result<(), Fail> {
-    for (input, answer) in &ITEMS {
-        give(rt, seated, By::Console, *input, *answer)?;
+fn new_shares(rt: &impl Abort, alloc: Global) -> Shares {
+    match Shares::new(alloc, 4) {
+        Ok(shares) => shares,
+        Err(_) => panic!(rt; "no memory for the table"),
     }
-    Ok(())
 }
 
-/// What is there after those items.
-fn check_items<R: AllocGlobal + Abort>(rt: &R, guest: &Guest) -> Result<(), Fail> {
-    assert_eq!(rt; guest.log().len(), 15);
-    assert_eq!(rt; guest.view().devices.target(), 1);
-    for (address, bytes) in &BYTES {
-        check_bytes(rt, guest, *address, *bytes)?;
+fn new_swap(rt: &impl Abort, alloc: Global) -> Swap {
+    Swap {
+        slots: new_slots(rt, alloc),
+        store: new_store(rt, alloc),
+        shares: new_shares(rt, alloc),
     }
-    Ok(())
 }
 
-#[test]
-fn items_are_answered(rt: HostRuntime) -> Result<(), Fail> {
-    let mut seated = boot(&rt, &WRITING, 100)?;
-    make_steps(&rt, &mut seated, 3)?;
-    give_items(&rt, &mut seated)?;
-    check_items(&rt, &seated.guest)
+fn close_swap(swap: Swap) {
+    let Swap {
+        slots,
+        store: _,
+        shares,
+    } = swap;
+    slots.close();
+    shares.close();
 }
 
-/// The debugger's writes of a register and of PC count: the store that they lead to prints what was written.
-#[test]
-fn written_registers_are_used(rt: HostRuntime) -> Result<(), Fail> {
-    let mut seated = boot(&rt, &WRITING, 100)?;
-    make_steps(&rt, &mut seated, 3)?;
-    give_items(&rt, &mut seated)?;
-    make_steps(&rt, &mut seated, 1)?;
-    check_pc(&rt, &seated.guest, 0x8000_000c);
-    give(
-        &rt,
-        &mut seated,
-        By::Runner,
-        Input::Drain,
-        Answer::Output(b"o"),
-    )
+/// Page 1 gets two bytes, and leaves for a slot.
+fn leave(
+    rt: &impl Abort,
+    alloc: Global,
+    guest: &mut Guest,
+    seat: &mut Seat,
+    pool: &mut Pool,
+    swap: &mut Swap,
+)
+    requires head { seat.old.head ≡ guest.old.head }
+    requires tickets { (k : ℕ) → tickets_held k guest.old.bus.pages ≡ 0 }
+    ensures { seat.new.head ≡ guest.new.head }
+{
+    supply(rt, alloc, guest, pool, 1);
+    let answer = refusal(guest, seat, write(rt, alloc, 0x8000_1000));
+    expect(rt, "written", answer, None);
+    let number = evict(rt, guest, swap, 1);
+    give(rt, pool, number);
 }
 
-#[test]
-fn reads_with_no_place_are_refused(rt: HostRuntime) -> Result<(), Fail> {
-    let seated = boot(&rt, &COUNTING, 1)?;
-    for address in [0x8000_1fff, 0x8000_2000, 0x7fff_ffff, 0x0000_0000] {
-        let mut bytes = [0xa5; 2];
-        let answer = seated.guest.debug_read(address, &mut bytes);
-        assert_eq!(rt;
-            (answer, bytes),
-            (Err(Refused::Machine), [0xa5; 2]),
-            "{address:08x}"
-        );
+/// Page 1 begins with two bytes, and is in a slot.
+fn swapped(rt: &impl Abort, alloc: Global, swap: &mut Swap) -> Parts {
+    let image = shared(rt, alloc, image_of(rt, alloc, &LOADING));
+    let mut guest = booted(rt, alloc, owner(rt, &image));
+    let mut seat = guest.seat();
+    let mut pool = new_pool(rt, alloc);
+    leave(rt, alloc, &mut guest, &mut seat, &mut pool, swap);
+    Parts {
+        guest,
+        seat,
+        image,
+        pool,
     }
-    Ok(())
+}
+
+/// A step that loads from page 1 needs it, until it is back.
+fn loads(rt: &impl Abort, alloc: Global, parts: &mut Parts, swap: &mut Swap) {
+    first_page(rt, alloc, parts);
+    let (page, why) = needed(rt, parts.step(rt));
+    expect(rt, "needed", (page.number(), why), (1, Why::Swapped));
+    parts.restore(rt, alloc, swap, 1);
+    made(rt, parts.step(rt));
+    expect(rt, "its word", parts.reg(2), 0x0807);
 }
 
 #[test]
-fn full_log_is_answered(rt: HostRuntime) -> Result<(), Fail> {
-    let mut seated = boot(&rt, &COUNTING, 1)?;
-    make_steps(&rt, &mut seated, 1)?;
-    assert_eq!(rt; seated.log_room(), Err(Stop::LogFull));
-    let refused = Answer::Refused(Refused::Stop(Stop::LogFull));
-    give(&rt, &mut seated, By::Runner, Input::In(0x41), refused)
-}
-
-/// A write of one guest is not seen by the other.
-fn check_apart<R: AllocGlobal + Abort>(
-    rt: &R,
-    one: &mut Seated,
-    other: &Seated,
-) -> Result<(), Fail> {
-    let write = Input::Write(0x8000_0000, &[0xaa, 0xbb]);
-    give(rt, one, By::Runner, write, Answer::Done)?;
-    check_bytes(rt, &one.guest, 0x8000_0000, &[0xaa, 0xbb, 0x21, 0x24])?;
-    check_bytes(rt, &other.guest, 0x8000_0000, &[0x01, 0x00, 0x21, 0x24])?;
-    assert!(rt; other.log().is_empty());
-    Ok(())
-}
-
-#[test]
-fn guests_of_one_image_run_apart(rt: HostRuntime) -> Result<(), Fail> {
-    let image = share_image(rt.alloc(), image_of(&rt, &COUNTING)?)?;
-    let mut one = boot_shared(&rt, image.clone()?, 2)?;
-    let other = boot_shared(&rt, image, 2)?;
-    check_apart(&rt, &mut one, &other)
-}
-
-#[test]
-fn given_page_is_read_as_zeros(rt: HostRuntime) -> Result<(), Fail> {
-    let mut seated = boot(&rt, &GIVING, 4)?;
-    let write = Input::Write(0x8000_0fff, &[7, 8, 9]);
-    give(&rt, &mut seated, By::Runner, write, Answer::Done)?;
-    check_bytes(&rt, &seated.guest, 0x8000_0fff, &[7, 8, 9])?;
-    make_steps(&rt, &mut seated, 3)?;
-    check_bytes(&rt, &seated.guest, 0x8000_0fff, &[7, 0, 0])?;
-    assert_eq!(rt; seated.guest.view().devices.given(), 1);
-    assert!(rt; seated.guest.view().devices.is_given(Ppn::new(1)));
-    Ok(())
+fn a_page_in_a_slot_is_away(rt: HostRuntime) {
+    let mut swap = new_swap(&rt, rt.alloc());
+    let mut parts = swapped(&rt, rt.alloc(), &mut swap);
+    let answer = parts.two_bytes(0x8000_1000);
+    let refused = Err(Refused::Away(Ppn::new(1)));
+    expect(&rt, "away", answer, (refused, [0xa5; 2]));
+    loads(&rt, rt.alloc(), &mut parts, &mut swap);
+    let answer = parts.two_bytes(0x8000_1000);
+    expect(&rt, "back", answer, (Ok(()), [7, 8]));
+    parts.close();
+    close_swap(swap);
 }

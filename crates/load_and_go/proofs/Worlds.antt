@@ -7,7 +7,7 @@ use Rattle.masm.specs.Assembly.{Means}
 use Rattle.mips_step.specs.Step.{Machine}
 use Rattle.flatvm.specs.Boot.{boot_machine}
 use Rattle.flatvm.specs.Items.{run}
-use Rattle.paged_guest.specs.Guests.{view_of}
+use Rattle.guest.specs.Guests.{view_of}
 use Rattle.world.specs.declared.boot.NewGuest.{NewGuest}
 use Rattle.world.specs.declared.loading.BootError.{BootError}
 use Rattle.world.specs.declared.loading.BootError.TheVariants as error

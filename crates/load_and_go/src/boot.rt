@@ -7,7 +7,7 @@ ghost use Rattle.masm.specs.Assembly.{Means};
 ghost use Rattle.flatvm.specs.Boot.{boot_machine};
 ghost use Rattle.sharetab.specs.Maps.{at_page};
 ghost use Rattle.sharetab.specs.declared.guest_page.GuestPage.{GuestPage};
-ghost use Rattle.paged_guest.specs.Guests.{view_of};
+ghost use Rattle.guest.specs.Guests.{view_of};
 ghost use Rattle.world.specs.Boots.{AreWithinLimits, HoldsImage, AreBooted};
 ghost use Rattle.world.specs.Tenants.{TenantIs};
 ghost use Rattle.world.specs.declared.boot.NewGuest as boot;

@@ -3,7 +3,7 @@ use Rattle.std.proofs.Common.{◌≡◌, refl, sym, ap, subst, ◌∙◌, arith,
 use Rattle.std.proofs.lemmas.List.{append-nil}
 use Rattle.items.specs.declared.item.Item.{Item}
 use Rattle.mips_step.specs.Step.{Machine}
-use Rattle.paged_guest.specs.Guests.{view_of}
+use Rattle.guest.specs.Guests.{view_of}
 use Rattle.dump.specs.Steps.{step_count}
 use Rattle.script.specs.declared.event.Event.{Event}
 use Rattle.script.specs.declared.event.Event.TheVariants as event

@@ -9,7 +9,7 @@ use Rattle.physmap.specs.Pages.{kind_at}
 use Rattle.sharetab.specs.Entries.{entry_count}
 use Rattle.paging.specs.Scans.{Answered}
 use Rattle.paged_bus.specs.Lacking.{lacks_in}
-use Rattle.paged_guest.specs.Guests.{view_of}
+use Rattle.guest.specs.Guests.{view_of}
 use Rattle.script.specs.declared.event.Event.{Event}
 use Rattle.script.specs.declared.event.Event.TheVariants as event
 use Rattle.world.specs.declared.books.BookCounts.{BookCounts}

@@ -31,11 +31,11 @@ use Rattle.paging.specs.Faith.{IsFaithful, Faithful, IsHeld, Kept}
 use Rattle.paging.specs.Supplies.{Supplies}
 use Rattle.paging.proofs.Booking.{below_one}
 use Rattle.paging.proofs.Exchanging.{frames_by_page, slots_by_page, tickets_by_page, same_bytes, new_at, other_at, same_length, reads_stay}
-use Rattle.paged_guest.specs.Guests.{GuestIs, view_of}
-use Rattle.paged_guest.specs.Loading.{segment_reaches, Reaches, IsBeside}
-use Rattle.paged_guest.specs.Views.{pages_seen}
-use Rattle.paged_guest.proofs.BootPages.{placed_size, beside_is_zeros}
-use Rattle.paged_guest.proofs.Keeping.{booted_intact}
+use Rattle.guest.specs.Guests.{GuestIs, view_of}
+use Rattle.guest.specs.Loading.{segment_reaches, Reaches, IsBeside}
+use Rattle.guest.specs.Views.{pages_seen}
+use Rattle.guest.proofs.BootPages.{placed_size, beside_is_zeros}
+use Rattle.guest.proofs.Keeping.{booted_intact}
 use Rattle.world.specs.Lent.{UsedStay}
 use Rattle.world.specs.Loading.{boot_page, AreUntouched, AreLoaded, IsLoaded, IsFrameFirst, FramesFirst}
 use Rattle.world.specs.Tenants.{TenantIs, pages_in, beside_pages, IsKept}

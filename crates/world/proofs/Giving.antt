@@ -18,7 +18,7 @@ use Rattle.paging.specs.Returns.{IsOut, GoesBack}
 use Rattle.paging.proofs.Exchanging.{reads_by_page, same_bytes, ticket_held}
 use Rattle.paging.proofs.GoingBack.{given_conserves}
 use Rattle.paged_bus.specs.Buses.{pages_settled, page_returned}
-use Rattle.paged_guest.specs.Guests.{Gives}
+use Rattle.guest.specs.Guests.{Gives}
 use Rattle.world.specs.Lent.{Lent}
 
 -- ---- pages with one outline hold the same

@@ -14,9 +14,9 @@ use Rattle.physmap.specs.Pages.{page_at}
 use Rattle.physmap.specs.Holdings.{slot_in, slots_held}
 use Rattle.paging.specs.Faith.{IsHeld, Kept}
 use Rattle.paged_bus.specs.Buses.{PagedBusIs}
-use Rattle.paged_guest.specs.Guests.{view_of, without_pages, LogsOnly}
-use Rattle.paged_guest.specs.Views.{pages_seen, Shows}
-use Rattle.paged_guest.proofs.Keeping.{same_view, still_intact}
+use Rattle.guest.specs.Guests.{view_of, without_pages, LogsOnly}
+use Rattle.guest.specs.Views.{pages_seen, Shows}
+use Rattle.guest.proofs.Keeping.{same_view, still_intact}
 use Rattle.world.specs.Lent.{UsedStay}
 use Rattle.world.specs.Tenants.{TenantIs, pages_in, beside_pages, IsKept}
 

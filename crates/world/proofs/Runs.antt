@@ -22,7 +22,7 @@ use Rattle.physmap.specs.declared.page.PageKind.{PageKind}
 use Rattle.physmap.specs.declared.page.PageKind.TheVariants.{Private}
 use Rattle.physmap.specs.Pages.{kind_at}
 use Rattle.paged_bus.specs.Lacking.{lack_of, lacks_in}
-use Rattle.paged_guest.specs.Guests.{view_of}
+use Rattle.guest.specs.Guests.{view_of}
 use Rattle.world.specs.declared.running.End.{End}
 use Rattle.world.specs.declared.running.End.TheVariants as end
 use Rattle.world.specs.declared.running.RunStop.TheVariants as stop

@@ -12,7 +12,7 @@ use Rattle.flatvm.specs.declared.reply.Reply.{Reply}
 use Rattle.mips_step.specs.Answer.{need_of}
 use Rattle.mips_step.specs.declared.access.StepOut.{StepOut}
 use Rattle.mips_step.specs.declared.access.StepOut.TheVariants as out
-use Rattle.paged_guest.specs.declared.refused.Refused.{Refused}
+use Rattle.guest.specs.declared.refused.Refused.{Refused}
 use Rattle.sharetab.specs.Entries.{EntriesAre}
 use Rattle.mips_step.specs.Step.{Machine}
 use Rattle.physmap.specs.declared.page.Page.{Page}

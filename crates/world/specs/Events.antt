@@ -13,8 +13,8 @@ use Rattle.mips_step.specs.declared.access.StepOut.TheVariants as out
 use Rattle.mips_step.specs.Accesses.{Access, accesses}
 use Rattle.physmap.specs.declared.page.PageKind.TheVariants.{Private}
 use Rattle.physmap.specs.Pages.{kind_at}
-use Rattle.paged_guest.specs.Guests.{view_of}
-use Rattle.paged_guest.specs.declared.refused.Refused.{Refused}
+use Rattle.guest.specs.Guests.{view_of}
+use Rattle.guest.specs.declared.refused.Refused.{Refused}
 use Rattle.taxpolicy.specs.declared.stat.Stat.{Stat}
 use Rattle.world.specs.declared.events.Event.{Event}
 use Rattle.world.specs.declared.events.Event.TheVariants as event

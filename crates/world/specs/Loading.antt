@@ -9,7 +9,7 @@ use Rattle.physmap.specs.declared.page.Page.TheVariants.{Zero}
 use Rattle.physmap.specs.declared.page.PageKind.TheVariants.{Private, Swapped}
 use Rattle.physmap.specs.Pages.{page_at, kind_of, kind_at}
 use Rattle.paging.specs.Faith.{IsFaithful, IsHeld}
-use Rattle.paged_guest.specs.Loading.{IsBeside}
+use Rattle.guest.specs.Loading.{IsBeside}
 use Rattle.world.specs.declared.loading.BootError.{BootError}
 use Rattle.world.specs.declared.loading.BootError.TheVariants.{Limits, Segment, Room, Store, Memory}
 

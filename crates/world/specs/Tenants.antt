@@ -9,9 +9,9 @@ use Rattle.physmap.specs.declared.page.Page.{Page}
 use Rattle.physmap.specs.declared.page.Page.TheVariants.{Zero}
 use Rattle.physmap.specs.Pages.{page_at}
 use Rattle.paging.specs.Faith.{Kept}
-use Rattle.paged_guest.specs.Guests.{GuestIs, view_of, Intact, without_pages}
-use Rattle.paged_guest.specs.Loading.{IsBeside}
-use Rattle.paged_guest.specs.Views.{pages_seen}
+use Rattle.guest.specs.Guests.{GuestIs, view_of, Intact, without_pages}
+use Rattle.guest.specs.Loading.{IsBeside}
+use Rattle.guest.specs.Views.{pages_seen}
 
 -- what is seen of a guest in a world
 pub record TenantIs : Type 0 where

@@ -5,8 +5,8 @@ ghost use Rattle.world.specs.Debugging.{is_wanted};
 
 use crate::running::stop_of;
 use crate::{FaultError, RunStop, Spared, World};
+use guest::{Refused, Stop};
 use items::{Item, SeatNo, What, WriteBytes};
-use paged_guest::{Refused, Stop};
 use paging::Pages;
 use physmap::PageKind;
 use rand_core::Rng;
@@ -51,7 +51,7 @@ impl<S: SwapStore> World<S> {
     ghost use Rattle.flatvm.specs.Items.{accepts};
     ghost use Rattle.flatvm.specs.Replies.{bytes_at, SomePlaceIn};
     ghost use Rattle.physmap.specs.Pages.{page_at, kind_at};
-    ghost use Rattle.paged_guest.specs.Guests.{view_of, standing};
+    ghost use Rattle.guest.specs.Guests.{view_of, standing};
     ghost use Rattle.swapstore.specs.Failures.{one_more};
     ghost use Rattle.world.specs.Debugging.{IsReady, IfStopped, written_items, OnlyPagesAndRoom};
     ghost use Rattle.world.specs.Events.{IsForRoom, WhyStopped};

@@ -1,9 +1,9 @@
 //! What may happen in a world, and what is answered.
 use crate::{DebugError, EvictError, Evicted, FaultError, Ran};
 use flatvm::Reply;
+use guest::{Refused, Stop};
 use items::Item;
 use mips_step::StepOut;
-use paged_guest::{Refused, Stop};
 use paging::{Scan, SupplyError};
 use word32::Ppn;
 

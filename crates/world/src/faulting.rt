@@ -128,7 +128,7 @@ impl<S: SwapStore> World<S> {
     ghost use Rattle.mips_step.specs.Accesses.{accesses, first_lack};
     ghost use Rattle.mips_step.specs.declared.access.Why.{Why};
     ghost use Rattle.paged_bus.specs.Lacking.{lacks_in};
-    ghost use Rattle.paged_guest.specs.Guests.{view_of};
+    ghost use Rattle.guest.specs.Guests.{view_of};
     ghost use Rattle.physmap.specs.declared.page.PageKind.{PageKind};
     ghost use Rattle.physmap.specs.Pages.{kind_at};
     ghost use Rattle.swapstore.specs.Failures.{one_more};

@@ -4,8 +4,8 @@ ghost use Rattle.world.specs.Events.{stop_of, end_at, for_room};
 
 use crate::stepping::run_in;
 use crate::{FaultError, World};
+use guest::Stop;
 use mips_step::{StepOut, Why};
-use paged_guest::Stop;
 use rand_core::Rng;
 use std::alloc::Global;
 use swapstore::SwapStore;
@@ -97,7 +97,7 @@ impl<S: SwapStore> World<S> {
     ghost use Rattle.mips_step.specs.Accesses.{accesses, first_lack};
     ghost use Rattle.mips_step.specs.declared.access.Why.{Why};
     ghost use Rattle.paged_bus.specs.Lacking.{lacks_in};
-    ghost use Rattle.paged_guest.specs.Guests.{view_of};
+    ghost use Rattle.guest.specs.Guests.{view_of};
     ghost use Rattle.swapstore.specs.Failures.{one_more};
     ghost use Rattle.world.specs.Events.{steps_for, IfStop, IsForRoom, IsSupplied, WhyStopped};
     ghost use Rattle.guest_log.specs.declared.stop.Stop.{Stop};

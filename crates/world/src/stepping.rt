@@ -6,15 +6,15 @@ ghost use Rattle.mips_step.specs.Accesses.{accesses, first_lack};
 ghost use Rattle.mips_step.specs.Answer.{need_of};
 ghost use Rattle.paging.specs.Moves.{Conserves, Reads};
 ghost use Rattle.paged_bus.specs.Lacking.{lacks_in};
-ghost use Rattle.paged_guest.specs.Guests.{view_of};
+ghost use Rattle.guest.specs.Guests.{view_of};
 ghost use Rattle.world.specs.Lent.{Lent};
 ghost use Rattle.mips_step.specs.declared.access.Why.{Why};
 ghost use Rattle.world.specs.Tenants.{pages_in, IsKept, Stays, Adds, AddsSteps, NothingHappens};
 
 use crate::Tenant;
 use framepool::Pool;
+use guest::{Pause, Progress, Stepped, Stop};
 use mips_step::{StepOut, Why};
-use paged_guest::{Pause, Progress, Stepped, Stop};
 use paging::give_back;
 use sharetab::Shares;
 use swapstore::SlotBook;

@@ -4,9 +4,9 @@ ghost use Rattle.std.specs.Prelude.{◌≡◌};
 use elf32::Image;
 use flatvm::Reply;
 use frames::{Frame, SharePage, ShareTicket, SlotTicket};
+use guest::{Guest, Progress, Refused, Seat, Stepped, Stop};
 use items::Item;
 use mips_step::Why;
-use paged_guest::{Guest, Progress, Refused, Seat, Stepped, Stop};
 use paging::Pages;
 use physmap::{PageKind, Returned};
 use sharetab::Shares;
@@ -62,8 +62,8 @@ impl Tenant {
     ghost use Rattle.paged_bus.specs.Writes.{WritesTo};
     ghost use Rattle.mips_step.specs.declared.access.Why.{Why};
     ghost use Rattle.physmap.specs.declared.page.Returned.{Returned};
-    ghost use Rattle.paged_guest.specs.Guests.{view_of, standing, need_of, HandsBack, HasPaused};
-    ghost use Rattle.paged_guest.specs.declared.progress.Pause.{Pause};
+    ghost use Rattle.guest.specs.Guests.{view_of, standing, need_of, HandsBack, HasPaused};
+    ghost use Rattle.guest.specs.declared.progress.Pause.{Pause};
     ghost use Rattle.world.specs.Tenants.{TenantIs, pages_in, beside_pages, IsKept, Stays, Adds, AddsSteps, NothingHappens};
     ghost use Rattle.world.specs.Victims.{stat_of};
 

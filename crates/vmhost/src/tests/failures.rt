@@ -5,7 +5,7 @@ use commands::asm::{executable_of, write_file};
 use commands::dis::disassembly;
 use commands::image_file::{elf_image, raw_image};
 use commands::{Exec, Fault, Format, MachineKind};
-use paged_guest::Stop;
+use guest::Stop;
 use std::alloc::Global;
 use std::io;
 use std::io::{Read, Write};

@@ -1,6 +1,6 @@
 use Rattle.std.proofs.Common.{◌++◌, List, Err, get_or, ap, ◌∙◌}
 use Rattle.items.specs.declared.item.Item.{Item}
-use Rattle.paged_guest.specs.Guests.{standing}
+use Rattle.guest.specs.Guests.{standing}
 use Rattle.world.specs.Events.{input_items}
 use Rattle.world.specs.Worlds.{log_at}
 use Rattle.world.proofs.Victims.{some_tenant}

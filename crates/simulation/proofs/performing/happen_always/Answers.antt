@@ -1,6 +1,6 @@
 use Rattle.std.proofs.Common.{Err, get_or, ap, ◌∙◌}
 use Rattle.flatvm.specs.Items.{accepts}
-use Rattle.paged_guest.specs.Guests.{standing}
+use Rattle.guest.specs.Guests.{standing}
 use Rattle.world.proofs.Reached.{not_both}
 use Rattle.world.proofs.Victims.{some_tenant}
 use Rattle.simulation.proofs.performing.happen_always.Goals as goal

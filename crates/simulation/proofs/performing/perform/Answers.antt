@@ -1,5 +1,5 @@
 use Rattle.std.proofs.Common.{get_or, sym, subst}
-use Rattle.paged_guest.specs.Guests.{view_of}
+use Rattle.guest.specs.Guests.{view_of}
 use Rattle.dump.specs.Steps.{step_count}
 use Rattle.script.specs.declared.event.Event.{Event}
 use Rattle.simulation.specs.Effects.{Shows, guest_of}

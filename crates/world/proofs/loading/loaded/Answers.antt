@@ -7,8 +7,8 @@ use Rattle.physmap.specs.declared.page.Page.{Page}
 use Rattle.physmap.specs.declared.page.Page.TheVariants.{Zero}
 use Rattle.paging.specs.Moves.{Conserves, Reads}
 use Rattle.paged_bus.specs.Buses.{PagedBusIs}
-use Rattle.paged_guest.specs.Guests.{GuestIs}
-use Rattle.paged_guest.specs.Loading.{IsBeside}
+use Rattle.guest.specs.Guests.{GuestIs}
+use Rattle.guest.specs.Loading.{IsBeside}
 use Rattle.world.specs.Tenants.{TenantIs, pages_in}
 use Rattle.world.proofs.Booting.{untouched_reads, loaded_kept}
 use Rattle.world.proofs.loading.loaded.Goals as goal

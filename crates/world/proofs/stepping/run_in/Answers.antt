@@ -1,6 +1,6 @@
 use Rattle.std.proofs.Common.{◌∙◌, Option, Some, ap, subst}
-use Rattle.paged_guest.specs.declared.progress.Pause.{Pause}
-use Rattle.paged_guest.specs.Guests.{HasPaused}
+use Rattle.guest.specs.declared.progress.Pause.{Pause}
+use Rattle.guest.specs.Guests.{HasPaused}
 use Rattle.world.specs.Tenants.{pages_in}
 use Rattle.world.proofs.Giving.{outline_conserves, outline_reads, returned_out, given_moves, given_reads}
 use Rattle.world.proofs.stepping.run_in.Goals as goal

@@ -2,8 +2,8 @@ use Rattle.std.proofs.Common.{◌≡◌, subst}
 use Rattle.mips_step.specs.Accesses.{accesses, first_lack}
 use Rattle.mips_step.specs.Given.{step_given}
 use Rattle.paged_bus.specs.Lacking.{lacks_in}
-use Rattle.paged_guest.specs.declared.stepped.Stepped.{Stepped}
-use Rattle.paged_guest.specs.Guests.{need_of, standing, view_of, HandsBack}
+use Rattle.guest.specs.declared.stepped.Stepped.{Stepped}
+use Rattle.guest.specs.Guests.{need_of, standing, view_of, HandsBack}
 use Rattle.world.specs.Tenants.{pages_in}
 use Rattle.world.proofs.Giving.{returned_out, given_moves, given_reads}
 use Rattle.world.proofs.stepping.step_in.Goals as goal

@@ -1,5 +1,5 @@
 use Rattle.std.proofs.Common.{ap, ◌∙◌}
-use Rattle.paged_guest.specs.Guests.{GuestIs}
+use Rattle.guest.specs.Guests.{GuestIs}
 use Rattle.world.specs.Tenants.{TenantIs}
 use Rattle.commands.specs.Hosted.{HostedIs}
 use Rattle.commands.proofs.Hosting.{first_log, first_tenant}

@@ -3,7 +3,7 @@ use Rattle.std.proofs.lemmas.Bool.{cases_lt}
 use Rattle.items.specs.declared.item.Item.{Item}
 use Rattle.items.specs.Entries.{steps_of}
 use Rattle.items.proofs.Runs.{steps_of-none}
-use Rattle.paged_guest.specs.Guests.{GuestIs}
+use Rattle.guest.specs.Guests.{GuestIs}
 use Rattle.world.specs.Tenants.{TenantIs, IsKept}
 use Rattle.world.proofs.Keeping.{still_kept}
 use Rattle.world.proofs.tenant.Tenant.run.Goals as goal

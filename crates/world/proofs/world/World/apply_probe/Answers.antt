@@ -2,7 +2,7 @@ use Rattle.std.proofs.Common.{ℕ, ◌≡◌, Some, get_or, drop, length, sym, a
 use Rattle.std.proofs.lemmas.List.{take_at}
 use Rattle.flatvm.specs.Replies.{bytes_at}
 use Rattle.flatvm.proofs.Replies.{read_length}
-use Rattle.paged_guest.specs.Guests.{view_of}
+use Rattle.guest.specs.Guests.{view_of}
 use Rattle.world.proofs.Victims.{fault_logs, fault_boots}
 use Rattle.world.proofs.world.World.apply_probe.Goals as goal
 

@@ -1,6 +1,6 @@
 use Rattle.std.proofs.Common.{◌≡◌, Err, Some, None, get_or, length, refl, sym, ap, subst, ◌∙◌}
 use Rattle.flatvm.specs.Replies.{bytes_at, SomePlaceIn}
-use Rattle.paged_guest.specs.Guests.{GuestIs, standing, view_of, Intact}
+use Rattle.guest.specs.Guests.{GuestIs, standing, view_of, Intact}
 use Rattle.physmap.specs.declared.page.PageKind.TheVariants.{Swapped}
 use Rattle.physmap.specs.Pages.{kind_at}
 use Rattle.world.specs.Tenants.{TenantIs, pages_in, IsKept}

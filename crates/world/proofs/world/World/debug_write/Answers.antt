@@ -2,7 +2,7 @@ use Rattle.std.proofs.Common.{ℕ, ◌≡◌, ◌++◌, List, get_or, length, re
 use Rattle.std.proofs.lemmas.Result.{on_ok_weaker}
 use Rattle.items.specs.declared.item.Item.{Item}
 use Rattle.flatvm.specs.Replies.{SomePlaceIn}
-use Rattle.paged_guest.specs.Guests.{standing}
+use Rattle.guest.specs.Guests.{standing}
 use Rattle.guest_log.specs.Logs.{IsFull}
 use Rattle.world.specs.declared.debugging.DebugError.TheVariants.{Stop}
 use Rattle.world.specs.declared.running.RunStop.TheVariants.{LogFull}

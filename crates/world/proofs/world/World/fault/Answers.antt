@@ -2,7 +2,7 @@ use Rattle.std.proofs.Common.{ℕ, ◌≡◌, ◌<◌, get_or, length, sym, subs
 use Rattle.std.proofs.lemmas.Result.{on_ok_weaker}
 use Rattle.mips_step.specs.Accesses.{accesses, first_lack}
 use Rattle.paged_bus.specs.Lacking.{lacks_in}
-use Rattle.paged_guest.specs.Guests.{view_of}
+use Rattle.guest.specs.Guests.{view_of}
 use Rattle.physmap.specs.declared.page.PageKind.TheVariants.{Private}
 use Rattle.physmap.specs.Pages.{kind_at}
 use Rattle.world.specs.Tenants.{TenantIs, pages_in}

@@ -1,7 +1,7 @@
 use Rattle.std.proofs.Common.{◌≡◌, true, false, None, get_or, refl, sym, ap, subst, ◌∙◌}
 use Rattle.flatvm.specs.Replies.{bytes_at, SomePlaceIn}
-use Rattle.paged_guest.specs.Guests.{GuestIs, standing, without_pages, IsSized}
-use Rattle.paged_guest.proofs.Placing.{view_none, moved_none, moved_places}
+use Rattle.guest.specs.Guests.{GuestIs, standing, without_pages, IsSized}
+use Rattle.guest.proofs.Placing.{view_none, moved_none, moved_places}
 use Rattle.physmap.specs.Pages.{page_at}
 use Rattle.world.specs.Tenants.{TenantIs, pages_in, IsKept}
 use Rattle.world.proofs.Reached.{ready_unwanted}

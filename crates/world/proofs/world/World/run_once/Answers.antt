@@ -3,7 +3,7 @@ use Rattle.std.proofs.lemmas.List.{get_or-set_same}
 use Rattle.mips_step.specs.Accesses.{accesses, first_lack}
 use Rattle.mips_step.specs.declared.access.Why.{Why}
 use Rattle.paged_bus.specs.Lacking.{lacks_in}
-use Rattle.paged_guest.specs.Guests.{view_of}
+use Rattle.guest.specs.Guests.{view_of}
 use Rattle.world.specs.Tenants.{TenantIs, pages_in}
 use Rattle.world.specs.Worlds.{WorldIs}
 use Rattle.world.proofs.Worlds.{guest_inside, tenants_of, lent_of, kept_of, sound_after}

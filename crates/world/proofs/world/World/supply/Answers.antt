@@ -3,8 +3,8 @@ use Rattle.std.proofs.lemmas.Result.{on_err_weaker}
 use Rattle.paging.specs.declared.supply.SupplyError.TheVariants.{SwapDamaged}
 use Rattle.paging.specs.Supplies.{WhyAway}
 use Rattle.swapstore.specs.Failures.{one_more}
-use Rattle.paged_guest.specs.Guests.{view_of}
-use Rattle.paged_guest.specs.Views.{pages_seen}
+use Rattle.guest.specs.Guests.{view_of}
+use Rattle.guest.specs.Views.{pages_seen}
 use Rattle.world.proofs.Keeping.{moved_kept}
 use Rattle.world.specs.Worlds.{WorldIs, Sound}
 use Rattle.world.proofs.Worlds.{guest_inside, tenants_of, lent_of, kept_of, sound_after, same_guests, why_away}

@@ -2,7 +2,7 @@ use Rattle.std.proofs.Common.{◌≡◌, ℕ, ◌++◌, List, Err, get_or, sym, 
 use Rattle.items.specs.declared.item.Item.{Item}
 use Rattle.items.specs.declared.item.What.TheVariants.{Write}
 use Rattle.flatvm.specs.Items.{accepts}
-use Rattle.paged_guest.specs.Guests.{standing}
+use Rattle.guest.specs.Guests.{standing}
 use Rattle.physmap.specs.Pages.{kind_at}
 use Rattle.world.specs.Debugging.{write_of, written_items}
 use Rattle.world.specs.Events.{input_items}

@@ -1,0 +1,34 @@
+-- A guest whose pages have left their places.
+use Rattle.std.proofs.Common.{ℕ, ◌≡◌, ◌*◌, List, [], length, sym, ap, subst, ◌∙◌}
+use Rattle.items.specs.declared.item.Item.{Item}
+use Rattle.mips_step.specs.Step.{Machine}
+use Rattle.flatvm.specs.Items.{run, AllAccepted}
+use Rattle.paging.specs.Faith.{Faithful}
+use Rattle.guest.specs.Guests.{GuestIs, view_of, without_pages, Intact}
+use Rattle.guest.specs.Views.{pages_seen, Shows}
+
+pub same_view : (g g' : GuestIs) → without_pages g' ≡ without_pages g → view_of g' ≡ view_of g
+same_view g g' rest = ap view_of rest
+
+pub still_intact : (g g' : GuestIs) → without_pages g' ≡ without_pages g → length g'.bus.pages ≡ length g.bus.pages
+    → Intact g → Faithful (pages_seen (view_of g)) g'.bus.pages → Intact g'
+still_intact g g' rest count intact pages =
+    let view : view_of g' ≡ view_of g = same_view g g' rest in
+    record {
+      shows = record {
+        cpu = ap (λ (h : GuestIs). h.cpu) rest ∙ intact.shows.cpu ∙ sym (ap (λ (m : Machine). m.cpu) view);
+        devices = ap (λ (h : GuestIs). h.bus.devices) rest ∙ intact.shows.devices ∙ sym (ap (λ (m : Machine). m.world.devices) view);
+        size = ap (λ (m : Machine). length m.world.memory) view ∙ intact.shows.size ∙ sym (ap (λ (n : ℕ). n * 4096) count);
+        pages = subst (λ (m : Machine). Faithful (pages_seen m) g'.bus.pages) (sym view) pages;
+      };
+      accepted = subst (λ (h : GuestIs). AllAccepted h.log.items h.boot) (sym rest) intact.accepted;
+    }
+
+pub booted_intact : (g : GuestIs) → g.log.items ≡ [] → g.cpu ≡ g.boot.cpu → g.bus.devices ≡ g.boot.world.devices
+    → length g.boot.world.memory ≡ length g.bus.pages * 4096 → Faithful (pages_seen g.boot) g.bus.pages → Intact g
+booted_intact g none cpu devices size pages =
+    let view : view_of g ≡ g.boot = ap (λ (items : List Item). run items g.boot) none in
+    record {
+      shows = subst (λ (m : Machine). Shows m g.cpu g.bus) (sym view) (record { cpu = cpu; devices = devices; size = size; pages = pages });
+      accepted = subst (λ (items : List Item). AllAccepted items g.boot) (sym none) tt;
+    }

@@ -1,0 +1,66 @@
+use Rattle.std.proofs.Common.{sym, ap, subst, ◌∙◌}
+use Rattle.mips_step.specs.Bus.{Lacks}
+use Rattle.mips_step.specs.Accesses.{accesses, first_lack}
+use Rattle.mips_step.specs.Step.{Machine, in_world, step}
+use Rattle.paging.specs.Faith.{Kept}
+use Rattle.paged_bus.specs.Buses.{PagedBusIs, world_of}
+use Rattle.paged_bus.proofs.Same.{same_buses}
+use Rattle.guest.specs.Views.{pages_seen, Shows}
+use Rattle.guest.proofs.Showing.{settled_already, shows_after, kept_after}
+use Rattle.guest.proofs.Stepping.{same_lacks, step_happened, step_cpu}
+use Rattle.guest.proofs.step.step_or_pause.Goals as goal
+
+pub returns-in-None-clause-shows : goal.returns-in-None-clause-shows
+returns-in-None-clause-shows c = λ made m zeros s.
+    let cpu = c.args.cpu.now in
+    let b = c.args.bus.now in
+    let before = c.step.new.bus in
+    let told = c.in-Done.ensures in
+    let none = ap (λ (lacks : Lacks). first_lack lacks (accesses (in_world cpu (world_of b)))) (sym (same_lacks b.pages)) ∙ sym told.need in
+    let world = ap (λ (n : Machine). n.world) told.moves in
+    let h = step_happened m cpu b before c.whole.ensures c.requires.settled s zeros none world told.waiting c.whole-in-None.ensures told.kept in
+    let processor = step_cpu m cpu b before c.whole.ensures c.requires.settled s zeros none world told.waiting c.whole-in-None.ensures told.kept c.step.new.self (ap (λ (n : Machine). n.cpu) told.moves) in
+    subst (λ (bus : PagedBusIs). Shows (step m) c.step.new.self bus) (settled_already before (sym c.waiting.ensures ∙ c.in-None.is))
+    (shows_after b before m (step m) h cpu c.step.new.self processor s)
+
+pub returns-in-None-clause-kept : goal.returns-in-None-clause-kept
+returns-in-None-clause-kept c = λ made m zeros s held k.
+    let cpu = c.args.cpu.now in
+    let b = c.args.bus.now in
+    let before = c.step.new.bus in
+    let told = c.in-Done.ensures in
+    let none = ap (λ (lacks : Lacks). first_lack lacks (accesses (in_world cpu (world_of b)))) (sym (same_lacks b.pages)) ∙ sym told.need in
+    let world = ap (λ (n : Machine). n.world) told.moves in
+    let h = step_happened m cpu b before c.whole.ensures c.requires.settled s zeros none world told.waiting c.whole-in-None.ensures told.kept in
+    subst (λ (bus : PagedBusIs). Kept held (pages_seen (step m)) bus.pages) (settled_already before (sym c.waiting.ensures ∙ c.in-None.is))
+    (kept_after b before m (step m) h held k)
+
+pub returns-in-Some-clause-shows : goal.returns-in-Some-clause-shows
+returns-in-Some-clause-shows c = λ made m zeros s.
+    let cpu = c.args.cpu.now in
+    let b = c.args.bus.now in
+    let before = c.step.new.bus in
+    let told = c.in-Done.ensures in
+    let none = ap (λ (lacks : Lacks). first_lack lacks (accesses (in_world cpu (world_of b)))) (sym (same_lacks b.pages)) ∙ sym told.need in
+    let world = ap (λ (n : Machine). n.world) told.moves in
+    let h = step_happened m cpu b before c.whole.ensures c.requires.settled s zeros none world told.waiting c.settled.ensures.whole told.kept in
+    let processor = step_cpu m cpu b before c.whole.ensures c.requires.settled s zeros none world told.waiting c.settled.ensures.whole told.kept c.step.new.self (ap (λ (n : Machine). n.cpu) told.moves) in
+    subst (λ (bus : PagedBusIs). Shows (step m) c.step.new.self bus) (sym c.settled.ensures.bus) (shows_after b before m (step m) h cpu c.step.new.self processor s)
+
+pub returns-in-Some-clause-kept : goal.returns-in-Some-clause-kept
+returns-in-Some-clause-kept c = λ made m zeros s held k.
+    let cpu = c.args.cpu.now in
+    let b = c.args.bus.now in
+    let before = c.step.new.bus in
+    let told = c.in-Done.ensures in
+    let none = ap (λ (lacks : Lacks). first_lack lacks (accesses (in_world cpu (world_of b)))) (sym (same_lacks b.pages)) ∙ sym told.need in
+    let world = ap (λ (n : Machine). n.world) told.moves in
+    let h = step_happened m cpu b before c.whole.ensures c.requires.settled s zeros none world told.waiting c.settled.ensures.whole told.kept in
+    subst (λ (bus : PagedBusIs). Kept held (pages_seen (step m)) bus.pages) (sym c.settled.ensures.bus) (kept_after b before m (step m) h held k)
+
+pub returns-in-Need-clause-unchanged : goal.returns-in-Need-clause-unchanged
+returns-in-Need-clause-unchanged c = λ needs.
+    let told = c.in-Need.ensures in (
+      ap (λ (n : Machine). n.cpu) told.moves,
+      same_buses c.step.new.bus c.args.bus.now c.whole-in-Need.ensures c.whole.ensures told.waiting c.requires.settled told.kept (ap (λ (n : Machine). n.world) told.moves),
+    )

@@ -1,7 +1,0 @@
-use Rattle.std.proofs.Common.{subst}
-use Rattle.paged_guest.specs.Guests.{IsSized}
-use Rattle.paged_guest.proofs.Placing.{sized}
-use Rattle.paged_guest.proofs.guest.Guest.is_sized.Goals as goal
-
-pub returns : goal.returns
-returns c = subst IsSized c.self.view_is (sized c.self.inside.bus c.whole.ensures c.self.invariant)

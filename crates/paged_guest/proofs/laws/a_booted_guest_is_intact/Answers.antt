@@ -1,5 +1,0 @@
-use Rattle.paged_guest.proofs.Keeping.{booted_intact}
-use Rattle.paged_guest.proofs.laws.a_booted_guest_is_intact.Goals as goal
-
-pub returns : goal.returns
-returns c = λ g none cpu devices size pages. booted_intact g none cpu devices size pages

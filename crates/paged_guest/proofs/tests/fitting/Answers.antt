@@ -1,4 +1,0 @@
-use Rattle.paged_guest.proofs.tests.fitting.Goals as goal
-
-pub returns : goal.returns
-returns g c = (8, c.fits_eight.ensures)

@@ -1,3 +1,0 @@
-pub mod Guests
-pub mod Loading
-pub mod Views
