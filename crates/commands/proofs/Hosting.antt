@@ -1,5 +1,5 @@
 -- A guest that has a world of its own.
-use Rattle.std.proofs.Common.{ℕ, zero, suc, ◌≡◌, ◌≢◌, ◌+◌, ◌*◌, ◌<◌, ◌≤◌, false, nat_lt, All, List, [], ◌∷◌, ◌++◌, length, get_or, map, replicate, ◌↔◌, Option, Some, None, IfSome, Result, Ok, Err, IsErrOf, inl, inr, refl, sym, ap, subst, ◌∙◌, arith}
+use Rattle.std.proofs.Common.{ℕ, zero, suc, ◌≡◌, ◌≢◌, ◌+◌, ◌*◌, ◌<◌, ◌≤◌, ◌⊎◌, ◌^◌, false, nat_lt, All, List, [], ◌∷◌, ◌++◌, length, get_or, map, replicate, ◌↔◌, Option, Some, None, IfSome, Result, Ok, Err, IsErrOf, inl, inr, refl, sym, ap, subst, ◌∙◌, arith}
 use Rattle.std.proofs.lemmas.Bool.{cases_lt}
 use Rattle.std.proofs.lemmas.Bool.Decides.{nat_tests}
 use Rattle.std.proofs.lemmas.List.{length-map}
@@ -10,6 +10,7 @@ use Rattle.items.specs.declared.item.Item.{Item}
 use Rattle.items.specs.declared.item.What.TheVariants.{In}
 use Rattle.items.specs.Entries.{step_by}
 use Rattle.guest_log.specs.Logs.{LogIs, IsFull}
+use Rattle.guest_log.specs.Runs.{run_count}
 use Rattle.guest_log.specs.declared.stop.Stop.{Stop}
 use Rattle.guest_log.specs.declared.stop.Stop.TheVariants as halt
 use Rattle.mips_tlb.specs.declared.kind.Kind.{Kind}
@@ -46,9 +47,8 @@ use Rattle.world.specs.declared.running.End.TheVariants as end
 use Rattle.world.specs.declared.running.RunStop.{RunStop}
 use Rattle.world.specs.declared.running.RunStop.TheVariants as stop
 use Rattle.world.specs.Events.{steps_for}
-use Rattle.world.specs.Tenants.{TenantIs, pages_in, IsKept, Stays, Adds, NothingHappens}
+use Rattle.tenant.specs.Tenants.{TenantIs, pages_in, IsKept, Stays, Adds, NothingHappens}
 use Rattle.world.specs.Worlds.{WorldIs, Sound, Changes, PagesMove, boot_of, log_at}
-use Rattle.world.proofs.Runs.{full_stays}
 use Rattle.commands.specs.Hosted.{HostedIs, hosted_of, first_pages, IsAlone, IsLacking}
 use Rattle.commands.specs.Runs.{after_steps, MayStop}
 
@@ -318,6 +318,11 @@ pub may_stop : (log : LogIs) (why : Option Stop) → IfSome why (λ s. (s ≡ ha
 may_stop log None full = tt
 may_stop log (Some halt.LogFull) full = full.0 refl
 may_stop log (Some halt.Memory) full = tt
+
+full_stays : (log log' : LogIs) → log'.items ≡ log.items → log'.limit ≡ log.limit → IsFull log → IsFull log'
+full_stays log log' items limit full =
+    subst (λ (is : List Item). (log'.limit ≤ run_count is) ⊎ (2 ^ 62 ≤ length is)) (sym items)
+    (subst (λ (l : ℕ). (l ≤ run_count log.items) ⊎ (2 ^ 62 ≤ length log.items)) (sym limit) full)
 
 full_then : (t t' : TenantIs) → NothingHappens t t' → Stays t t' → IsFull t.guest.log → IsFull t'.guest.log
 full_then t t' n s full = full_stays t.guest.log t'.guest.log n.items s.limit full

@@ -19,7 +19,7 @@ use Rattle.commands.specs.declared.fault.LogRefusal.TheVariants as log
 use Rattle.commands.specs.declared.fault.Fault.{Fault}
 use Rattle.commands.specs.declared.fault.Fault.TheVariants.{File, Asm, Elf, Raw, Script, Boot, Log, Memory}
 use Rattle.script.specs.Scripts as scripts
-use Rattle.world.specs.declared.loading.BootError.TheVariants.{Limits}
+use Rattle.tenant.specs.declared.loading.BootError.TheVariants.{Limits}
 use Rattle.commands.specs.Raw.{IsPageCount}
 use Rattle.commands.specs.Sims.{IsKnown}
 

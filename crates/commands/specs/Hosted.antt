@@ -9,7 +9,7 @@ use Rattle.physmap.specs.declared.page.Page.{Page}
 use Rattle.physmap.specs.declared.page.PageKind.TheVariants.{Private}
 use Rattle.physmap.specs.Pages.{kind_at}
 use Rattle.guest.specs.Guests.{view_of}
-use Rattle.world.specs.Tenants.{TenantIs, pages_in}
+use Rattle.tenant.specs.Tenants.{TenantIs, pages_in}
 use Rattle.world.specs.Worlds.{WorldIs}
 
 pub record HostedIs : Type 0 where

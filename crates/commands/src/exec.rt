@@ -22,7 +22,7 @@ use std::alloc::{AllocError, Global};
 use std::fs::File;
 use std::io::Read;
 use std::rt::Files;
-use world::BootError;
+use tenant::BootError;
 
 /// What a run prints, and how it went.
 #[derive(Drop)]

@@ -9,8 +9,8 @@ use masm::{AsmError, AsmFault};
 use std::alloc::AllocError;
 use std::io;
 use std::io::ErrorKind;
+use tenant::BootError;
 use thiserror::Error;
-use world::BootError;
 
 /// Why a command is refused. Its text is what stands after `vmhost: ` on standard error.
 #[derive(Clone, Copy, Debug, Error)]

@@ -13,7 +13,7 @@ use logfile::image_digest;
 use std::alloc::Global;
 use std::io;
 use std::io::Read;
-use world::BootError;
+use tenant::BootError;
 
 /// The least and the greatest number of pages.
 const LEAST_PAGES: u32 = 2;

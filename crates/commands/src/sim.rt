@@ -18,7 +18,8 @@ use std::fs::File;
 use std::rt::Files;
 use std::sync::Arc;
 use swapstore::{FaultStore, MemStore, Op};
-use world::{BootError, Config, NewGuest, are_within_limits};
+use tenant::BootError;
+use world::{Config, NewGuest, are_within_limits};
 
 /// The greatest number of runs that a guest's log may have.
 const LOG_RUNS: u32 = 1_048_576;

@@ -9,10 +9,10 @@ use Rattle.flatvm.specs.Boot.{boot_machine}
 use Rattle.flatvm.specs.Items.{run}
 use Rattle.guest.specs.Guests.{view_of}
 use Rattle.world.specs.declared.boot.NewGuest.{NewGuest}
-use Rattle.world.specs.declared.loading.BootError.{BootError}
-use Rattle.world.specs.declared.loading.BootError.TheVariants as error
+use Rattle.tenant.specs.declared.loading.BootError.{BootError}
+use Rattle.tenant.specs.declared.loading.BootError.TheVariants as error
 use Rattle.world.specs.Boots.{HoldsImage, AreBooted, WhyNotBooted}
-use Rattle.world.specs.Tenants.{TenantIs}
+use Rattle.tenant.specs.Tenants.{TenantIs}
 use Rattle.load_and_go.specs.Holds.{Holds}
 
 -- the view of a guest that is booted alone is the machine that it boots

@@ -8,10 +8,10 @@ use Rattle.load_and_go.specs.Errors.{IsErrorOf}
 use Rattle.load_and_go.specs.Executables.{IsReadFrom}
 
 -- a guest with so many pages and shares, whose image is one that the text's executable stands for
-pub record IsGuestOf (text : List ℕ) (count of_memory : ℕ) (guest : NewGuest) : Type 0 where
-  pub image : IsReadFrom text count guest.image.value
-  pub pages : guest.pages ≡ count
-  pub shares : guest.shares ≡ of_memory
+pub record IsGuestOf (text : List ℕ) (page_count share_count : ℕ) (guest : NewGuest) : Type 0 where
+  pub image : IsReadFrom text page_count guest.image.value
+  pub pages : guest.pages ≡ page_count
+  pub shares : guest.shares ≡ share_count
 
 -- Why the program of a text is not booted in a world: the text is refused, or else the world with its guest alone, whose pages hold its
 -- image.

@@ -31,7 +31,7 @@ pub enum BootError {
     Text { error: TextError },
     /// The world is not booted, for this reason, which is never `Segment`.
     #[error("boot {number}", number = .error.number())]
-    World { error: world::BootError },
+    World { error: tenant::BootError },
 }
 
 impl From<AsmError> for TextError {

@@ -10,7 +10,8 @@ use std::process::Abort;
 use std::test::Fail;
 use swapstore::{FaultStore, MemStore, Op, SwapStore};
 use taxpolicy::Tax;
-use world::{Config, End, Ran, Tenant, World};
+use tenant::Tenant;
+use world::{Config, End, Ran, World};
 
 const TAX: Tax = Tax { percent: 75 };
 
@@ -381,23 +382,23 @@ fn the_last_bytes_of_memory_are_listed(rt: HostRuntime) {
 }
 
 /// Texts whose world is refused, why, and the error's text.
-const WORLDS: [(&str, Numbers, world::BootError, &str); 6] = [
+const WORLDS: [(&str, Numbers, tenant::BootError, &str); 6] = [
     (
         "eret",
         Numbers { pages: 1, ..ROOMY },
-        world::BootError::Limits,
+        tenant::BootError::Limits,
         "boot 1",
     ),
     (
         "eret",
         Numbers { shares: 0, ..ROOMY },
-        world::BootError::Limits,
+        tenant::BootError::Limits,
         "boot 1",
     ),
     (
         "eret",
         Numbers { frames: 3, ..ROOMY },
-        world::BootError::Limits,
+        tenant::BootError::Limits,
         "boot 1",
     ),
     (
@@ -406,7 +407,7 @@ const WORLDS: [(&str, Numbers, world::BootError, &str); 6] = [
             slots: 1,
             ..CROWDED
         },
-        world::BootError::Room,
+        tenant::BootError::Room,
         "boot 3",
     ),
     (
@@ -415,7 +416,7 @@ const WORLDS: [(&str, Numbers, world::BootError, &str); 6] = [
             failing: 1,
             ..CROWDED
         },
-        world::BootError::Store,
+        tenant::BootError::Store,
         "boot 4",
     ),
     (
@@ -424,7 +425,7 @@ const WORLDS: [(&str, Numbers, world::BootError, &str); 6] = [
             failing: 2,
             ..CROWDED
         },
-        world::BootError::Store,
+        tenant::BootError::Store,
         "boot 4",
     ),
 ];
@@ -452,7 +453,7 @@ fn a_text_is_refused_before_its_world(rt: HostRuntime) {
 fn is_memory(error: BootError) -> bool {
     match error {
         BootError::Text { error } => error == TextError::Memory,
-        BootError::World { error } => error == world::BootError::Memory,
+        BootError::World { error } => error == tenant::BootError::Memory,
     }
 }
 

@@ -1,7 +1,8 @@
 //! The program `memory_bench`: it does one small part of what a guest's memory and its log need so many times, and prints a
 //! number that depends on the work. `bench/memory_parts` times it from outside.
 //!
-//! `Work` has what can be done, and does it; `appending`, `accesses` and `sharing` have the loops.
+//! `Work` has what can be done, and does it; `appending`, `accesses` and `sharing` have the loops. Few of their contracts say
+//! what is done: bodies that do nothing keep them, so that the work is done at all is seen by the tests of `work` and by the times.
 #![tactic(auto)]
 
 mod accesses;

@@ -9,7 +9,7 @@ use Rattle.script.specs.declared.event.Event.{Event}
 use Rattle.script.specs.declared.event.Event.TheVariants as event
 use Rattle.world.specs.declared.boot.NewGuest.{NewGuest}
 use Rattle.world.specs.Boots.{AreBooted}
-use Rattle.world.specs.Tenants.{TenantIs}
+use Rattle.tenant.specs.Tenants.{TenantIs}
 use Rattle.world.specs.Worlds.{WorldIs, boot_of, items_of, log_at}
 use Rattle.world.proofs.Victims.{map_at, some_tenant}
 use Rattle.world.proofs.Worlds.{its_log}

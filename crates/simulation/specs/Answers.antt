@@ -18,7 +18,7 @@ use Rattle.world.specs.declared.running.Ran.{Ran}
 use Rattle.world.specs.declared.running.RunStop.TheVariants as stop
 use Rattle.world.specs.Evictions.{Became}
 use Rattle.world.specs.Events.{IfStop, IsForRoom, IsSupplied}
-use Rattle.world.specs.Tenants.{TenantIs, pages_in}
+use Rattle.tenant.specs.Tenants.{TenantIs, pages_in}
 use Rattle.world.specs.Worlds.{WorldIs}
 use Rattle.simulation.specs.declared.reply.Reply.{Reply}
 use Rattle.simulation.specs.declared.reply.Reply.TheVariants as reply

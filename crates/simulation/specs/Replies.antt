@@ -5,8 +5,8 @@ use Rattle.mips_step.specs.declared.access.Why.TheVariants.{First, Swapped, Copy
 use Rattle.paging.specs.declared.scan.Scan.{Scan}
 use Rattle.paging.specs.declared.scan.Scan.TheVariants as scan
 use Rattle.world.specs.declared.books.BookCounts.{BookCounts}
-use Rattle.world.specs.declared.moves.EvictError.{EvictError}
-use Rattle.world.specs.declared.moves.EvictError.TheVariants.{NoSwap, SwapWrite}
+use Rattle.tenant.specs.declared.moves.EvictError.{EvictError}
+use Rattle.tenant.specs.declared.moves.EvictError.TheVariants.{NoSwap, SwapWrite}
 use Rattle.world.specs.declared.running.End.{End}
 use Rattle.world.specs.declared.running.End.TheVariants as end
 use Rattle.world.specs.declared.running.Ran.{Ran}

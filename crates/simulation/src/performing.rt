@@ -10,7 +10,7 @@ ghost use Rattle.dump.specs.Steps.{step_count};
 ghost use Rattle.world.specs.Debugging.{write_of};
 ghost use Rattle.world.specs.declared.running.RunStop.{RunStop};
 ghost use Rattle.world.specs.Events.{IsForRoom};
-ghost use Rattle.world.specs.Tenants.{TenantIs};
+ghost use Rattle.tenant.specs.Tenants.{TenantIs};
 ghost use Rattle.world.specs.Worlds.{boot_of, log_at};
 ghost use Rattle.simulation.specs.Answers as answers;
 ghost use Rattle.simulation.specs.Effects as spec;

@@ -1,6 +1,7 @@
 //! What is replied to an event of a script.
 use paging::Scan;
-use world::{BookCounts, EvictError, Evicted, Ran, RunStop};
+use tenant::EvictError;
+use world::{BookCounts, Evicted, Ran, RunStop};
 
 /// What is replied to an event of a script.
 #[derive(Drop)]

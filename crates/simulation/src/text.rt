@@ -10,7 +10,8 @@ use mips_step::Why;
 use paging::Scan;
 use sharetab::GuestPage;
 use std::alloc::AllocError;
-use world::{BookCounts, End, EvictError, Evicted, Ran, RunStop};
+use tenant::EvictError;
+use world::{BookCounts, End, Evicted, Ran, RunStop};
 
 /// The number by which what stops an event is known: 1 no frame, 2 no slot, 3 a slot that could not be read, 4 one that is damaged,
 /// 5 no memory of the host, 6 a log that is full.

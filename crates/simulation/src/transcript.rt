@@ -17,7 +17,8 @@ use rand_pcg::Pcg32;
 use script::Event;
 use std::alloc::{AllocError, Global};
 use swapstore::Damage;
-use world::{BootError, Config, NewGuest, World};
+use tenant::BootError;
+use world::{Config, NewGuest, World};
 
 /// Why there is no transcript.
 #[derive(Clone, Copy, Debug, PartialEq, Eq)]

@@ -3,11 +3,11 @@ use Rattle.std.proofs.Common.{ℕ, ◌≡◌, ◌+◌, inl, inr, List, [], ◌�
 use Rattle.std.proofs.lemmas.Bool.{cases_lt}
 use Rattle.std.proofs.lemmas.List.{get_or_append_left}
 use Rattle.world.specs.declared.boot.NewGuest.{NewGuest}
-use Rattle.world.specs.declared.loading.BootError.{BootError}
-use Rattle.world.specs.declared.loading.BootError.TheVariants as error
-use Rattle.world.specs.Tenants.{TenantIs, IsBooted}
+use Rattle.tenant.specs.declared.loading.BootError.{BootError}
+use Rattle.tenant.specs.declared.loading.BootError.TheVariants as error
+use Rattle.tenant.specs.Tenants.{TenantIs, IsBooted}
 use Rattle.world.specs.Boots.{AreBooted, WhyNotBooted}
-use Rattle.world.specs.Loading.{IsOfLoading}
+use Rattle.tenant.specs.Loading.{IsOfLoading}
 use Rattle.world.proofs.Worlds.{get_last}
 
 abbrev IsBootOf : ℕ → NewGuest → TenantIs → Type 0

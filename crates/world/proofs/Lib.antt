@@ -1,8 +1,4 @@
 pub mod BootedGuests
-pub mod Booting
-pub mod Giving
-pub mod Keeping
-pub mod Moving
 pub mod Reached
 pub mod Runs
 pub mod Totals

@@ -15,7 +15,7 @@ use Rattle.paged_bus.specs.Lacking.{lack_of}
 use Rattle.world.specs.declared.debugging.Access.{Access}
 use Rattle.world.specs.declared.debugging.Access.TheVariants as access
 use Rattle.world.specs.Debugging.{is_wanted, IsReady, OnlyPagesAndRoom}
-use Rattle.world.specs.Tenants.{TenantIs, pages_in}
+use Rattle.tenant.specs.Tenants.{TenantIs, pages_in}
 use Rattle.world.specs.Victims.{is_one_of, spared_of, OnlyPagesMove, OtherSparedStay}
 
 -- ---- what is accepted

@@ -1,19 +1,13 @@
 -- Steps of a guest, one after another.
-use Rattle.std.proofs.Common.{ℕ, suc, ◌≡◌, ◌+◌, ◌<◌, ◌≤◌, ◌^◌, ◌⊎◌, Bool, true, false, if◌then◌else◌, ◌==◌, List, [], ◌∷◌, ◌++◌, length, get_or, map, replicate, refl, sym, ap, subst, ◌∙◌, arith, append_assoc, ◌≢◌, Option, Some, None, Result, Ok, Err, IfOk, OnErr, IfSome, IfNone, IsErrOf}
+use Rattle.std.proofs.Common.{ℕ, zero, suc, ◌≡◌, ◌+◌, ◌<◌, Bool, true, false, if◌then◌else◌, ◌==◌, List, [], ◌∷◌, ◌++◌, length, get_or, set, map, replicate, refl, sym, ap, subst, ◌∙◌, arith, append_assoc, ◌≢◌, Option, Some, None, Result, Ok, Err, OnErr}
 use Rattle.std.specs.List.{Contains}
-use Rattle.std.proofs.lemmas.List.{append-nil, length-map, replicate_more, replicate-append-replicate}
+use Rattle.std.proofs.lemmas.List.{append-nil, length-map, replicate-append-replicate, set-get_or}
 use Rattle.items.specs.declared.item.Item.{Item}
 use Rattle.items.specs.Entries.{step_by}
-use Rattle.guest_log.specs.Logs.{LogIs, IsFull}
-use Rattle.guest_log.specs.Runs.{run_count}
+use Rattle.guest_log.specs.Logs.{IsFull}
 use Rattle.mips_step.specs.Accesses.{Access, accesses, first_lack}
 use Rattle.mips_step.specs.Step.{Machine}
 use Rattle.mips_step.specs.declared.access.Why.{Why}
-use Rattle.mips_step.specs.declared.access.StepOut.{StepOut}
-use Rattle.mips_step.specs.declared.access.StepOut.TheVariants as out
-use Rattle.mips_step.specs.Answer.{need_of}
-use Rattle.guest_log.specs.declared.stop.Stop.{Stop}
-use Rattle.guest_log.specs.declared.stop.Stop.TheVariants as halt
 use Rattle.flatvm.specs.Items.{run}
 use Rattle.paged_bus.specs.Buses.{PagedBusIs}
 use Rattle.mips_tlb.specs.declared.kind.Kind.{Kind}
@@ -26,23 +20,14 @@ use Rattle.guest.specs.Guests.{view_of}
 use Rattle.world.specs.declared.running.End.{End}
 use Rattle.world.specs.declared.running.End.TheVariants as end
 use Rattle.world.specs.declared.running.RunStop.TheVariants as stop
-use Rattle.world.specs.Events.{steps_for, end_at, IfStop, IsForRoom, IsSupplied}
-use Rattle.world.specs.Tenants.{TenantIs, pages_in, beside_pages, Stays, Adds, NothingHappens}
-use Rattle.world.specs.Worlds.{Changes, boot_of, log_at, item_for}
+use Rattle.world.specs.Events.{steps_for, IsSupplied}
+use Rattle.tenant.specs.Tenants.{TenantIs, pages_in, beside_pages, Stays, NothingHappens}
+use Rattle.world.specs.Worlds.{Changes, boot_of, log_at}
 use Rattle.world.specs.Victims.{OnlyPagesMove}
+use Rattle.world.proofs.Worlds.{same_logs}
 use Rattle.world.proofs.Victims.{map_at, still_inside, first_of, stays_beside, fault_logs}
-use Rattle.world.proofs.Worlds.{step_logs}
 
 -- ---- so many steps
-
-step_more : (b : Bool) (n : ℕ) (step : Item) → (if b then replicate n step else []) ++ (if b then step ∷ [] else []) ≡ (if b then replicate (n + 1) step else [])
-step_more true n step = replicate_more n step
-step_more false n step = refl
-
-pub steps_more : (h g n : ℕ) (old now after : List Item) → now ≡ old ++ steps_for h g n → after ≡ now ++ item_for h g (step_by 0) → after ≡ old ++ steps_for h g (n + 1)
-steps_more h g n old now after so_far more =
-    more ∙ ap (λ (xs : List Item). xs ++ item_for h g (step_by 0)) so_far ∙ append_assoc old (steps_for h g n) (item_for h g (step_by 0))
-    ∙ ap (λ (xs : List Item). old ++ xs) (step_more (h == g) n (step_by 0))
 
 steps_joined : (b : Bool) (m n : ℕ) (step : Item) → (if b then replicate m step else []) ++ (if b then replicate n step else []) ≡ (if b then replicate (m + n) step else [])
 steps_joined true m n step = replicate-append-replicate m n step
@@ -71,108 +56,47 @@ fault_stays ts ts' m h = fault_logs ts ts' m h ∙ append-nil (log_at ts h)
 same_view : (t t' : TenantIs) → NothingHappens t t' → Stays t t' → view_of t'.guest ≡ view_of t.guest
 same_view t t' n s = ap (λ (items : List Item). run items t'.guest.boot) n.items ∙ ap (run t.guest.log.items) s.boot
 
-pub need_stays : (g p : ℕ) (why : Why) (ts ts' : List TenantIs) (d : TenantIs) → Changes NothingHappens g ts ts' → Changes Stays g ts ts'
-    → first_lack (lacks_in (pages_in (get_or ts g d))) (accesses (view_of (get_or ts g d).guest)) ≡ Some (p, why)
-    → first_lack (lacks_in (pages_in (get_or ts' g d))) (accesses (view_of (get_or ts' g d).guest)) ≡ Some (p, why)
-need_stays g p why ts ts' d n s need =
-    let t = get_or ts g d in
-    let t' = get_or ts' g d in
-    ap (λ (b : PagedBusIs). first_lack (lacks_in b.pages) (accesses (view_of t'.guest))) (n.so d).bus
-    ∙ ap (λ (m : Machine). first_lack (lacks_in (pages_in t)) (accesses m)) (same_view t t' (n.so d) (s.so d)) ∙ need
+-- ---- steps that are not made
 
-pub full_stays : (log log' : LogIs) → log'.items ≡ log.items → log'.limit ≡ log.limit → IsFull log → IsFull log'
-full_stays log log' items limit full =
-    subst (λ (is : List Item). (log'.limit ≤ run_count is) ⊎ (2 ^ 62 ≤ length is)) (sym items)
-    (subst (λ (l : ℕ). (l ≤ run_count log.items) ⊎ (2 ^ 62 ≤ length log.items)) (sym limit) full)
+-- nothing has happened to one of the guests, and then nothing again
+pub changes_none : (how : TenantIs → TenantIs → Type 0) → ((t : TenantIs) → how t t) → (g : ℕ) (ts : List TenantIs) → Changes how g ts ts
+changes_none how same g ts = record { one = λ t. sym (set-get_or ts g t); so = λ t. same (get_or ts g t) }
 
--- ---- one step
+set_twice : (ts : List TenantIs) (g : ℕ) (t t' : TenantIs) → set (set ts g t) g t' ≡ set ts g t'
+set_twice [] g t t' = refl
+set_twice (u ∷ ts) zero t t' = refl
+set_twice (u ∷ ts) (suc g) t t' = ap (λ (l : List TenantIs). u ∷ l) (set_twice ts g t t')
 
-pub once_made : (Around : Type 0) (g : ℕ) (ts ts' : List TenantIs) (r : Result StepOut Stop) → g < length ts
-    → IfOk r (λ s. need_of s ≡ None → Changes (λ t t'. Adds t (step_by 0) t') g ts ts') → IfOk r (λ s. need_of s ≢ None → Changes NothingHappens g ts ts' × Around)
-    → OnErr r (Changes NothingHappens g ts ts' × Around) → IfNone (end_at r) ((h : ℕ) → log_at ts' h ≡ log_at ts h ++ item_for h g (step_by 0))
-once_made Around g ts ts' (Ok out.Done) inside adds needs err = step_logs Around g ts ts' (Ok out.Done) inside adds needs err
-once_made Around g ts ts' (Ok (out.Need page why)) inside adds needs err = tt
-once_made Around g ts ts' (Err halt.Memory) inside adds needs err = tt
-once_made Around g ts ts' (Err halt.LogFull) inside adds needs err = tt
+pub changes_then : (how : TenantIs → TenantIs → Type 0) → ((t u v : TenantIs) → how t u → how u v → how t v) → (g : ℕ) (ts mid ts' : List TenantIs)
+    → Changes how g ts mid → Changes how g mid ts' → Changes how g ts ts'
+changes_then how on g ts mid ts' before after = record {
+  one = λ t. after.one t ∙ ap (λ (l : List TenantIs). set l g (get_or ts' g t)) (before.one t) ∙ set_twice ts g (get_or mid g t) (get_or ts' g t);
+  so = λ t. on (get_or ts g t) (get_or mid g t) (get_or ts' g t) (before.so t) (after.so t);
+}
 
-pub once_not_made : (Around : Type 0) (g : ℕ) (ts ts' : List TenantIs) (r : Result StepOut Stop) → g < length ts
-    → IfOk r (λ s. need_of s ≡ None → Changes (λ t t'. Adds t (step_by 0) t') g ts ts') → IfOk r (λ s. need_of s ≢ None → Changes NothingHappens g ts ts' × Around)
-    → OnErr r (Changes NothingHappens g ts ts' × Around) → IfSome (end_at r) (λ end. (h : ℕ) → log_at ts' h ≡ log_at ts h)
-once_not_made Around g ts ts' (Ok out.Done) inside adds needs err = tt
-once_not_made Around g ts ts' (Ok (out.Need page why)) inside adds needs err = λ h. step_logs Around g ts ts' (Ok (out.Need page why)) inside adds needs err h ∙ append-nil (log_at ts h)
-once_not_made Around g ts ts' (Err halt.Memory) inside adds needs err = λ h. step_logs Around g ts ts' (Err halt.Memory) inside adds needs err h ∙ append-nil (log_at ts h)
-once_not_made Around g ts ts' (Err halt.LogFull) inside adds needs err = λ h. step_logs Around g ts ts' (Err halt.LogFull) inside adds needs err h ∙ append-nil (log_at ts h)
+stays_same : (t : TenantIs) → Stays t t
+stays_same t = record { boot = refl; limit = refl; shares = refl; count = refl }
 
-pub once_early : (r : Result StepOut Stop) → IfSome (end_at r) (λ e. e ≢ end.Done)
-once_early (Ok out.Done) = tt
-once_early (Ok (out.Need page why)) = λ e. absurd (cc)
-once_early (Err halt.Memory) = λ e. absurd (cc)
-once_early (Err halt.LogFull) = λ e. absurd (cc)
+stays_on : (t u v : TenantIs) → Stays t u → Stays u v → Stays t v
+stays_on t u v s r = record { boot = r.boot ∙ s.boot; limit = r.limit ∙ s.limit; shares = r.shares ∙ s.shares; count = r.count ∙ s.count }
 
-pub once_stop : (r : Result StepOut Stop) → IfSome (end_at r) (λ e. IfStop e IsForRoom)
-once_stop (Ok out.Done) = tt
-once_stop (Ok (out.Need page why)) = tt
-once_stop (Err halt.Memory) = tt
-once_stop (Err halt.LogFull) = tt
+pub all_stays : (g : ℕ) (ts : List TenantIs) → Changes Stays g ts ts
+all_stays g ts = changes_none Stays stays_same g ts
 
--- what an end asks for
-asked : Option End → Option (ℕ × Why)
-asked None = None
-asked (Some end.Done) = None
-asked (Some (end.Need page why)) = Some (page, why)
-asked (Some (end.Stop why)) = None
+pub stays_then : (g : ℕ) (ts mid ts' : List TenantIs) → Changes Stays g ts mid → Changes Stays g mid ts' → Changes Stays g ts ts'
+stays_then g ts mid ts' before after = changes_then Stays stays_on g ts mid ts' before after
 
-pub once_need : (Around : Type 0) (g p : ℕ) (why : Why) (ts ts' : List TenantIs) (r : Result StepOut Stop) (d : TenantIs)
-    → IfOk r (λ s. need_of s ≢ None → Changes NothingHappens g ts ts' × Around) → Changes Stays g ts ts'
-    → IfOk r (λ s. need_of s ≡ first_lack (lacks_in (pages_in (get_or ts g d))) (accesses (view_of (get_or ts g d).guest)))
-    → end_at r ≡ Some (end.Need p why)
-    → first_lack (lacks_in (pages_in (get_or ts' g d))) (accesses (view_of (get_or ts' g d).guest)) ≡ Some (p, why)
-unfolding asked
-once_need Around g p why ts ts' (Ok out.Done) d needs stays need e = absurd (cc)
-once_need Around g p why ts ts' (Ok (out.Need page w)) d needs stays need e =
-    need_stays g p why ts ts' d (needs (λ n. absurd (cc))).0 stays (sym need ∙ ap asked e)
-once_need Around g p why ts ts' (Err halt.Memory) d needs stays need e = absurd (cc)
-once_need Around g p why ts ts' (Err halt.LogFull) d needs stays need e = absurd (cc)
+pub not_made_on : {E : Type 0} (r : Result ℕ E) (g : ℕ) (old ts ts' : List TenantIs) (Around : Type 0) → g < length ts
+    → ((h : ℕ) → log_at ts h ≡ log_at old h) → OnErr r (Changes NothingHappens g ts ts' × Around) → OnErr r ((h : ℕ) → log_at ts' h ≡ log_at old h)
+not_made_on (Ok steps) g old ts ts' Around inside before nothing = tt
+not_made_on (Err end) g old ts ts' Around inside before nothing = λ h. same_logs g ts ts' inside nothing.0 h ∙ before h
 
-pub once_full : (Around : Type 0) (g : ℕ) (ts ts' : List TenantIs) (r : Result StepOut Stop) (d : TenantIs)
-    → OnErr r (Changes NothingHappens g ts ts' × Around) → Changes Stays g ts ts'
-    → (IsErrOf r halt.LogFull → IsFull (get_or ts g d).guest.log)
-    → end_at r ≡ Some (end.Stop stop.LogFull) → IsFull (get_or ts' g d).guest.log
-once_full Around g ts ts' (Ok out.Done) d err stays full e = absurd (cc)
-once_full Around g ts ts' (Ok (out.Need page w)) d err stays full e = absurd (cc)
-once_full Around g ts ts' (Err halt.Memory) d err stays full e = absurd (cc)
-once_full Around g ts ts' (Err halt.LogFull) d err stays full e =
-    full_stays (get_or ts g d).guest.log (get_or ts' g d).guest.log (err.0.so d).items (stays.so d).limit (full refl)
-
-pub once_nothing : (Around : Type 0) (g : ℕ) (ts ts' : List TenantIs) (r : Result StepOut Stop)
-    → IfOk r (λ s. need_of s ≢ None → Changes NothingHappens g ts ts' × Around) → OnErr r (Changes NothingHappens g ts ts' × Around)
-    → IfSome (end_at r) (λ e. Changes NothingHappens g ts ts')
-once_nothing Around g ts ts' (Ok out.Done) needs err = tt
-once_nothing Around g ts ts' (Ok (out.Need page why)) needs err = (needs (λ n. absurd (cc))).0
-once_nothing Around g ts ts' (Err halt.Memory) needs err = err.0
-once_nothing Around g ts ts' (Err halt.LogFull) needs err = err.0
-
-full_before : (g : ℕ) (ts ts' : List TenantIs) (d : TenantIs) → Changes NothingHappens g ts ts' → Changes Stays g ts ts' → IsFull (get_or ts' g d).guest.log → IsFull (get_or ts g d).guest.log
-full_before g ts ts' d n s full = full_stays (get_or ts' g d).guest.log (get_or ts g d).guest.log (sym (n.so d).items) (sym (s.so d).limit) full
-
-not_full_of_ok : (r : Result StepOut Stop) (s : StepOut) → r ≡ Ok s → r ≡ Err halt.LogFull → ⊥
-not_full_of_ok r s a b = cc
-
-not_full_of_memory : (r : Result StepOut Stop) → r ≡ Err halt.Memory → r ≡ Err halt.LogFull → ⊥
-not_full_of_memory r a b = cc
+pub on_err : {T E : Type 0} (r : Result T E) (e : E) (P : Type 0) → r ≡ Err e → OnErr r P → P
+on_err (Ok t) e P is so = absurd (cc)
+on_err (Err d) e P is so = so
 
 pub need_not_full : (e : End) (p : ℕ) (why : Why) → e ≡ end.Need p why → e ≢ end.Stop stop.LogFull
 need_not_full e p why is = λ full. absurd (cc)
-
-pub once_room : (Around : Type 0) (g : ℕ) (ts ts' : List TenantIs) (r : Result StepOut Stop)
-    → IfOk r (λ s. need_of s ≢ None → Changes NothingHappens g ts ts' × Around) → OnErr r (Changes NothingHappens g ts ts' × Around) → Changes Stays g ts ts'
-    → ((d : TenantIs) → IsFull (get_or ts g d).guest.log → IsErrOf r halt.LogFull)
-    → IfSome (end_at r) (λ e. e ≢ end.Stop stop.LogFull → (d : TenantIs) → IsFull (get_or ts' g d).guest.log → ⊥)
-once_room Around g ts ts' (Ok out.Done) needs err stays full = tt
-once_room Around g ts ts' (Ok (out.Need page why)) needs err stays full =
-    λ apart d now. not_full_of_ok (Ok (out.Need page why)) (out.Need page why) refl (full d (full_before g ts ts' d (needs (λ n. absurd (cc))).0 stays now))
-once_room Around g ts ts' (Err halt.Memory) needs err stays full = λ apart d now. not_full_of_memory (Err halt.Memory) refl (full d (full_before g ts ts' d err.0 stays now))
-once_room Around g ts ts' (Err halt.LogFull) needs err stays full = λ apart d now. absurd (apart refl)
 
 -- ---- a page that was supplied
 

@@ -2,7 +2,7 @@
 use Rattle.std.proofs.Common.{ℕ, zero, suc, ◌+◌, ◌≡◌, ◌<◌, ◌≤◌, List, [], ◌∷◌, length, get_or, map, take, sum_by, ap, arith}
 use Rattle.std.proofs.lemmas.List.Sums.{sum_by-cons}
 use Rattle.physmap.specs.declared.page.Page.{Page}
-use Rattle.world.specs.Tenants.{TenantIs, pages_in}
+use Rattle.tenant.specs.Tenants.{TenantIs, pages_in}
 
 -- the first guests and the next one have no more than all guests
 pub with_next : (of : List Page → ℕ) (ts : List TenantIs) (i : ℕ) (d : TenantIs) → i < length ts → sum_by of (map pages_in (take i ts)) + of (pages_in (get_or ts i d)) ≤ sum_by of (map pages_in ts)

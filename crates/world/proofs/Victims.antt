@@ -19,10 +19,11 @@ use Rattle.taxpolicy.specs.Victim.{IsEligible, IsLeast}
 use Rattle.items.specs.declared.item.Item.{Item}
 use Rattle.mips_step.specs.declared.access.Why.{Why}
 use Rattle.world.specs.Evictions.{IsEvicted}
-use Rattle.world.specs.Tenants.{TenantIs, pages_in, beside_pages}
+use Rattle.tenant.specs.Tenants.{TenantIs, pages_in, beside_pages}
 use Rattle.world.specs.Worlds.{Changes, PagesMove, items_of, boot_of, log_at}
 use Rattle.world.specs.declared.faulting.Spared.{Spared}
-use Rattle.world.specs.Victims.{stat_of, is_one_of, spared_of, may_leave, NoneResident, OnlyPagesMove, SparedStay, OtherSparedStay, all_resident}
+use Rattle.world.specs.Victims.{is_one_of, spared_of, may_leave, NoneResident, OnlyPagesMove, SparedStay, OtherSparedStay, all_resident}
+use Rattle.tenant.specs.Tenants.{stat_of}
 
 -- ---- resident pages
 

@@ -26,14 +26,14 @@ use Rattle.paging.proofs.Starting.{books_of_nothing, books_with_owner}
 use Rattle.paging.specs.Books.{Books, pages_of}
 use Rattle.paging.specs.Moves.{Conserves, Reads}
 use Rattle.paging.proofs.Booking.{books_after, covered, own_once, reads_each, handed_back_out, came_free_out, swapped_out, slot_inside, slot_apart, free_slot_inside}
-use Rattle.world.specs.Lent.{Lent, UsedStay}
+use Rattle.tenant.specs.Lent.{Lent, UsedStay}
 use Rattle.world.specs.declared.events.Event.{Event}
 use Rattle.world.specs.declared.events.Answer.{Answer}
 use Rattle.world.specs.Events.{step_items, steps_for, input_items, own_items, own}
-use Rattle.world.specs.Tenants.{TenantIs, pages_in, beside_pages, IsKept, Stays, Adds, AddsSteps, NothingHappens}
+use Rattle.tenant.specs.Tenants.{TenantIs, pages_in, beside_pages, IsKept, Stays, Adds, AddsSteps, NothingHappens}
 use Rattle.world.specs.Worlds.{WorldIs, Sound, Changes, PagesMove, items_of, boot_of, log_at, item_for}
-use Rattle.world.proofs.Giving.{outline_conserves, outline_reads}
-use Rattle.world.proofs.Keeping.{used_kept}
+use Rattle.tenant.proofs.Giving.{outline_conserves, outline_reads}
+use Rattle.tenant.proofs.Keeping.{used_kept}
 
 -- ---- one guest
 

@@ -2,9 +2,9 @@
 use Rattle.std.specs.Prelude.{◌≡◌, ℕ, ◌<◌, ◌≤◌, List, All, length, slice_index_or}
 use Rattle.elf32.specs.Images.{FitsPages}
 use Rattle.world.specs.declared.boot.NewGuest.{NewGuest}
-use Rattle.world.specs.declared.loading.BootError.{BootError}
-use Rattle.world.specs.declared.loading.BootError.TheVariants.{Limits, Segment, Room, Store, Memory}
-use Rattle.world.specs.Tenants.{TenantIs, IsBooted}
+use Rattle.tenant.specs.declared.loading.BootError.{BootError}
+use Rattle.tenant.specs.declared.loading.BootError.TheVariants.{Limits, Segment, Room, Store, Memory}
+use Rattle.tenant.specs.Tenants.{TenantIs, IsBooted}
 
 -- the numbers of a guest are within their limits
 pub record IsWithinLimits (guest : NewGuest) : Type 0 where
@@ -28,14 +28,6 @@ pub record AreBooted (log_runs : ℕ) (guests : List NewGuest) (tenants : List T
   pub count : length tenants ≡ length guests
   pub each : (g : ℕ) (guest : NewGuest) (t : TenantIs) → g < length guests →
       IsBooted (slice_index_or guests g guest).image.value (slice_index_or guests g guest).pages (slice_index_or guests g guest).shares log_runs (slice_index_or tenants g t)
-
--- the number by which the refusal of a world is known
-abbrev pub boot_number : BootError → ℕ
-boot_number Limits = 1
-boot_number Segment = 2
-boot_number Room = 3
-boot_number Store = 4
-boot_number Memory = 5
 
 -- why a world is not booted; the first that holds, in this order
 abbrev pub WhyNotBooted : Type 0 → Type 0 → BootError → Type 0

@@ -11,7 +11,7 @@ use Rattle.world.specs.declared.debugging.Access.TheVariants as access
 use Rattle.world.specs.declared.debugging.DebugError.{DebugError}
 use Rattle.world.specs.declared.debugging.DebugError.TheVariants as debug
 use Rattle.world.specs.declared.running.RunStop.{RunStop}
-use Rattle.world.specs.Tenants.{TenantIs, NothingHappens}
+use Rattle.tenant.specs.Tenants.{TenantIs, NothingHappens}
 use Rattle.world.specs.Victims.{OnlyPagesMove}
 use Rattle.world.specs.Worlds.{Changes, item_for}
 

@@ -1,5 +1,5 @@
 -- The items that events add to the logs of guests.
-use Rattle.std.specs.Prelude.{◌≡◌, ℕ, ◌<◌, ◌≤◌, length, ◌==◌, if◌then◌else◌, false, Result, Ok, Err, Option, Some, None, List, [], ◌∷◌, ◌++◌, replicate, map, slice_index_or, Contains, ◌≢◌}
+use Rattle.std.specs.Prelude.{◌≡◌, ℕ, ◌<◌, ◌≤◌, length, ◌==◌, if◌then◌else◌, false, Result, Ok, Err, Some, List, [], ◌∷◌, ◌++◌, replicate, map, slice_index_or, Contains, ◌≢◌}
 use Rattle.frames.specs.FreeList.{FreeList}
 use Rattle.items.specs.declared.item.Item.{Item}
 use Rattle.items.specs.Entries.{step_by}
@@ -27,7 +27,7 @@ use Rattle.world.specs.declared.running.End.TheVariants as end
 use Rattle.world.specs.declared.running.RunStop.{RunStop}
 use Rattle.world.specs.declared.running.RunStop.TheVariants as stop
 use Rattle.world.specs.Debugging.{written_items}
-use Rattle.world.specs.Tenants.{TenantIs, pages_in}
+use Rattle.tenant.specs.Tenants.{TenantIs, pages_in}
 use Rattle.world.specs.Victims.{WhyLacking}
 use Rattle.world.specs.Worlds.{item_for}
 
@@ -139,13 +139,6 @@ own h (e ∷ events) [] = []
 own h (e ∷ events) (a ∷ answers) = own_items h e a ++ own h events answers
 
 -- ---- how many steps end
-
--- how a run of steps ends at what a step is answered: not at all where the step is made
-abbrev pub end_at : Result StepOut Stop → Option End
-end_at (Ok out.Done) = None
-end_at (Ok (out.Need page why)) = Some (end.Need page why)
-end_at (Err halt.Memory) = Some (end.Stop stop.Memory)
-end_at (Err halt.LogFull) = Some (end.Stop stop.LogFull)
 
 -- why a run of steps stops where its log has no room
 abbrev pub for_room : Stop → RunStop

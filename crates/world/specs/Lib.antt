@@ -2,8 +2,5 @@ pub mod Boots
 pub mod Debugging
 pub mod Events
 pub mod Evictions
-pub mod Lent
-pub mod Loading
-pub mod Tenants
 pub mod Victims
 pub mod Worlds

@@ -1,8 +1,6 @@
 -- Which page leaves its frame so that another gets one.
 use Rattle.std.specs.Prelude.{◌≡◌, ◌≢◌, ℕ, ◌%◌, ◌<◌, ◌≤◌, ◌⊎◌, Bool, true, false, ◌==◌, ◌&&◌, ◌||◌, not, if◌then◌else◌, List, [], Option, Some, None, All, length, map, sum_by, slice_index_or}
-use Rattle.std.proofs.Common.{lit<, lit≤}
 use Rattle.rand_core.specs.Stream.{Stream, next_u32}
-use Rattle.dev_balloon.specs.Balloon.{given_count}
 use Rattle.frames.specs.FreeList.{FreeList}
 use Rattle.physmap.specs.declared.page.Page.{Page}
 use Rattle.physmap.specs.Pages.{page_at, kind_at, is_resident}
@@ -10,24 +8,10 @@ use Rattle.physmap.specs.Holdings.{resident_pages}
 use Rattle.taxpolicy.specs.declared.stat.Stat.{Stat}
 use Rattle.taxpolicy.specs.Victim.{IsEligible, victim_of}
 use Rattle.world.specs.Evictions.{IsEvicted}
-use Rattle.world.specs.Tenants.{TenantIs, pages_in, beside_pages}
+use Rattle.tenant.specs.Tenants.{TenantIs, pages_in, beside_pages, stat_of}
 use Rattle.world.specs.declared.faulting.Spared.{Spared}
 use Rattle.world.specs.declared.faulting.FaultError.{FaultError}
 use Rattle.world.specs.declared.faulting.FaultError.TheVariants.{NoFrame, NoSwap, SwapRead, SwapDamaged, Memory}
-
--- what the policy knows of a guest of which no sample was taken: all of its pages count as active
-abbrev pub stat_of : TenantIs → Stat
-stat_of t = record {
-  shares = t.shares;
-  pages = length (pages_in t);
-  resident = resident_pages (pages_in t);
-  given = given_count t.guest.bus.devices.balloon;
-  active = 100;
-  sample = 100;
-  minimum = 2;
-  sampled = lit< tt;
-  touched = lit≤ tt;
-}
 
 -- whether a page is one of two
 abbrev pub is_one_of : Option (ℕ × ℕ) → ℕ → Bool

@@ -6,7 +6,7 @@ use Rattle.sharetab.specs.Entries.{EntriesAre}
 use Rattle.sharetab.specs.Shares.{SharesAre}
 use Rattle.mips_step.specs.Step.{Machine}
 use Rattle.paging.specs.Books.{Books}
-use Rattle.world.specs.Tenants.{TenantIs, pages_in, beside_pages, IsKept}
+use Rattle.tenant.specs.Tenants.{TenantIs, pages_in, beside_pages, IsKept}
 
 pub record WorldIs (Store : Type 0) : Type 0 where
   -- the guests, that of number g at place g

@@ -1,10 +1,11 @@
 //! What the books count.
 ghost use Rattle.std.specs.Prelude.{◌≡◌, ◌^◌, ◌<◌, sum_by, map};
 ghost use Rattle.physmap.specs.Holdings.{private_pages, shared_pages, swapped_pages};
-ghost use Rattle.world.specs.Tenants.{TenantIs, pages_in};
+ghost use Rattle.tenant.specs.Tenants.{TenantIs, pages_in};
 
-use crate::{Tenant, World};
+use crate::World;
 use swapstore::SwapStore;
+use tenant::Tenant;
 
 /// How many frames, pages and slots the books have, each kind counted for itself.
 #[derive(Clone, Copy, Debug, PartialEq, Eq)]
@@ -65,7 +66,7 @@ impl<S: SwapStore> World<S> {
     ghost use Rattle.std.specs.Prelude.{◌≡◌, ◌+◌, ◌≤◌, length, sum_by, map};
     ghost use Rattle.sharetab.specs.Entries.{entry_count, ticket_count};
     ghost use Rattle.physmap.specs.Holdings.{private_pages, shared_pages, swapped_pages};
-    ghost use Rattle.world.specs.Tenants.{TenantIs, pages_in};
+    ghost use Rattle.tenant.specs.Tenants.{TenantIs, pages_in};
 
     /// What the books count: the free frames and the shared ones by pool and share table, and pages by the guests. They add up:
     /// the frames that are free, private and shared are all frames, as many tickets of shared frames are out as there are

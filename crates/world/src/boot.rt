@@ -2,11 +2,12 @@
 ghost use Rattle.std.specs.Prelude.{◌≡◌, ◌↔◌, IsTrue, All};
 ghost use Rattle.world.specs.Boots.{IsWithinLimits, AreWithinLimits, HoldsImage};
 
-use crate::{BootError, World};
+use crate::World;
 use elf32::Image;
 use std::alloc::Global;
 use std::sync::Arc;
 use swapstore::SwapStore;
+use tenant::BootError;
 
 /// What a world has, but for its store and its guests.
 #[derive(Clone, Copy, Debug, PartialEq, Eq)]
@@ -75,7 +76,7 @@ impl<S: SwapStore> World<S> {
     ghost use Rattle.sharetab.specs.Maps.{at_page};
     ghost use Rattle.sharetab.specs.declared.guest_page.GuestPage.{GuestPage};
     ghost use Rattle.world.specs.Boots.{IsWithinLimits, AreWithinLimits, HoldsImage, AreBooted, WhyNotBooted};
-    ghost use Rattle.world.specs.Loading.{IsOfLoading};
+    ghost use Rattle.tenant.specs.Loading.{IsOfLoading};
 
     // A world of no guest gets guests, in their order.
     fn with_guests(
@@ -94,7 +95,8 @@ impl<S: SwapStore> World<S> {
         ensures honest { IfOk result (λ w. S.honest w.store ↔ S.honest self.store) }
         ensures true_to_digests { IfOk result (λ w. S.true_to_digests w.store ↔ S.true_to_digests self.store) }
         ensures err { IfErr result (λ refused. IsOfLoading refused.0) }
-        ensures back { IfErr result (λ refused. (S.slots refused.1 ≡ S.slots self.store) × (S.honest refused.1 ↔ S.honest self.store)) }
+        ensures back { IfErr result (λ refused. (S.slots refused.1 ≡ S.slots self.store) × (S.honest refused.1 ↔ S.honest self.store) ×
+            (S.true_to_digests refused.1 ↔ S.true_to_digests self.store)) }
     {
         let mut world = self;
         for guest in guests {
@@ -124,7 +126,8 @@ impl<S: SwapStore> World<S> {
         ensures within { IfOk result (λ w. AreWithinLimits config.frames (S.slots store) config.log_runs guests.items × All HoldsImage guests.items) }
         ensures err { IfErr result
             (λ refused. WhyNotBooted (AreWithinLimits config.frames (S.slots store) config.log_runs guests.items) (All HoldsImage guests.items) refused.0) }
-        ensures back { IfErr result (λ refused. (S.slots refused.1 ≡ S.slots store) × (S.honest refused.1 ↔ S.honest store)) }
+        ensures back { IfErr result (λ refused. (S.slots refused.1 ≡ S.slots store) × (S.honest refused.1 ↔ S.honest store) ×
+            (S.true_to_digests refused.1 ↔ S.true_to_digests store)) }
     {
         if !are_within_limits(config, store.slot_count(), &guests) {
             return Err((BootError::Limits, store));

@@ -55,8 +55,9 @@ impl<S: SwapStore> World<S> {
     ghost use Rattle.swapstore.specs.Failures.{one_more};
     ghost use Rattle.world.specs.Debugging.{IsReady, IfStopped, written_items, OnlyPagesAndRoom};
     ghost use Rattle.world.specs.Events.{IsForRoom, WhyStopped};
-    ghost use Rattle.world.specs.Tenants.{TenantIs, pages_in, NothingHappens};
-    ghost use Rattle.world.specs.Victims.{stat_of, OnlyPagesMove, WhyLacking};
+    ghost use Rattle.tenant.specs.Tenants.{TenantIs, pages_in, NothingHappens};
+    ghost use Rattle.world.specs.Victims.{OnlyPagesMove, WhyLacking};
+    ghost use Rattle.tenant.specs.Tenants.{stat_of};
     ghost use Rattle.world.specs.Worlds.{Changes, SameAround, boot_of, log_at};
 
     // One of two pages that a debugger reaches gets a frame of its own, where it is wanted, and no eviction takes either of them.

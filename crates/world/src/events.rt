@@ -1,10 +1,11 @@
 //! What may happen in a world, and what is answered.
-use crate::{DebugError, EvictError, Evicted, FaultError, Ran};
+use crate::{DebugError, Evicted, FaultError, Ran};
 use flatvm::Reply;
 use guest::{Refused, Stop};
 use items::Item;
 use mips_step::StepOut;
 use paging::{Scan, SupplyError};
+use tenant::EvictError;
 use word32::Ppn;
 
 /// What may happen in a world. Guests are named by their numbers, from 0 in the order in which they were added.

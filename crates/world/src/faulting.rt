@@ -2,15 +2,17 @@
 ghost use Rattle.std.specs.Prelude.{◌≡◌, ◌%◌, ◌<◌, ◌≤◌, ℕ, true, IfSome, IfNone, IfOk, length, map};
 ghost use Rattle.rand_core.specs.Stream.{next_u32};
 ghost use Rattle.physmap.specs.Holdings.{resident_pages};
-ghost use Rattle.world.specs.Tenants.{TenantIs, pages_in};
-ghost use Rattle.world.specs.Victims.{stat_of, is_one_of, spared_of, may_leave, NoneResident, IsNextResident};
+ghost use Rattle.tenant.specs.Tenants.{TenantIs, pages_in};
+ghost use Rattle.world.specs.Victims.{is_one_of, spared_of, may_leave, NoneResident, IsNextResident};
+ghost use Rattle.tenant.specs.Tenants.{stat_of};
 
-use crate::{EvictError, Tenant, World};
+use crate::World;
 use paging::{Pages, SupplyError};
 use rand_core::Rng;
 use std::alloc::{AllocError, Global};
 use swapstore::SwapStore;
 use taxpolicy::{Stat, Tax, victim};
+use tenant::{EvictError, Tenant};
 use word32::Ppn;
 
 /// Why a page that a guest needs gets no frame.
@@ -132,8 +134,9 @@ impl<S: SwapStore> World<S> {
     ghost use Rattle.physmap.specs.declared.page.PageKind.{PageKind};
     ghost use Rattle.physmap.specs.Pages.{kind_at};
     ghost use Rattle.swapstore.specs.Failures.{one_more};
-    ghost use Rattle.world.specs.Tenants.{TenantIs, pages_in};
-    ghost use Rattle.world.specs.Victims.{stat_of, IsPolicys, OnlyPagesMove, SparedStay, OtherSparedStay, WhyLacking, all_resident};
+    ghost use Rattle.tenant.specs.Tenants.{TenantIs, pages_in};
+    ghost use Rattle.world.specs.Victims.{IsPolicys, OnlyPagesMove, SparedStay, OtherSparedStay, WhyLacking, all_resident};
+    ghost use Rattle.tenant.specs.Tenants.{stat_of};
 
     /// A page of the policy's victim leaves its frame for a slot: of the guests with more than two resident pages the victim is the
     /// one of the least ratio of shares to pages, taxed for idle ones, and its page is the first resident one at or after the

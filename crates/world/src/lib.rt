@@ -16,11 +16,7 @@ mod damage;
 pub mod debugging;
 pub mod events;
 pub mod faulting;
-pub mod loading;
-mod moves;
 pub mod running;
-mod stepping;
-pub mod tenant;
 pub mod world;
 
 pub use books::BookCounts;
@@ -28,17 +24,5 @@ pub use boot::{Config, NewGuest, are_within_limits};
 pub use debugging::DebugError;
 pub use events::{Answer, Event};
 pub use faulting::{FaultError, Spared};
-pub use loading::BootError;
-pub use moves::EvictError;
 pub use running::{End, Ran, RunStop};
-pub use tenant::Tenant;
 pub use world::{Evicted, World};
-
-#[cfg(test)]
-mod boot_tests;
-#[cfg(test)]
-mod debugging_tests;
-#[cfg(test)]
-mod running_tests;
-#[cfg(test)]
-mod tests;

@@ -1,15 +1,15 @@
 //! Many steps of a guest by one call.
 ghost use Rattle.std.specs.Prelude.{◌≡◌};
-ghost use Rattle.world.specs.Events.{stop_of, end_at, for_room};
+ghost use Rattle.world.specs.Events.{stop_of, for_room};
 
-use crate::stepping::run_in;
 use crate::{FaultError, World};
 use guest::Stop;
-use mips_step::{StepOut, Why};
+use mips_step::Why;
 use rand_core::Rng;
 use std::alloc::Global;
 use swapstore::SwapStore;
 use taxpolicy::Tax;
+use tenant::run_in;
 use word32::Ppn;
 
 /// Why a guest's run stopped before all of its steps were made.
@@ -75,24 +75,8 @@ fn for_room(stop: Stop) -> RunStop
     }
 }
 
-// How a run of steps ends at what a step is answered: not at all where the step is made.
-fn end_at(answer: Result<StepOut, Stop>) -> Option<End>
-    ensures { result ≡ end_at answer }
-{
-    let out = match answer {
-        Ok(out) => out,
-        Err(Stop::Memory) => return Some(End::Stop(RunStop::Memory)),
-        Err(Stop::LogFull) => return Some(End::Stop(RunStop::LogFull)),
-    };
-    match out {
-        StepOut::Done => None,
-        StepOut::Need(page, why) => Some(End::Need(page, why)),
-    }
-}
-
 impl<S: SwapStore> World<S> {
-    ghost use Rattle.std.specs.Prelude.{◌≡◌, ◌≢◌, ◌<◌, ◌≤◌, ◌↔◌, ◌++◌, ℕ, Some, None, IfSome, IfNone, IsSome, IfOk, OnErr, IsErrOf, length, map, slice_index_or};
-    ghost use Rattle.items.specs.Entries.{step_by};
+    ghost use Rattle.std.specs.Prelude.{◌≡◌, ◌≢◌, ◌<◌, ◌≤◌, ◌↔◌, ◌++◌, ℕ, Some, None, IsSome, IfOk, IfErr, OnErr, IsErrOf, length, map, slice_index_or};
     ghost use Rattle.guest_log.specs.Logs.{IsFull};
     ghost use Rattle.mips_step.specs.Accesses.{accesses, first_lack};
     ghost use Rattle.mips_step.specs.declared.access.Why.{Why};
@@ -101,31 +85,9 @@ impl<S: SwapStore> World<S> {
     ghost use Rattle.swapstore.specs.Failures.{one_more};
     ghost use Rattle.world.specs.Events.{steps_for, IfStop, IsForRoom, IsSupplied, WhyStopped};
     ghost use Rattle.guest_log.specs.declared.stop.Stop.{Stop};
-    ghost use Rattle.world.specs.Tenants.{TenantIs, pages_in, Stays, AddsSteps, NothingHappens};
-    ghost use Rattle.world.specs.Victims.{stat_of};
-    ghost use Rattle.world.specs.Worlds.{Changes, boot_of, log_at, item_for};
-
-    // One step of a guest, or how a run of steps ends where it is not made.
-    fn step_once(&mut self, g: usize) -> Option<End>
-        requires { g < length self.old.tenants }
-        ensures made { IfNone result ((h : ℕ) → log_at self.new.tenants h ≡ log_at self.old.tenants h ++ item_for h g (step_by 0)) }
-        ensures not_made { IfSome result (λ end. (h : ℕ) → log_at self.new.tenants h ≡ log_at self.old.tenants h) }
-        ensures nothing { IfSome result (λ end. Changes NothingHappens g self.old.tenants self.new.tenants) }
-        ensures stays { Changes Stays g self.old.tenants self.new.tenants }
-        ensures boots { map boot_of self.new.tenants ≡ map boot_of self.old.tenants }
-        ensures early { IfSome result (λ end. end ≢ End.Done) }
-        ensures need { S.true_to_digests self.old.store → (p : ℕ) (why : Why) → result ≡ Some (End.Need p why) → (t : TenantIs) →
-            first_lack (lacks_in (pages_in (slice_index_or self.new.tenants g t)))
-            (accesses (view_of (slice_index_or self.new.tenants g t).guest)) ≡ Some (p, why) }
-        ensures full { result ≡ Some (End.Stop RunStop.LogFull) → (t : TenantIs) → IsFull (slice_index_or self.new.tenants g t).guest.log }
-        ensures room { IfSome result (λ end. end ≢ End.Stop RunStop.LogFull → (t : TenantIs) → IsFull (slice_index_or self.new.tenants g t).guest.log → ⊥) }
-        ensures stop { IfSome result (λ end. IfStop end IsForRoom) }
-        ensures hints { self.new.shares.hints ≡ self.old.shares.hints }
-        ensures store { self.new.store ≡ self.old.store }
-        ensures frames { self.new.frames ≡ self.old.frames }
-    {
-        end_at(self.step(g))
-    }
+    ghost use Rattle.tenant.specs.Tenants.{TenantIs, pages_in, Stays, AddsSteps, NothingHappens};
+    ghost use Rattle.tenant.specs.Tenants.{stat_of};
+    ghost use Rattle.world.specs.Worlds.{Changes, SameAround, boot_of, log_at};
 
     // At most `count` steps of a guest, up to one that needs a page or gave one to the balloon (`stepping::run_in`).
     #[inline]
@@ -141,7 +103,8 @@ impl<S: SwapStore> World<S> {
         ensures room { (t : TenantIs) → IfOk result (λ made. IsSome made.1 → IsFull (slice_index_or self.new.tenants g t).guest.log → ⊥) }
         ensures adds { IfOk result (λ made. Changes (λ t t'. AddsSteps t made.0 t') g self.old.tenants self.new.tenants) }
         ensures full { (t : TenantIs) → (IsErrOf result Stop.LogFull ↔ IsFull (slice_index_or self.old.tenants g t).guest.log) }
-        ensures unchanged { OnErr result (Changes NothingHappens g self.old.tenants self.new.tenants) }
+        ensures nothing { IfOk result (λ made. made.0 ≡ 0 → Changes NothingHappens g self.old.tenants self.new.tenants × SameAround self.old self.new) }
+        ensures unchanged { OnErr result (Changes NothingHappens g self.old.tenants self.new.tenants × SameAround self.old self.new) }
         ensures stays { Changes Stays g self.old.tenants self.new.tenants }
         ensures hints { self.new.shares.hints ≡ self.old.shares.hints }
         ensures store { self.new.store ≡ self.old.store }
@@ -154,6 +117,41 @@ impl<S: SwapStore> World<S> {
             &mut self.slots,
             &mut self.shares,
         )
+    }
+
+    // Steps of a guest, at least one and at most `count`; or how a run of steps ends where none is made.
+    #[inline]
+    fn some_steps(&mut self, g: usize, count: u32) -> Result<u32, End>
+        requires guest { g < length self.old.tenants }
+        requires some { 0 < count }
+        ensures some { IfOk result (λ steps. 0 < steps) }
+        ensures few { IfOk result (λ steps. steps ≤ count) }
+        ensures logs { IfOk result (λ steps. (h : ℕ) → log_at self.new.tenants h ≡ log_at self.old.tenants h ++ steps_for h g steps) }
+        ensures nothing { OnErr result (Changes NothingHappens g self.old.tenants self.new.tenants × SameAround self.old self.new) }
+        ensures stays { Changes Stays g self.old.tenants self.new.tenants }
+        ensures boots { map boot_of self.new.tenants ≡ map boot_of self.old.tenants }
+        ensures early { IsErrOf result End.Done → ⊥ }
+        ensures need { S.true_to_digests self.old.store → (p : ℕ) (why : Why) → IsErrOf result (End.Need p why) → (t : TenantIs) →
+            first_lack (lacks_in (pages_in (slice_index_or self.new.tenants g t)))
+            (accesses (view_of (slice_index_or self.new.tenants g t).guest)) ≡ Some (p, why) }
+        ensures full { IsErrOf result (End.Stop RunStop.LogFull) → (t : TenantIs) → IsFull (slice_index_or self.new.tenants g t).guest.log }
+        ensures room { IfErr result (λ end. end ≢ End.Stop RunStop.LogFull → (t : TenantIs) → IsFull (slice_index_or self.new.tenants g t).guest.log → ⊥) }
+        ensures stop { IfErr result (λ end. IfStop end IsForRoom) }
+        ensures hints { self.new.shares.hints ≡ self.old.shares.hints }
+        ensures store { self.new.store ≡ self.old.store }
+        ensures frames { self.new.frames ≡ self.old.frames }
+    {
+        let (steps, needed) = match self.run_once(g, count) {
+            Ok(ran) => ran,
+            Err(stop) => return Err(End::Stop(for_room(stop))),
+        };
+        if steps > 0 {
+            return Ok(steps);
+        }
+        match needed {
+            Some((page, why)) => Err(End::Need(page, why)),
+            None => unreachable!(),
+        }
     }
 
     /// At most `count` steps of a guest with no page supplied: those that it makes before one needs a page, or before its log has no
@@ -172,25 +170,17 @@ impl<S: SwapStore> World<S> {
         ensures room { result.end ≢ End.Done → result.end ≢ End.Stop RunStop.LogFull → (t : TenantIs) →
             IsFull (slice_index_or self.new.tenants g t).guest.log → ⊥ }
         ensures stop { IfStop result.end IsForRoom }
+        ensures nothing { result.steps ≡ 0 → Changes NothingHappens g self.old.tenants self.new.tenants × SameAround self.old self.new }
+        ensures stays { Changes Stays g self.old.tenants self.new.tenants }
         ensures hints { self.new.shares.hints ≡ self.old.shares.hints }
         ensures store { self.new.store ≡ self.old.store }
         ensures frames { self.new.frames ≡ self.old.frames }
     {
         let mut made = 0;
         while made < count {
-            let (steps, needed) = match self.run_once(g, count - made) {
-                Ok(ran) => ran,
-                Err(stop) => return Ran {
-                    steps: made,
-                    end: End::Stop(for_room(stop)),
-                },
-            };
-            made += steps;
-            if let Some((page, why)) = needed {
-                return Ran {
-                    steps: made,
-                    end: End::Need(page, why),
-                };
+            match self.some_steps(g, count - made) {
+                Ok(steps) => made += steps,
+                Err(end) => return Ran { steps: made, end },
             }
         }
         Ran {
@@ -199,27 +189,32 @@ impl<S: SwapStore> World<S> {
         }
     }
 
-    // One step of a guest, for which pages are supplied, at most 64 of them, or how a run of steps ends where it is not made.
-    fn step_supplied<R: Rng>(
+    // Steps of a guest, at least one and at most `count`, for the first of which pages are supplied, at most 64 of them; or how a run
+    // of steps ends where none is made.
+    fn steps_supplied<R: Rng>(
         &mut self,
         alloc: Global,
         g: usize,
+        count: u32,
         tax: Tax,
         rng: &mut R,
-    ) -> Option<End>
-        requires { g < length self.old.tenants }
-        ensures made { IfNone result ((h : ℕ) → log_at self.new.tenants h ≡ log_at self.old.tenants h ++ item_for h g (step_by 0)) }
-        ensures not_made { IfSome result (λ end. (h : ℕ) → log_at self.new.tenants h ≡ log_at self.old.tenants h) }
+    ) -> Result<u32, End>
+        requires guest { g < length self.old.tenants }
+        requires some { 0 < count }
+        ensures some { IfOk result (λ steps. 0 < steps) }
+        ensures few { IfOk result (λ steps. steps ≤ count) }
+        ensures logs { IfOk result (λ steps. (h : ℕ) → log_at self.new.tenants h ≡ log_at self.old.tenants h ++ steps_for h g steps) }
+        ensures not_made { OnErr result ((h : ℕ) → log_at self.new.tenants h ≡ log_at self.old.tenants h) }
         ensures boots { map boot_of self.new.tenants ≡ map boot_of self.old.tenants }
-        ensures early { IfSome result (λ end. end ≢ End.Done) }
-        ensures need { S.true_to_digests self.old.store → (p : ℕ) (why : Why) → result ≡ Some (End.Need p why) → (t : TenantIs) →
+        ensures early { IsErrOf result End.Done → ⊥ }
+        ensures need { S.true_to_digests self.old.store → (p : ℕ) (why : Why) → IsErrOf result (End.Need p why) → (t : TenantIs) →
             first_lack (lacks_in (pages_in (slice_index_or self.new.tenants g t)))
             (accesses (view_of (slice_index_or self.new.tenants g t).guest)) ≡ Some (p, why) }
-        ensures supplied { S.true_to_digests self.old.store → (p : ℕ) (why : Why) → result ≡ Some (End.Need p why) → (t : TenantIs) →
+        ensures supplied { S.true_to_digests self.old.store → (p : ℕ) (why : Why) → IsErrOf result (End.Need p why) → (t : TenantIs) →
             IsSupplied p (slice_index_or self.new.tenants g t) }
-        ensures full { result ≡ Some (End.Stop RunStop.LogFull) → (t : TenantIs) → IsFull (slice_index_or self.new.tenants g t).guest.log }
-        ensures room { IfSome result (λ end. end ≢ End.Stop RunStop.LogFull → (t : TenantIs) → IsFull (slice_index_or self.new.tenants g t).guest.log → ⊥) }
-        ensures stop { IfSome result (λ end. IfStop end (WhyStopped self.new.pool self.new.slots (map stat_of self.new.tenants)
+        ensures full { IsErrOf result (End.Stop RunStop.LogFull) → (t : TenantIs) → IsFull (slice_index_or self.new.tenants g t).guest.log }
+        ensures room { IfErr result (λ end. end ≢ End.Stop RunStop.LogFull → (t : TenantIs) → IsFull (slice_index_or self.new.tenants g t).guest.log → ⊥) }
+        ensures stop { IfErr result (λ end. IfStop end (WhyStopped self.new.pool self.new.slots (map stat_of self.new.tenants)
             ((before : ℕ) × (S.failed self.new.store ≡ one_more before)) (S.honest self.old.store → ⊥))) }
         ensures hints { self.new.shares.hints ≡ self.old.shares.hints }
         ensures frames { self.new.frames ≡ self.old.frames }
@@ -228,15 +223,17 @@ impl<S: SwapStore> World<S> {
         ensures true_to_digests { S.true_to_digests self.new.store ↔ S.true_to_digests self.old.store }
     {
         for _ in 0..SUPPLIES_IN_A_ROW {
-            match self.step_once(g) {
-                Some(End::Need(_, _)) => {}
-                other => return other,
+            match self.some_steps(g, count) {
+                Ok(steps) => return Ok(steps),
+                Err(End::Need(_, _)) => {}
+                Err(End::Stop(why)) => return Err(End::Stop(why)),
+                Err(End::Done) => unreachable!(),
             }
             if let Err(error) = self.fault(alloc, g, tax, rng) {
-                return Some(End::Stop(stop_of(error)));
+                return Err(End::Stop(stop_of(error)));
             }
         }
-        self.step_once(g)
+        self.some_steps(g, count)
     }
 
     /// At most `count` steps of a guest, where the page that a step needs is supplied as by `fault` each time. It ends early where a
@@ -272,9 +269,11 @@ impl<S: SwapStore> World<S> {
         ensures honest { S.honest self.new.store ↔ S.honest self.old.store }
         ensures true_to_digests { S.true_to_digests self.new.store ↔ S.true_to_digests self.old.store }
     {
-        for steps in 0..count {
-            if let Some(end) = self.step_supplied(alloc, g, tax, rng) {
-                return Ran { steps, end };
+        let mut steps = 0;
+        while steps < count {
+            match self.steps_supplied(alloc, g, count - steps, tax, rng) {
+                Ok(made) => steps += made,
+                Err(end) => return Ran { steps, end },
             }
         }
         Ran {

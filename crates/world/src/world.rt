@@ -1,10 +1,6 @@
 //! A world of guests.
 ghost use Rattle.std.specs.Prelude.{◌≡◌, ◌≢◌, ◌<◌};
 
-use crate::loading::{BootError, loaded};
-use crate::moves::{evict_page, scan_page, supply_page};
-use crate::stepping::step_in;
-use crate::{EvictError, Tenant};
 use elf32::Image;
 use flatvm::Reply;
 use framepool::Pool;
@@ -18,6 +14,7 @@ use std::alloc::Global;
 use std::marker::Model;
 use std::sync::Arc;
 use swapstore::{SlotBook, SwapStore};
+use tenant::{BootError, EvictError, Tenant, evict_page, loaded, scan_page, step_in, supply_page};
 use word32::Ppn;
 
 /// What became of a page that was to leave its frame.
@@ -87,9 +84,9 @@ impl<S: SwapStore> World<S> {
     ghost use Rattle.paged_bus.specs.Writes.{WritesTo};
     ghost use Rattle.guest.specs.Guests.{view_of, standing};
     ghost use Rattle.world.specs.Evictions.{Became};
-    ghost use Rattle.world.specs.Lent.{WhyStays};
-    ghost use Rattle.world.specs.Loading.{FramesFirst, IsOfLoading};
-    ghost use Rattle.world.specs.Tenants.{TenantIs, pages_in, IsBooted, Stays, Adds, NothingHappens};
+    ghost use Rattle.tenant.specs.Lent.{WhyStays};
+    ghost use Rattle.tenant.specs.Loading.{FramesFirst, IsOfLoading};
+    ghost use Rattle.tenant.specs.Tenants.{TenantIs, pages_in, IsBooted, Stays, Adds, NothingHappens};
     ghost use Rattle.world.specs.Worlds.{WorldIs, Sound, Changes, PagesMove, SameAround};
 
     /// A world of no guest, with this many frames, all free, and the slots of a store, all free. The store comes back where a
@@ -152,7 +149,8 @@ impl<S: SwapStore> World<S> {
         ensures honest { IfOk result (λ w. S.honest w.store ↔ S.honest self.store) }
         ensures true_to_digests { IfOk result (λ w. S.true_to_digests w.store ↔ S.true_to_digests self.store) }
         ensures err { IfErr result (λ refused. IsOfLoading refused.0) }
-        ensures back { IfErr result (λ refused. (S.slots refused.1 ≡ S.slots self.store) × (S.honest refused.1 ↔ S.honest self.store)) }
+        ensures back { IfErr result (λ refused. (S.slots refused.1 ≡ S.slots self.store) × (S.honest refused.1 ↔ S.honest self.store) ×
+            (S.true_to_digests refused.1 ↔ S.true_to_digests self.store)) }
     {
         let World {
             mut tenants,

@@ -14,7 +14,8 @@ use std::sync::Arc;
 use std::test::Fail;
 use swapstore::MemStore;
 use taxpolicy::Tax;
-use world::{BootError, Config, End, NewGuest, Ran, World};
+use tenant::BootError;
+use world::{Config, End, NewGuest, Ran, World};
 
 /// The most pages that a physical address reaches.
 const MOST_PAGES: u32 = 1 << 20;

@@ -5,7 +5,7 @@ use Rattle.mips_step.specs.Step.{Machine, step}
 use Rattle.swapstore.specs.Memories.{MemoryIs}
 use Rattle.physmap.specs.Holdings.{private_pages}
 use Rattle.physmap.specs.declared.page.Page.{Page}
-use Rattle.world.specs.Tenants.{Stays}
+use Rattle.tenant.specs.Tenants.{Stays}
 use Rattle.commands.specs.Hosted.{HostedIs, first_pages, hosted_of}
 use Rattle.commands.proofs.Hosting.{alone_after, done_then, few_kinds, its_need, lacking, lacking_still, need_then, not_full, one_left, pages_unmoved, refused_full, same_error, step_added, unmoved}
 use Rattle.commands.proofs.hosted.step_supplied.Goals as goal

@@ -2,7 +2,7 @@ use Rattle.std.proofs.Common.{Err, refl, length, ap, ◌∙◌}
 use Rattle.mips_step.specs.Step.{Machine}
 use Rattle.swapstore.specs.Memories.{MemoryIs}
 use Rattle.guest.specs.declared.refused.Refused.TheVariants as refused
-use Rattle.world.specs.Tenants.{Stays}
+use Rattle.tenant.specs.Tenants.{Stays}
 use Rattle.commands.specs.Hosted.{hosted_of}
 use Rattle.commands.proofs.Hosting.{accepted, added, alone_after, first_tenant, full_error, had_room, may_stop_one, one_left, refused_full, refused_full_before, same_stop, unmoved}
 use Rattle.commands.proofs.hosted.take_byte.Goals as goal

@@ -1,6 +1,6 @@
 use Rattle.std.proofs.Common.{ℕ, get_or, subst}
 use Rattle.paging.specs.Scans.{Answered}
-use Rattle.world.specs.Tenants.{pages_in}
+use Rattle.tenant.specs.Tenants.{pages_in}
 use Rattle.world.proofs.Worlds.{moved_logs, moved_boots}
 use Rattle.simulation.proofs.performing.scan.Goals as goal
 

@@ -1,6 +1,6 @@
 use Rattle.std.proofs.Common.{◌≡◌, sum_by, map, take}
 use Rattle.physmap.specs.Holdings.{private_pages}
-use Rattle.world.specs.Tenants.{pages_in}
+use Rattle.tenant.specs.Tenants.{pages_in}
 use Rattle.world.proofs.books.private_in.Given as goal
 
 -- what the guests so far have

@@ -1,6 +1,6 @@
 use Rattle.std.proofs.Common.{◌≡◌, sum_by, map, take}
 use Rattle.physmap.specs.Holdings.{swapped_pages}
-use Rattle.world.specs.Tenants.{pages_in}
+use Rattle.tenant.specs.Tenants.{pages_in}
 use Rattle.world.proofs.books.swapped_in.Given as goal
 
 -- what the guests so far have

@@ -1,4 +1,4 @@
-use Rattle.world.specs.Tenants.{pages_in}
+use Rattle.tenant.specs.Tenants.{pages_in}
 use Rattle.world.specs.Victims.{NoneResident}
 use Rattle.world.proofs.faulting.first_resident.Given as goal
 

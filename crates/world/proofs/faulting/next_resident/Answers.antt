@@ -1,5 +1,5 @@
 use Rattle.std.proofs.Common.{subst}
-use Rattle.world.specs.Tenants.{pages_in}
+use Rattle.tenant.specs.Tenants.{pages_in}
 use Rattle.world.specs.Victims.{NoneResident}
 use Rattle.world.proofs.Victims.{none_at_all}
 use Rattle.world.proofs.faulting.next_resident.Goals as goal

@@ -1,6 +1,6 @@
 use Rattle.std.proofs.Common.{ap, ◌∙◌}
 use Rattle.guest.specs.Guests.{GuestIs}
-use Rattle.world.specs.Tenants.{TenantIs}
+use Rattle.tenant.specs.Tenants.{TenantIs}
 use Rattle.commands.specs.Hosted.{HostedIs}
 use Rattle.commands.proofs.Hosting.{first_log, first_tenant}
 use Rattle.commands.proofs.hosted.HostedGuest.log.Goals as goal

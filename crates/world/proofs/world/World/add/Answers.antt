@@ -1,5 +1,5 @@
 use Rattle.std.proofs.Common.{ℕ, List, sym, subst}
-use Rattle.world.specs.Tenants.{TenantIs}
+use Rattle.tenant.specs.Tenants.{TenantIs}
 use Rattle.world.specs.Worlds.{Sound}
 use Rattle.world.proofs.Worlds.{slots_once, sound_add}
 use Rattle.world.proofs.world.World.add.Goals as goal

@@ -2,7 +2,7 @@ use Rattle.std.proofs.Common.{List, map, sum_by, sym, ap, ◌∙◌, arith}
 use Rattle.sharetab.specs.Entries.{ticket_count}
 use Rattle.physmap.specs.Holdings.{private_pages, shared_pages, swapped_pages}
 use Rattle.paging.proofs.Totals.{frames_add_up, slots_add_up, slots_out_add_up, tickets_add_up}
-use Rattle.world.specs.Tenants.{TenantIs, pages_in}
+use Rattle.tenant.specs.Tenants.{TenantIs, pages_in}
 use Rattle.world.specs.Worlds.{WorldIs}
 use Rattle.world.proofs.world.World.books.Goals as goal
 

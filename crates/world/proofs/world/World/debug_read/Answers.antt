@@ -3,7 +3,7 @@ use Rattle.flatvm.specs.Replies.{bytes_at, SomePlaceIn}
 use Rattle.guest.specs.Guests.{GuestIs, standing, view_of, Intact}
 use Rattle.physmap.specs.declared.page.PageKind.TheVariants.{Swapped}
 use Rattle.physmap.specs.Pages.{kind_at}
-use Rattle.world.specs.Tenants.{TenantIs, pages_in, IsKept}
+use Rattle.tenant.specs.Tenants.{TenantIs, pages_in, IsKept}
 use Rattle.mips_step.specs.Step.{Machine}
 use Rattle.world.proofs.Reached.{not_away}
 use Rattle.world.proofs.Runs.{moved_same}

@@ -7,7 +7,7 @@ use Rattle.guest_log.specs.Logs.{IsFull}
 use Rattle.world.specs.declared.debugging.DebugError.TheVariants.{Stop}
 use Rattle.world.specs.declared.running.RunStop.TheVariants.{LogFull}
 use Rattle.world.specs.Debugging.{written_items}
-use Rattle.world.specs.Tenants.{TenantIs}
+use Rattle.tenant.specs.Tenants.{TenantIs}
 use Rattle.world.proofs.Reached.{ok_not}
 use Rattle.world.proofs.Runs.{fault_stays, moved_room, moved_same}
 use Rattle.world.proofs.Victims.{fault_logs, fault_boots}

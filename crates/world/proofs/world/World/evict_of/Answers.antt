@@ -1,7 +1,7 @@
 use Rattle.std.proofs.Common.{ℕ, set, sym, subst, ◌∙◌}
 use Rattle.std.proofs.lemmas.Result.{on_err_weaker}
 use Rattle.world.specs.Worlds.{Sound}
-use Rattle.world.proofs.Keeping.{moved_kept}
+use Rattle.tenant.proofs.Keeping.{moved_kept}
 use Rattle.world.proofs.Worlds.{guest_inside, tenants_of, lent_of, sound_after, same_guests}
 use Rattle.world.proofs.world.World.evict_of.Goals as goal
 

@@ -4,10 +4,11 @@ use Rattle.rand_core.specs.Stream.{next_u32}
 use Rattle.frames.specs.FreeList.{FreeList}
 use Rattle.swapstore.specs.Failures.{one_more}
 use Rattle.taxpolicy.specs.Victim.{IsEligible, victim_of}
-use Rattle.world.specs.declared.moves.EvictError.{EvictError}
-use Rattle.world.specs.Lent.{WhyStays}
-use Rattle.world.specs.Tenants.{TenantIs, pages_in}
-use Rattle.world.specs.Victims.{stat_of, spared_of, may_leave, IsNextResident}
+use Rattle.tenant.specs.declared.moves.EvictError.{EvictError}
+use Rattle.tenant.specs.Lent.{WhyStays}
+use Rattle.tenant.specs.Tenants.{TenantIs, pages_in}
+use Rattle.world.specs.Victims.{spared_of, may_leave, IsNextResident}
+use Rattle.tenant.specs.Tenants.{stat_of}
 use Rattle.physmap.specs.Pages.{kind_at, is_resident}
 use Rattle.world.proofs.Victims.{least_at, only_pages, fewer, none_free, leaves_resident, evicted_spares}
 use Rattle.world.proofs.world.World.evict_sparing.Goals as goal

@@ -5,7 +5,7 @@ use Rattle.paged_bus.specs.Lacking.{lacks_in}
 use Rattle.guest.specs.Guests.{view_of}
 use Rattle.physmap.specs.declared.page.PageKind.TheVariants.{Private}
 use Rattle.physmap.specs.Pages.{kind_at}
-use Rattle.world.specs.Tenants.{TenantIs, pages_in}
+use Rattle.tenant.specs.Tenants.{TenantIs, pages_in}
 use Rattle.world.proofs.Victims.{some_none, first_of}
 use Rattle.world.proofs.Worlds.{kept_of}
 use Rattle.world.proofs.world.World.fault.Goals as goal

@@ -3,7 +3,7 @@ use Rattle.std.proofs.lemmas.Result.{IfOk-weaker, on_ok_weaker}
 use Rattle.flatvm.specs.Answers.{replied}
 use Rattle.flatvm.specs.Items.{accepts, reply}
 use Rattle.guest.specs.Guests.{view_of}
-use Rattle.world.specs.Tenants.{TenantIs, IsKept}
+use Rattle.tenant.specs.Tenants.{TenantIs, IsKept}
 use Rattle.world.specs.Worlds.{WorldIs}
 use Rattle.world.proofs.Worlds.{guest_inside, guest_at, tenants_of, kept_of, input_sound}
 use Rattle.world.proofs.world.World.input.Goals as goal

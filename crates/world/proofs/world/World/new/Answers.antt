@@ -1,6 +1,6 @@
 use Rattle.std.proofs.Common.{ℕ, ◌≡◌, List, sym, subst}
 use Rattle.frames.specs.Counts.{count_of, below}
-use Rattle.world.specs.Tenants.{TenantIs}
+use Rattle.tenant.specs.Tenants.{TenantIs}
 use Rattle.world.specs.Worlds.{Sound}
 use Rattle.world.proofs.Worlds.{sound_new}
 use Rattle.world.proofs.world.World.new.Goals as goal

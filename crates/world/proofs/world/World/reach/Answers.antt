@@ -3,7 +3,7 @@ use Rattle.flatvm.specs.Replies.{bytes_at, SomePlaceIn}
 use Rattle.guest.specs.Guests.{GuestIs, standing, without_pages, IsSized}
 use Rattle.guest.proofs.Placing.{view_none, moved_none, moved_places}
 use Rattle.physmap.specs.Pages.{page_at}
-use Rattle.world.specs.Tenants.{TenantIs, pages_in, IsKept}
+use Rattle.tenant.specs.Tenants.{TenantIs, pages_in, IsKept}
 use Rattle.world.proofs.Reached.{ready_unwanted}
 use Rattle.world.proofs.Runs.{moved_same}
 use Rattle.world.proofs.Victims.{same_pages}

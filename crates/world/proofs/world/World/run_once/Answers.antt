@@ -4,7 +4,7 @@ use Rattle.mips_step.specs.Accesses.{accesses, first_lack}
 use Rattle.mips_step.specs.declared.access.Why.{Why}
 use Rattle.paged_bus.specs.Lacking.{lacks_in}
 use Rattle.guest.specs.Guests.{view_of}
-use Rattle.world.specs.Tenants.{TenantIs, pages_in}
+use Rattle.tenant.specs.Tenants.{TenantIs, pages_in}
 use Rattle.world.specs.Worlds.{WorldIs}
 use Rattle.world.proofs.Worlds.{guest_inside, tenants_of, lent_of, kept_of, sound_after}
 use Rattle.world.proofs.world.World.run_once.Goals as goal

@@ -1,4 +1,4 @@
-use Rattle.std.proofs.Common.{◌≡◌, ℕ, ◌<◌, ◌↔◌, ◌++◌, length, map}
+use Rattle.std.proofs.Common.{◌≡◌, ℕ, ◌-◌, ◌<◌, ◌≤◌, ◌↔◌, ◌++◌, length, map}
 use Rattle.world.specs.Events.{steps_for}
 use Rattle.world.specs.Worlds.{boot_of, log_at}
 use Rattle.world.proofs.world.World.run_steps.Given as goal
@@ -7,6 +7,7 @@ use Rattle.world.proofs.world.World.run_steps.Given as goal
 abbrev pub invariant-loop-steps : goal.invariant-loop-steps
 invariant-loop-steps g l = record {
   inside : l.g < length l.self.tenants;
+  few : l.steps ≤ l.count;
   logs : (h : ℕ) → log_at l.self.tenants h ≡ log_at l.fn.self.tenants h ++ steps_for h l.g l.steps;
   boots : map boot_of l.self.tenants ≡ map boot_of l.fn.self.tenants;
   hints : l.self.shares.hints ≡ l.fn.self.shares.hints;
@@ -15,3 +16,7 @@ invariant-loop-steps g l = record {
   honest : g.S.SwapStore.honest l.self.store ↔ g.S.SwapStore.honest l.fn.self.store;
   trust : g.S.SwapStore.true_to_digests l.self.store ↔ g.S.SwapStore.true_to_digests l.fn.self.store;
 }
+
+-- each turn makes a step or is the last
+abbrev pub decreases-loop-steps : goal.decreases-loop-steps
+decreases-loop-steps g l = l.count - l.steps

@@ -2,8 +2,8 @@ use Rattle.std.proofs.Common.{ℕ, refl, sym, subst, get_or, set}
 use Rattle.std.proofs.lemmas.List.{get_or-set_same}
 use Rattle.sharetab.specs.Shares.{SharesAre}
 use Rattle.paging.specs.Scans.{Answered, Comes}
-use Rattle.world.specs.Tenants.{TenantIs, pages_in}
-use Rattle.world.proofs.Keeping.{moved_kept}
+use Rattle.tenant.specs.Tenants.{TenantIs, pages_in}
+use Rattle.tenant.proofs.Keeping.{moved_kept}
 use Rattle.world.proofs.Worlds.{guest_inside, guest_at, tenants_of, shares_of, lent_of, sound_after}
 use Rattle.world.proofs.world.World.scan.Goals as goal
 

@@ -3,7 +3,7 @@ use Rattle.mips_step.specs.Accesses.{accesses, first_lack}
 use Rattle.mips_step.specs.Answer.{need_of}
 use Rattle.paged_bus.specs.Lacking.{lacks_in}
 use Rattle.guest.specs.Guests.{view_of}
-use Rattle.world.specs.Tenants.{TenantIs, pages_in}
+use Rattle.tenant.specs.Tenants.{TenantIs, pages_in}
 use Rattle.world.specs.Worlds.{WorldIs}
 use Rattle.world.proofs.Worlds.{guest_inside, guest_at, tenants_of, lent_of, kept_of, sound_after}
 use Rattle.world.proofs.world.World.step.Goals as goal

@@ -1,41 +1,35 @@
-use Rattle.std.proofs.Common.{◌∙◌, arith}
-use Rattle.world.proofs.Runs.{still_there, steps_join}
-use Rattle.world.proofs.Worlds.{same_boots, same_logs, steps_logs}
+use Rattle.std.proofs.Common.{◌∙◌, Err, ap, sym, subst, arith}
+use Rattle.world.proofs.Runs.{still_there, steps_join, stays_then}
+use Rattle.world.proofs.Worlds.{same_logs}
 use Rattle.world.specs.Worlds.{log_at}
 use Rattle.world.proofs.world.World.steps.Goals as goal
 
 pub returns-in-Err-clause-logs : goal.returns-in-Err-clause-logs
 returns-in-Err-clause-logs g c = λ h.
     let at = c.loop-made in
-    same_logs c.args.g at.self.tenants c.run_once.new.self.tenants at.invariant.inside c.in-Err.ensures.unchanged h ∙ at.invariant.logs h
+    same_logs c.args.g at.self.tenants c.some_steps.new.self.tenants at.invariant.inside c.in-Err.ensures.nothing.0 h ∙ at.invariant.logs h
 
-pub returns-in-Err-clause-boots : goal.returns-in-Err-clause-boots
-returns-in-Err-clause-boots g c =
-    let at = c.loop-made in
-    same_boots c.args.g at.self.tenants c.run_once.new.self.tenants at.invariant.inside c.run_once.ensures.stays ∙ at.invariant.boots
+pub returns-in-Err-clause-need : goal.returns-in-Err-clause-need
+returns-in-Err-clause-need g c = λ trust p why is t.
+    c.some_steps.ensures.need (subst g.S.SwapStore.true_to_digests (sym c.loop-made.invariant.store) trust) p why (c.in-Err.is ∙ ap Err is) t
 
-pub returns-in-Some-clause-logs : goal.returns-in-Some-clause-logs
-returns-in-Some-clause-logs g c = λ h.
+pub returns-in-Err-clause-stays : goal.returns-in-Err-clause-stays
+returns-in-Err-clause-stays g c =
     let at = c.loop-made in
-    steps_join h c.args.g at.made c.in-Ok.ran.0 (log_at c.args.self.now.tenants h) (log_at at.self.tenants h) (log_at c.run_once.new.self.tenants h) (at.invariant.logs h)
-    (steps_logs c.args.g at.self.tenants c.run_once.new.self.tenants c.in-Ok.ran.0 at.invariant.inside c.in-Ok.ensures.adds h)
-
-pub returns-in-Some-clause-boots : goal.returns-in-Some-clause-boots
-returns-in-Some-clause-boots g c =
-    let at = c.loop-made in
-    same_boots c.args.g at.self.tenants c.run_once.new.self.tenants at.invariant.inside c.run_once.ensures.stays ∙ at.invariant.boots
+    stays_then c.args.g c.args.self.now.tenants at.self.tenants c.some_steps.new.self.tenants at.invariant.stays c.some_steps.ensures.stays
 
 pub loop-made-preserved : goal.loop-made-preserved
 loop-made-preserved g c =
     let at = c.loop-made in
-    let boots = same_boots c.args.g at.self.tenants c.run_once.new.self.tenants at.invariant.inside c.run_once.ensures.stays in
     record {
-      inside = still_there c.args.g at.self.tenants c.run_once.new.self.tenants at.invariant.inside boots;
+      inside = still_there c.args.g at.self.tenants c.some_steps.new.self.tenants at.invariant.inside c.some_steps.ensures.boots;
       few = omega (arith, at.invariant.few, c.in-Ok.ensures.few, c.loop-made-test.true);
-      logs = λ h. steps_join h c.args.g at.made c.in-Ok.ran.0 (log_at c.args.self.now.tenants h) (log_at at.self.tenants h) (log_at c.run_once.new.self.tenants h) (at.invariant.logs h)
-          (steps_logs c.args.g at.self.tenants c.run_once.new.self.tenants c.in-Ok.ran.0 at.invariant.inside c.in-Ok.ensures.adds h);
-      boots = boots ∙ at.invariant.boots;
-      hints = c.run_once.ensures.hints ∙ at.invariant.hints;
-      store = c.run_once.ensures.store ∙ at.invariant.store;
-      frames = c.run_once.ensures.frames ∙ at.invariant.frames;
+      none = λ none. absurd (omega (arith, none, c.in-Ok.ensures.some));
+      logs = λ h. steps_join h c.args.g at.made c.in-Ok.steps (log_at c.args.self.now.tenants h) (log_at at.self.tenants h) (log_at c.some_steps.new.self.tenants h) (at.invariant.logs h)
+          (c.in-Ok.ensures.logs h);
+      boots = c.some_steps.ensures.boots ∙ at.invariant.boots;
+      stays = stays_then c.args.g c.args.self.now.tenants at.self.tenants c.some_steps.new.self.tenants at.invariant.stays c.some_steps.ensures.stays;
+      hints = c.some_steps.ensures.hints ∙ at.invariant.hints;
+      store = c.some_steps.ensures.store ∙ at.invariant.store;
+      frames = c.some_steps.ensures.frames ∙ at.invariant.frames;
     }

@@ -1,15 +1,18 @@
 use Rattle.std.proofs.Common.{◌≡◌, ℕ, ◌-◌, ◌<◌, ◌≤◌, ◌++◌, length, map}
+use Rattle.tenant.specs.Tenants.{Stays}
 use Rattle.world.specs.Events.{steps_for}
-use Rattle.world.specs.Worlds.{boot_of, log_at}
+use Rattle.world.specs.Worlds.{Changes, boot_of, log_at}
 use Rattle.world.proofs.world.World.steps.Given as goal
 
--- the log has the steps so far
+-- the log has the steps so far, and before the first nothing has happened
 abbrev pub invariant-loop-made : goal.invariant-loop-made
 invariant-loop-made g l = record {
   inside : l.g < length l.self.tenants;
   few : l.made ≤ l.count;
+  none : l.made ≡ 0 → l.self ≡ l.fn.self;
   logs : (h : ℕ) → log_at l.self.tenants h ≡ log_at l.fn.self.tenants h ++ steps_for h l.g l.made;
   boots : map boot_of l.self.tenants ≡ map boot_of l.fn.self.tenants;
+  stays : Changes Stays l.g l.fn.self.tenants l.self.tenants;
   hints : l.self.shares.hints ≡ l.fn.self.shares.hints;
   store : l.self.store ≡ l.fn.self.store;
   frames : l.self.frames ≡ l.fn.self.frames;

@@ -5,7 +5,7 @@ use Rattle.paging.specs.Supplies.{WhyAway}
 use Rattle.swapstore.specs.Failures.{one_more}
 use Rattle.guest.specs.Guests.{view_of}
 use Rattle.guest.specs.Views.{pages_seen}
-use Rattle.world.proofs.Keeping.{moved_kept}
+use Rattle.tenant.proofs.Keeping.{moved_kept}
 use Rattle.world.specs.Worlds.{WorldIs, Sound}
 use Rattle.world.proofs.Worlds.{guest_inside, tenants_of, lent_of, kept_of, sound_after, same_guests, why_away}
 use Rattle.world.proofs.world.World.supply.Goals as goal

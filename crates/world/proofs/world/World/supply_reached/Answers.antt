@@ -1,6 +1,6 @@
 use Rattle.std.proofs.Common.{ℕ, ◌<◌, get_or, sym, subst}
 use Rattle.std.proofs.lemmas.Result.{on_ok_weaker}
-use Rattle.world.specs.Tenants.{pages_in}
+use Rattle.tenant.specs.Tenants.{pages_in}
 use Rattle.world.proofs.Reached.{both_ready, one_stays, both_stay}
 use Rattle.world.proofs.Victims.{same_pages}
 use Rattle.world.proofs.world.World.supply_reached.Goals as goal

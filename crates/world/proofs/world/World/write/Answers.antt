@@ -6,7 +6,7 @@ use Rattle.guest.specs.Guests.{standing}
 use Rattle.physmap.specs.Pages.{kind_at}
 use Rattle.world.specs.Debugging.{write_of, written_items}
 use Rattle.world.specs.Events.{input_items}
-use Rattle.world.specs.Tenants.{pages_in}
+use Rattle.tenant.specs.Tenants.{pages_in}
 use Rattle.paged_bus.specs.Writes.{WritesTo}
 use Rattle.world.specs.Worlds.{log_at, item_for}
 use Rattle.world.proofs.Victims.{some_tenant}

@@ -1,0 +1,72 @@
+-- A guest whose pages have moved, and one that was stepped.
+use Rattle.std.proofs.Common.{ℕ, ◌≡◌, ◌<◌, List, length, sym, ap, subst, ◌∙◌, arith, Option}
+use Rattle.std.proofs.lemmas.List.Sums.{get_or-le-sum_by}
+use Rattle.frames.specs.Counts.{count_of}
+use Rattle.frames.specs.FreeList.{FreeList}
+use Rattle.frames.proofs.Counting.{one_same}
+use Rattle.items.specs.declared.item.Item.{Item}
+use Rattle.mips_step.specs.Processor.{Processor}
+use Rattle.mips_step.specs.Step.{Machine}
+use Rattle.flatvm.specs.Items.{run, AllAccepted}
+use Rattle.physmap.specs.declared.page.Page.{Page}
+use Rattle.physmap.specs.declared.page.Page.TheVariants as page
+use Rattle.physmap.specs.Pages.{page_at}
+use Rattle.physmap.specs.Holdings.{slot_in, slots_held}
+use Rattle.paging.specs.Faith.{IsHeld, Kept}
+use Rattle.paged_bus.specs.Buses.{PagedBusIs}
+use Rattle.guest.specs.Guests.{view_of, without_pages, LogsOnly}
+use Rattle.guest.specs.Views.{pages_seen, Shows}
+use Rattle.guest.proofs.Keeping.{same_view, still_intact}
+use Rattle.tenant.specs.Lent.{UsedStay}
+use Rattle.tenant.specs.Tenants.{TenantIs, pages_in, beside_pages, IsKept}
+
+-- the pages of a guest are kept as before after they have moved
+pub moved_kept : (held held' : ℕ → Option (List ℕ)) (t t' : TenantIs) → beside_pages t' ≡ beside_pages t → length (pages_in t') ≡ length (pages_in t)
+    → ((view : ℕ → List ℕ) → Kept held view (pages_in t) → Kept held' view (pages_in t')) → IsKept held t → IsKept held' t'
+moved_kept held held' t t' beside count moves k =
+    let rest : without_pages t'.guest ≡ without_pages t.guest = ap (λ (u : TenantIs). u.guest) beside in
+    let view : view_of t'.guest ≡ view_of t.guest = same_view t.guest t'.guest rest in
+    let now = moves (pages_seen (view_of t.guest)) k.pages in
+    record {
+      intact = still_intact t.guest t'.guest rest count k.intact now.faithful;
+      pages = subst (λ (m : Machine). Kept held' (pages_seen m) (pages_in t')) (sym view) now;
+    }
+
+-- what of a guest is kept
+record KeptAs (held : ℕ → Option (List ℕ)) (cpu : Processor) (bus : PagedBusIs) (boot : Machine) (items : List Item) : Type 0 where
+  shows : Shows (run items boot) cpu bus
+  accepted : AllAccepted items boot
+  pages : Kept held (pages_seen (run items boot)) bus.pages
+
+-- a guest of which only the room in its log has changed
+pub still_kept : (held : ℕ → Option (List ℕ)) (t t' : TenantIs) → LogsOnly t.guest t'.guest → t'.guest.log.items ≡ t.guest.log.items → IsKept held t → IsKept held t'
+still_kept held t t' l items k =
+    let g = t.guest in
+    let g' = t'.guest in
+    let old : KeptAs held g.cpu g.bus g.boot g.log.items = record { shows = k.intact.shows; accepted = k.intact.accepted; pages = k.pages } in
+    let new : KeptAs held g'.cpu g'.bus g'.boot g'.log.items =
+    subst (λ (c : Processor). KeptAs held c g'.bus g'.boot g'.log.items) (sym l.cpu)
+    (subst (λ (b : PagedBusIs). KeptAs held g.cpu b g'.boot g'.log.items) (sym l.bus)
+    (subst (λ (m : Machine). KeptAs held g.cpu g.bus m g'.log.items) (sym l.boot)
+    (subst (KeptAs held g.cpu g.bus g.boot) (sym items) old))) in
+    record { intact = record { shows = new.shows; accepted = new.accepted }; pages = new.pages }
+
+-- each slot that isn't free holds what it held, so what a guest has in slots lies there
+pub used_held : (book : FreeList) (held held' : ℕ → Option (List ℕ)) (b : List ℕ) (q : Page) → UsedStay book held held' → ((slot : ℕ) → 0 < slot_in slot q → count_of slot book.free ≡ 0)
+    → IsHeld held b q → IsHeld held' b q
+used_held book held held' b page.Zero used apart lies = tt
+used_held book held held' b page.Given used apart lies = tt
+used_held book held held' b (page.Private frame) used apart lies = tt
+used_held book held held' b (page.Shared share ticket) used apart lies = tt
+used_held book held held' b (page.Swapped slot digest) used apart lies = used slot (apart slot (omega (arith, one_same slot))) ∙ lies
+
+pub used_kept : (book : FreeList) (held held' : ℕ → Option (List ℕ)) (t : TenantIs) → UsedStay book held held'
+    → ((slot : ℕ) → 0 < slots_held slot (pages_in t) → count_of slot book.free ≡ 0) → IsKept held t → IsKept held' t
+used_kept book held held' t used apart k = record {
+  intact = k.intact;
+  pages = record {
+    faithful = k.pages.faithful;
+    lies = λ p there. used_held book held held' (pages_seen (view_of t.guest) p) (page_at (pages_in t) p) used
+        (λ slot some. apart slot (omega (arith, some, get_or-le-sum_by (slot_in slot) (pages_in t) p page.Zero there))) (k.pages.lies p there);
+  };
+}

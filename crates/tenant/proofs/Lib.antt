@@ -1,0 +1,4 @@
+pub mod Booting
+pub mod Giving
+pub mod Keeping
+pub mod Moving

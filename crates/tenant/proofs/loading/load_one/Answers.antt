@@ -1,0 +1,16 @@
+use Rattle.tenant.proofs.loading.load_one.Goals as goal
+
+pub returns-in-Ok-clause-conserves : goal.returns-in-Ok-clause-conserves
+returns-in-Ok-clause-conserves g c = λ es. c.load_in_frame.ensures.conserves c.args.slots.now es
+
+pub returns-in-Err-clause-conserves : goal.returns-in-Err-clause-conserves
+returns-in-Err-clause-conserves g c = λ es. c.load_in_frame.ensures.conserves c.args.slots.now es
+
+pub returns-in-Ok-load_in_slot-clause-conserves : goal.returns-in-Ok-load_in_slot-clause-conserves
+returns-in-Ok-load_in_slot-clause-conserves g c = λ es. c.load_in_slot.ensures.conserves c.args.pool.now es
+
+pub returns-in-Err-NoSwap-clause-conserves : goal.returns-in-Err-NoSwap-clause-conserves
+returns-in-Err-NoSwap-clause-conserves g c = λ es. c.load_in_slot.ensures.conserves c.args.pool.now es
+
+pub returns-in-Err-SwapWrite-clause-conserves : goal.returns-in-Err-SwapWrite-clause-conserves
+returns-in-Err-SwapWrite-clause-conserves g c = λ es. c.load_in_slot.ensures.conserves c.args.pool.now es

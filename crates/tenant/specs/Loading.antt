@@ -1,0 +1,70 @@
+-- Pages of an image that are being loaded.
+use Rattle.std.specs.Prelude.{◌≡◌, ℕ, ◌<◌, ◌≤◌, List, [], Option, length}
+use Rattle.frames.specs.FreeList.{FreeList}
+use Rattle.elf32.specs.declared.image.Image.{Image}
+use Rattle.mips_step.specs.World.{page_bytes}
+use Rattle.flatvm.specs.Boot.{boot_memory}
+use Rattle.physmap.specs.declared.page.Page.{Page}
+use Rattle.physmap.specs.declared.page.Page.TheVariants.{Zero}
+use Rattle.physmap.specs.declared.page.PageKind.TheVariants.{Private, Swapped}
+use Rattle.physmap.specs.Pages.{page_at, kind_of, kind_at}
+use Rattle.paging.specs.Faith.{IsFaithful, IsHeld}
+use Rattle.guest.specs.Loading.{IsBeside}
+use Rattle.tenant.specs.declared.loading.BootError.{BootError}
+use Rattle.tenant.specs.declared.loading.BootError.TheVariants.{Limits, Segment, Room, Store, Memory}
+
+-- the bytes of a page as an image boots in a memory of so many pages
+abbrev pub boot_page : Image → ℕ → ℕ → List ℕ
+boot_page image count p = page_bytes p (boot_memory image count)
+
+-- each page from a number on, and each that the image doesn't reach, was never touched
+pub record AreUntouched (image : Image) (next : ℕ) (pages : List Page) : Type 0 where
+  pub further : (p : ℕ) → next ≤ p → page_at pages p ≡ Zero
+  pub beside : (p : ℕ) → IsBeside image p → page_at pages p ≡ Zero
+
+-- Each page below a number has its bytes of the image in a memory of so many pages: it shows them, or they lie in its slot, and it
+-- has their SHA-256.
+pub record AreLoaded (held : ℕ → Option (List ℕ)) (image : Image) (count next : ℕ) (pages : List Page) : Type 0 where
+  pub faithful : (p : ℕ) → p < next → p < length pages → IsFaithful (boot_page image count p) (page_at pages p)
+  pub lies : (p : ℕ) → p < next → p < length pages → IsHeld held (boot_page image count p) (page_at pages p)
+
+-- one page has these bytes, and no other page has changed
+pub record IsLoaded (trusted : Type 0) (held : ℕ → Option (List ℕ)) (p : ℕ) (bytes : List ℕ) (old new : List Page) : Type 0 where
+  pub others : (o : ℕ) → (o ≡ p → ⊥) → page_at new o ≡ page_at old o
+  pub faithful : IsFaithful bytes (page_at new p)
+  pub lies : trusted → IsHeld held bytes (page_at new p)
+
+-- a page got a frame where one was free, and else a slot
+pub record IsFrameFirst (pool pool' : FreeList) (page : Page) : Type 0 where
+  pub free : kind_of page ≡ Private → 0 < length pool.free
+  pub full : kind_of page ≡ Swapped → pool'.free ≡ []
+  pub stays : pool.free ≡ [] → pool'.free ≡ []
+
+-- no frame is free where a page is in a slot, and the pages in frames are below those in slots
+pub record FramesFirst (pool : FreeList) (pages : List Page) : Type 0 where
+  pub full : (p : ℕ) → kind_at pages p ≡ Swapped → pool.free ≡ []
+  pub below : (p q : ℕ) → kind_at pages p ≡ Private → kind_at pages q ≡ Swapped → p < q
+
+-- why a page of an image has no place: neither a frame nor a slot is free, or no frame and the store failed to write one
+abbrev pub WhyNotLoaded : FreeList → FreeList → Type 0 → BootError → Type 0
+WhyNotLoaded pool slots failed Limits = ⊥
+WhyNotLoaded pool slots failed Segment = ⊥
+WhyNotLoaded pool slots failed Room = (pool.free ≡ []) × (slots.free ≡ [])
+WhyNotLoaded pool slots failed Store = (pool.free ≡ []) × (0 < length slots.free) × failed
+WhyNotLoaded pool slots failed Memory = Unit {0}
+
+-- a refusal that a page of an image can bring
+abbrev pub IsOfLoading : BootError → Type 0
+IsOfLoading Limits = ⊥
+IsOfLoading Segment = ⊥
+IsOfLoading Room = Unit {0}
+IsOfLoading Store = Unit {0}
+IsOfLoading Memory = Unit {0}
+
+-- the number by which the refusal of a world is known
+abbrev pub boot_number : BootError → ℕ
+boot_number Limits = 1
+boot_number Segment = 2
+boot_number Room = 3
+boot_number Store = 4
+boot_number Memory = 5

@@ -1,0 +1,18 @@
+//! A guest of a world, with its seats and its shares, and what its steps and pages do to the frames, the slots and the shared frames
+//! around it.
+//!
+//! In clauses a `Tenant` is a record, `TenantIs` (`specs/Tenants.antt`). While a store is true to digests it is its run, `IsKept`, and
+//! each call keeps that. The other calls work on what a world, or a host, lends for one of them: the frames, the slots, the store and
+//! the table of shared frames, of which exact books say `Lent` (`specs/Lent.antt`). After `step_in`, `run_in`, `supply_page`,
+//! `evict_page`, `scan_page` and `loaded` nothing is lost or made (`Conserves`), and the guest is still its run.
+#![tactic(auto)]
+
+pub mod loading;
+mod moves;
+mod stepping;
+pub mod tenant;
+
+pub use loading::{BootError, loaded};
+pub use moves::{EvictError, evict_page, scan_page, store_page, supply_page};
+pub use stepping::{run_in, step_in};
+pub use tenant::Tenant;

@@ -1,0 +1,313 @@
+//! A guest of a world.
+ghost use Rattle.std.specs.Prelude.{◌≡◌};
+
+use elf32::Image;
+use flatvm::Reply;
+use frames::{Frame, SharePage, ShareTicket, SlotTicket};
+use guest::{Guest, Progress, Refused, Seat, Stepped, Stop};
+use items::Item;
+use mips_step::Why;
+use paging::Pages;
+use physmap::{PageKind, Returned};
+use sharetab::Shares;
+use std::alloc::AllocError;
+use std::marker::Model;
+use taxpolicy::{DEFAULT_MINIMUM, SAMPLE_SIZE, Stat};
+use word32::Ppn;
+
+/// A guest with its four seats and its shares of the memory. In clauses it is a record, `TenantIs`.
+///
+/// Seat 0 makes its steps and brings its console's input, seat 1 drains its console and sets its balloon's target for those who
+/// run the world, seat 2 sets it for the policy, and seat 3 pokes and writes for the debugger; but any seat may bring any item
+/// that is no step.
+pub struct Tenant {
+    guest: Guest,
+    runner: Seat,
+    console: Seat,
+    policy: Seat,
+    debugger: Seat,
+    shares: u32,
+}
+
+impl Model for Tenant {
+    ghost use Rattle.tenant.specs.Tenants.{TenantIs, IsSeat};
+
+    ghost Value = { TenantIs };
+
+    ghost view = { λ t. record { guest = t.guest; shares = t.shares } };
+
+    ghost invariant = { λ t. IsSeat t.guest 0 t.runner × IsSeat t.guest 1 t.console × IsSeat t.guest 2 t.policy × IsSeat t.guest 3 t.debugger };
+}
+
+impl Tenant {
+    ghost use Rattle.std.specs.Prelude.{◌≡◌, ◌≢◌, ◌<◌, ◌≤◌, ◌^◌, ℕ, true, false, List, Option, None, Some, OnOk, OnErr, IfOk, IfSome, IsErrOf, ◌↔◌};
+    ghost use Rattle.std.specs.Prelude.{length, slice_set};
+    ghost use Rattle.elf32.specs.Images.{FitsPages};
+    ghost use Rattle.items.specs.Items.{is_step};
+    ghost use Rattle.items.specs.Entries.{step_by};
+    ghost use Rattle.guest_log.specs.Logs.{IsFull};
+    ghost use Rattle.mips_step.specs.Given.{step_given};
+    ghost use Rattle.mips_step.specs.Accesses.{accesses, first_lack};
+    ghost use Rattle.mips_step.specs.World.{page_bytes};
+    ghost use Rattle.flatvm.specs.Answers.{replied};
+    ghost use Rattle.flatvm.specs.Boot.{boot_memory};
+    ghost use Rattle.flatvm.specs.Items.{accepts, reply};
+    ghost use Rattle.mips_tlb.specs.declared.kind.Kind.TheVariants.{Store};
+    ghost use Rattle.physmap.specs.declared.page.Page.{Page};
+    ghost use Rattle.physmap.specs.declared.page.PageKind.{PageKind};
+    ghost use Rattle.physmap.specs.Pages.{page_at, kind_at, own_frame};
+    ghost use Rattle.physmap.specs.Holdings.{private_pages, shared_pages, swapped_pages, resident_pages};
+    ghost use Rattle.physmap.specs.Outline.{outline};
+    ghost use Rattle.paged_bus.specs.Lacking.{lacks_in};
+    ghost use Rattle.paged_bus.specs.Writes.{WritesTo};
+    ghost use Rattle.mips_step.specs.declared.access.Why.{Why};
+    ghost use Rattle.physmap.specs.declared.page.Returned.{Returned};
+    ghost use Rattle.guest.specs.Guests.{view_of, standing, need_of, HandsBack, HasPaused};
+    ghost use Rattle.guest.specs.declared.progress.Pause.{Pause};
+    ghost use Rattle.tenant.specs.Tenants.{TenantIs, pages_in, beside_pages, IsKept, Stays, Adds, AddsSteps, NothingHappens};
+    ghost use Rattle.tenant.specs.Tenants.{stat_of};
+
+    /// A guest that has no seat yet, with this many shares.
+    pub fn new(mut guest: Guest, shares: u32) -> Tenant
+        requires { guest.seats ≡ 0 }
+        ensures guest { result.guest ≡ record guest { seats = 4 } }
+        ensures shares { result.shares ≡ shares }
+    {
+        Tenant {
+            runner: guest.seat(),
+            console: guest.seat(),
+            policy: guest.seat(),
+            debugger: guest.seat(),
+            guest,
+            shares,
+        }
+    }
+
+    /// The guest: its view, its log, and what a debugger reads of it.
+    pub fn guest(&self) -> &Guest
+        ensures { result.now ≡ self.now.guest }
+    {
+        &self.guest
+    }
+
+    /// How many shares of the memory it has.
+    pub fn shares(&self) -> u32
+        ensures { result ≡ self.now.shares }
+    {
+        self.shares
+    }
+
+    /// How many pages it has, at most 2^20.
+    pub fn page_count(&self) -> u32
+        ensures value { result ≡ length (pages_in self.now) }
+        ensures small { result ≤ 2 ^ 20 }
+    {
+        self.guest.page_count()
+    }
+
+    /// How many of its pages are in a frame, their own or a shared one.
+    pub fn resident(&self) -> u32
+        ensures value { result ≡ resident_pages (pages_in self.now) }
+        ensures within { result ≤ length (pages_in self.now) }
+    {
+        self.guest.resident()
+    }
+
+    /// How many of its pages are in frames of their own.
+    pub fn private(&self) -> u32
+        ensures { result ≡ private_pages (pages_in self.now) }
+    {
+        self.guest.private()
+    }
+
+    /// How many of its pages are in shared frames.
+    pub fn shared(&self) -> u32
+        ensures { result ≡ shared_pages (pages_in self.now) }
+    {
+        self.guest.shared()
+    }
+
+    /// How many of its pages are in slots.
+    pub fn swapped(&self) -> u32
+        ensures { result ≡ swapped_pages (pages_in self.now) }
+    {
+        self.guest.swapped()
+    }
+
+    /// What the policy knows of it: no sample was taken, so all of its pages count as active.
+    pub fn stat(&self) -> Stat
+        ensures { result ≡ stat_of self.now }
+    {
+        Stat {
+            shares: Tenant::shares(self),
+            pages: self.page_count(),
+            resident: self.resident(),
+            given: self.guest.view().devices.given(),
+            active: SAMPLE_SIZE as u16,
+            sample: SAMPLE_SIZE as u16,
+            minimum: DEFAULT_MINIMUM,
+        }
+    }
+
+    /// The `Need` that a step of it would answer. The page is one of the guest's.
+    pub fn need(&self) -> Option<(Ppn, Why)>
+        ensures need { (held : ℕ → Option (List ℕ)) → IsKept held self.now →
+            result ≡ first_lack (lacks_in (pages_in self.now)) (accesses (view_of self.now.guest)) }
+        ensures there { IfSome result (λ needed. needed.0 < length (pages_in self.now)) }
+    {
+        self.guest.need()
+    }
+
+    /// Puts the bytes that a page has as the image boots into the frame that the page has for its own. All else stays.
+    pub fn load_page(&mut self, image: &Image, p: Ppn)
+        requires fits { FitsPages image.now (length (pages_in self.old)) }
+        requires there { p < length (pages_in self.old) }
+        requires private { kind_at (pages_in self.old) p ≡ PageKind.Private }
+        ensures pages { pages_in self.new ≡ slice_set (pages_in self.old) p (Page.Private (record {
+          number = (own_frame (page_at (pages_in self.old) p)).number;
+          bytes = page_bytes p (boot_memory image.now (length (pages_in self.old)));
+        })) }
+        ensures rest { beside_pages self.new ≡ beside_pages self.old }
+    {
+        self.guest.load_page(image, p);
+    }
+
+    /// One step, with room made for it in the log, by `Guest::log_room` and `Guest::step`.
+    pub fn step(&mut self) -> Result<Stepped, Stop>
+        ensures need { (held : ℕ → Option (List ℕ)) → IsKept held self.old →
+            IfOk result (λ s. need_of s ≡ first_lack (lacks_in (pages_in self.old)) (accesses (view_of self.old.guest))) }
+        ensures adds { IfOk result (λ s. need_of s ≡ None → Adds self.old (step_by 0) self.new) }
+        ensures needs { IfOk result (λ s. need_of s ≢ None → NothingHappens self.old self.new) }
+        ensures hands_back { IfOk result (λ s. HandsBack (step_given (standing self.old.guest)) (pages_in self.old) s (pages_in self.new)) }
+        ensures full { IsErrOf result Stop.LogFull ↔ IsFull self.old.guest.log }
+        ensures unchanged { OnErr result (NothingHappens self.old self.new) }
+        ensures kept { (held : ℕ → Option (List ℕ)) → IsKept held self.old → IsKept held self.new }
+        ensures stays { Stays self.old self.new }
+    {
+        self.guest.log_room()?;
+        Ok(self.guest.step(&mut self.runner))
+    }
+
+    /// At most `count` steps of it, with room made for them in the log, by `Guest::log_room` and `Guest::run`.
+    #[inline]
+    pub fn run(&mut self, count: u32) -> Result<Progress, Stop>
+        ensures few { IfOk result (λ p. p.steps ≤ count) }
+        ensures some { IfOk result (λ p. p.pause ≡ None → 0 < count → 0 < p.steps) }
+        ensures gave { IfOk result (λ p. (returned : Returned) → p.pause ≡ Some (Pause.Gave returned) → 0 < p.steps) }
+        ensures short { IfOk result (λ p. (page : ℕ) (why : Why) → p.pause ≡ Some (Pause.Need page why) → p.steps < count) }
+        ensures need { (held : ℕ → Option (List ℕ)) → IsKept held self.old → IfOk result (λ p. (page : ℕ) (why : Why) →
+            p.pause ≡ Some (Pause.Need page why) → first_lack (lacks_in (pages_in self.new)) (accesses (view_of self.new.guest)) ≡ Some (page, why)) }
+        ensures room { IfOk result (λ p. (page : ℕ) (why : Why) → p.pause ≡ Some (Pause.Need page why) → IsFull self.new.guest.log → ⊥) }
+        ensures adds { IfOk result (λ p. AddsSteps self.old p.steps self.new) }
+        ensures paused { IfOk result (λ p. HasPaused (pages_in self.old) p.pause (pages_in self.new)) }
+        ensures nothing { IfOk result (λ p. p.steps ≡ 0 → NothingHappens self.old self.new) }
+        ensures full { IsErrOf result Stop.LogFull ↔ IsFull self.old.guest.log }
+        ensures unchanged { OnErr result (NothingHappens self.old self.new) }
+        ensures kept { (held : ℕ → Option (List ℕ)) → IsKept held self.old → IsKept held self.new }
+        ensures stays { Stays self.old self.new }
+    {
+        self.guest.log_room()?;
+        Ok(self.guest.run(count, &mut self.runner))
+    }
+
+    /// What happens to the guest by an item of one of its seats that is no step, as `Guest::input` has it.
+    pub fn input(&mut self, item: Item) -> Result<Reply, Refused>
+        requires { is_step item.what ≡ false }
+        ensures adds { OnOk result (Adds self.old item self.new) }
+        ensures accepted { OnOk result ((held : ℕ → Option (List ℕ)) → IsKept held self.old → accepts item.what (view_of self.old.guest) ≡ true) }
+        ensures reply { IfOk result (λ r. (held : ℕ → Option (List ℕ)) → IsKept held self.old → replied r ≡ reply item.what (view_of self.old.guest)) }
+        ensures refused { IsErrOf result Refused.Machine → (held : ℕ → Option (List ℕ)) → IsKept held self.old →
+            accepts item.what (view_of self.old.guest) ≡ false }
+        ensures refused_as_it_stands { IsErrOf result Refused.Machine → accepts item.what (standing self.old.guest) ≡ false }
+        ensures reply_as_it_stands { IfOk result (λ r. replied r ≡ reply item.what (standing self.old.guest)) }
+        ensures away { (page : ℕ) → IsErrOf result (Refused.Away page) → lacks_in (pages_in self.old) page Store ≢ None }
+        ensures its_page { (page : ℕ) → IsErrOf result (Refused.Away page) → WritesTo item.what (standing self.old.guest) page }
+        ensures full { IsErrOf result (Refused.Stop Stop.LogFull) ↔ IsFull self.old.guest.log }
+        ensures unchanged { OnErr result (NothingHappens self.old self.new) }
+        ensures outline { outline (pages_in self.new) ≡ outline (pages_in self.old) }
+        ensures kept { (held : ℕ → Option (List ℕ)) → IsKept held self.old → IsKept held self.new }
+        ensures stays { Stays self.old self.new }
+    {
+        match item.seat.number() {
+            0 => self.guest.input(item, &mut self.runner),
+            1 => self.guest.input(item, &mut self.console),
+            2 => self.guest.input(item, &mut self.policy),
+            _ => self.guest.input(item, &mut self.debugger),
+        }
+    }
+
+    /// Gives the guest up, and with it what its pages hold.
+    pub fn close(self) {
+        let Tenant {
+            guest,
+            runner,
+            console,
+            policy,
+            debugger,
+            shares: _,
+        } = self;
+        drop(runner);
+        drop(console);
+        drop(policy);
+        drop(debugger);
+        guest.close();
+    }
+}
+
+impl Pages for Tenant {
+    ghost use Rattle.tenant.specs.Tenants.{pages_in, beside_pages};
+
+    type Rest = Tenant;
+
+    ghost pages = { pages_in };
+
+    ghost rest = { beside_pages };
+
+    fn count(&self) -> u32 {
+        self.guest.count()
+    }
+
+    fn kind(&self, p: Ppn) -> PageKind {
+        self.guest.kind(p)
+    }
+
+    fn peek(&self, p: Ppn) -> Option<&[u8]> {
+        self.guest.peek(p)
+    }
+
+    fn away(&self, p: Ppn) -> (u32, [u8; 32]) {
+        self.guest.away(p)
+    }
+
+    fn own_frame(&self, p: Ppn) -> u32 {
+        self.guest.own_frame(p)
+    }
+
+    fn supply_zero(&mut self, p: Ppn, frame: Frame) {
+        self.guest.supply_zero(p, frame);
+    }
+
+    fn supply_copy(&mut self, p: Ppn, frame: Frame) -> ShareTicket {
+        self.guest.supply_copy(p, frame)
+    }
+
+    fn supply_swapped(&mut self, p: Ppn, frame: Frame) -> SlotTicket {
+        self.guest.supply_swapped(p, frame)
+    }
+
+    fn swap_out(&mut self, p: Ppn, slot: SlotTicket, digest: [u8; 32]) -> Returned {
+        self.guest.swap_out(p, slot, digest)
+    }
+
+    fn put_away(&mut self, p: Ppn, slot: SlotTicket, digest: [u8; 32]) {
+        self.guest.put_away(p, slot, digest);
+    }
+
+    fn share(&mut self, p: Ppn, share: SharePage, ticket: ShareTicket) -> Frame {
+        self.guest.share(p, share, ticket)
+    }
+
+    fn admit(&mut self, p: Ppn, shares: &mut Shares) -> Result<(), AllocError> {
+        self.guest.admit(p, shares)
+    }
+}

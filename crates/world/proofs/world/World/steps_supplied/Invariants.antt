@@ -1,0 +1,19 @@
+use Rattle.std.proofs.Common.{◌≡◌, ℕ, ◌<◌, ◌↔◌, length, map, slice_index_or}
+use Rattle.world.specs.Worlds.{boot_of, log_at}
+use Rattle.tenant.specs.Tenants.{TenantIs}
+use Rattle.world.proofs.Runs.{IsReady}
+use Rattle.world.proofs.world.World.steps_supplied.Given as goal
+
+-- no log has changed, and after the first turn a page that the step accesses has a frame of its own
+abbrev pub invariant-loop : goal.invariant-loop
+invariant-loop g l = record {
+  inside : l.g < length l.self.tenants;
+  logs : (h : ℕ) → log_at l.self.tenants h ≡ log_at l.fn.self.tenants h;
+  boots : map boot_of l.self.tenants ≡ map boot_of l.fn.self.tenants;
+  hints : l.self.shares.hints ≡ l.fn.self.shares.hints;
+  frames : l.self.frames ≡ l.fn.self.frames;
+  slots : g.S.SwapStore.slots l.self.store ≡ g.S.SwapStore.slots l.fn.self.store;
+  honest : g.S.SwapStore.honest l.self.store ↔ g.S.SwapStore.honest l.fn.self.store;
+  trust : g.S.SwapStore.true_to_digests l.self.store ↔ g.S.SwapStore.true_to_digests l.fn.self.store;
+  ready : g.S.SwapStore.true_to_digests l.fn.self.store → 0 < l.counter → (t : TenantIs) → IsReady (slice_index_or l.self.tenants l.g t);
+}

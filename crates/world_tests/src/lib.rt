@@ -1,0 +1,13 @@
+//! The tests of `world`: what its events answer and leave in small worlds, worked out by hand, and want of memory at each request.
+//!
+//! They stand apart from it so that a run of the tests proves them alone.
+#![tactic(auto)]
+
+#[cfg(test)]
+mod boot_tests;
+#[cfg(test)]
+mod debugging_tests;
+#[cfg(test)]
+mod event_tests;
+#[cfg(test)]
+mod running_tests;
