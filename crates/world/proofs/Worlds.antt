@@ -29,6 +29,7 @@ use Rattle.paging.proofs.Booking.{books_after, covered, own_once, reads_each, ha
 use Rattle.tenant.specs.Lent.{Lent, UsedStay}
 use Rattle.world.specs.declared.events.Event.{Event}
 use Rattle.world.specs.declared.events.Answer.{Answer}
+use Rattle.world.specs.Answers.{Happens, AllHappen}
 use Rattle.world.specs.Events.{step_items, steps_for, input_items, own_items, own}
 use Rattle.tenant.specs.Tenants.{TenantIs, pages_in, beside_pages, IsKept, Stays, Adds, AddsSteps, NothingHappens}
 use Rattle.world.specs.Worlds.{WorldIs, Sound, Changes, PagesMove, items_of, boot_of, log_at, item_for}
@@ -349,3 +350,11 @@ pub logs_more : (h : ℕ) (es : List Event) (answers : List Answer) (e : Event) 
 logs_more h es answers e a old now after same so_far more =
     more ∙ ap (λ (xs : List Item). xs ++ own_items h e a) so_far ∙ append_assoc old (own h es answers) (own_items h e a)
     ∙ ap (λ (xs : List Item). old ++ xs) (sym (own_more h es answers e a same))
+
+pub all_more : {Kept : Type 0} (trusted : Kept → Type 0) (failures : Kept → ℕ) (honest : Kept → Type 0) (w mid w' : WorldIs Kept) (es : List Event) (answers : List Answer) (e : Event) (a : Answer)
+    → AllHappen trusted failures honest w es answers mid → Happens trusted failures honest mid e a w' → AllHappen trusted failures honest w (es ++ e ∷ []) (answers ++ a ∷ []) w'
+all_more {Kept} trusted failures honest w mid w' [] [] e a same one = (w', subst (λ (v : WorldIs Kept). Happens trusted failures honest v e a w') same one, refl)
+all_more trusted failures honest w mid w' [] (b ∷ answers) e a before one = absurd before
+all_more trusted failures honest w mid w' (d ∷ es) [] e a before one = absurd before
+all_more trusted failures honest w mid w' (d ∷ es) (b ∷ answers) e a before one =
+    (before.0, before.1, all_more trusted failures honest before.0 mid w' es answers e a before.2 one)

@@ -1,5 +1,5 @@
 -- The items that events add to the logs of guests.
-use Rattle.std.specs.Prelude.{◌≡◌, ℕ, ◌<◌, ◌≤◌, length, ◌==◌, if◌then◌else◌, false, Result, Ok, Err, Some, List, [], ◌∷◌, ◌++◌, replicate, map, slice_index_or, Contains, ◌≢◌}
+use Rattle.std.specs.Prelude.{◌≡◌, ℕ, ◌<◌, ◌≤◌, length, ◌==◌, if◌then◌else◌, false, Result, Ok, Err, List, [], ◌∷◌, ◌++◌, replicate, map, Contains, ◌≢◌}
 use Rattle.frames.specs.FreeList.{FreeList}
 use Rattle.items.specs.declared.item.Item.{Item}
 use Rattle.items.specs.Entries.{step_by}
@@ -7,7 +7,6 @@ use Rattle.items.specs.Items.{is_step}
 use Rattle.guest_log.specs.declared.stop.Stop.{Stop}
 use Rattle.guest_log.specs.declared.stop.Stop.TheVariants as halt
 use Rattle.flatvm.specs.declared.reply.Reply.{Reply}
-use Rattle.flatvm.specs.Replies.{bytes_at}
 use Rattle.mips_step.specs.declared.access.StepOut.{StepOut}
 use Rattle.mips_step.specs.declared.access.StepOut.TheVariants as out
 use Rattle.mips_step.specs.Accesses.{Access, accesses}
@@ -121,16 +120,6 @@ own_items h (event.Supply g p) a = []
 own_items h (event.Fault g) a = []
 own_items h (event.Evict g p) a = []
 own_items h (event.Scan g p) a = []
-
--- the bytes that are read of a guest are those of its view
-abbrev pub IsOfView : List TenantIs → ℕ → ℕ → ℕ → Answer → Type 0
-IsOfView tenants g address count (answer.Probed (Ok bytes)) = (t : TenantIs) → bytes_at (view_of (slice_index_or tenants g t).guest) address count ≡ Some bytes.items
-IsOfView tenants g address count _ = Unit {0}
-
--- what is answered to a debugger that reads
-abbrev pub IsProbed : List TenantIs → Event → Answer → Type 0
-IsProbed tenants (event.Probe g address count) a = IsOfView tenants g address count a
-IsProbed tenants _ a = Unit {0}
 
 -- the items that events add to the log of guest h, in order
 abbrev pub own : ℕ → List Event → List Answer → List Item

@@ -1,3 +1,4 @@
+pub mod Answers
 pub mod Boots
 pub mod Debugging
 pub mod Events

@@ -14,11 +14,13 @@ impl<S: SwapStore> World<S> {
     ghost use Rattle.items.specs.declared.item.Item.{Item};
     ghost use Rattle.items.specs.Items.{is_step};
     ghost use Rattle.world.specs.declared.events.Event.{Event};
-    ghost use Rattle.world.specs.Events.{IsProper, items_stepped, items_ran, items_input, items_written, own_items, own, IsOfView, IsProbed};
+    ghost use Rattle.world.specs.Answers.{IsAnswered, AllHappen};
+    ghost use Rattle.world.specs.Events.{IsProper, items_stepped, items_ran, items_input, items_written, own_items, own};
     ghost use Rattle.world.specs.Worlds.{boot_of, log_at};
 
     fn apply_step(&mut self, g: usize) -> Answer
         ensures logs { (h : ℕ) → log_at self.new.tenants h ≡ log_at self.old.tenants h ++ items_stepped h g result }
+        ensures answered { IsAnswered S.true_to_digests S.failed S.honest self.old self.new (Event.Step g) result }
         ensures boots { map boot_of self.new.tenants ≡ map boot_of self.old.tenants }
         ensures store { self.new.store ≡ self.old.store }
         ensures frames { self.new.frames ≡ self.old.frames }
@@ -32,6 +34,7 @@ impl<S: SwapStore> World<S> {
 
     fn apply_steps(&mut self, g: usize, count: u32) -> Answer
         ensures logs { (h : ℕ) → log_at self.new.tenants h ≡ log_at self.old.tenants h ++ items_ran h g result }
+        ensures answered { IsAnswered S.true_to_digests S.failed S.honest self.old self.new (Event.Steps g count) result }
         ensures boots { map boot_of self.new.tenants ≡ map boot_of self.old.tenants }
         ensures store { self.new.store ≡ self.old.store }
         ensures frames { self.new.frames ≡ self.old.frames }
@@ -52,6 +55,7 @@ impl<S: SwapStore> World<S> {
         rng: &mut R,
     ) -> Answer
         ensures logs { (h : ℕ) → log_at self.new.tenants h ≡ log_at self.old.tenants h ++ items_ran h g result }
+        ensures answered { IsAnswered S.true_to_digests S.failed S.honest self.old self.new (Event.Run g count) result }
         ensures boots { map boot_of self.new.tenants ≡ map boot_of self.old.tenants }
         ensures frames { self.new.frames ≡ self.old.frames }
         ensures slots { S.slots self.new.store ≡ S.slots self.old.store }
@@ -68,6 +72,7 @@ impl<S: SwapStore> World<S> {
     fn apply_input(&mut self, g: usize, item: Item) -> Answer
         requires { is_step item.what ≡ false }
         ensures logs { (h : ℕ) → log_at self.new.tenants h ≡ log_at self.old.tenants h ++ items_input h g item result }
+        ensures answered { IsAnswered S.true_to_digests S.failed S.honest self.old self.new (Event.Input g item) result }
         ensures boots { map boot_of self.new.tenants ≡ map boot_of self.old.tenants }
         ensures store { self.new.store ≡ self.old.store }
         ensures frames { self.new.frames ≡ self.old.frames }
@@ -91,7 +96,7 @@ impl<S: SwapStore> World<S> {
         requires some { 0 < count }
         requires few { count ≤ 1024 }
         ensures logs { (h : ℕ) → log_at self.new.tenants h ≡ log_at self.old.tenants h ++ [] }
-        ensures probed { S.true_to_digests self.old.store → IsOfView self.old.tenants g address count result }
+        ensures answered { IsAnswered S.true_to_digests S.failed S.honest self.old self.new (Event.Probe g address count) result }
         ensures boots { map boot_of self.new.tenants ≡ map boot_of self.old.tenants }
         ensures frames { self.new.frames ≡ self.old.frames }
         ensures slots { S.slots self.new.store ≡ S.slots self.old.store }
@@ -122,6 +127,7 @@ impl<S: SwapStore> World<S> {
         requires some { 0 < length bytes.items }
         requires few { length bytes.items ≤ 1024 }
         ensures logs { (h : ℕ) → log_at self.new.tenants h ≡ log_at self.old.tenants h ++ items_written h g address bytes.items result }
+        ensures answered { IsAnswered S.true_to_digests S.failed S.honest self.old self.new (Event.Write g address bytes) result }
         ensures boots { map boot_of self.new.tenants ≡ map boot_of self.old.tenants }
         ensures frames { self.new.frames ≡ self.old.frames }
         ensures slots { S.slots self.new.store ≡ S.slots self.old.store }
@@ -137,6 +143,7 @@ impl<S: SwapStore> World<S> {
 
     fn apply_supply(&mut self, alloc: Global, g: usize, p: Ppn) -> Answer
         ensures logs { (h : ℕ) → log_at self.new.tenants h ≡ log_at self.old.tenants h ++ [] }
+        ensures answered { IsAnswered S.true_to_digests S.failed S.honest self.old self.new (Event.Supply g p) result }
         ensures boots { map boot_of self.new.tenants ≡ map boot_of self.old.tenants }
         ensures frames { self.new.frames ≡ self.old.frames }
         ensures slots { S.slots self.new.store ≡ S.slots self.old.store }
@@ -154,6 +161,7 @@ impl<S: SwapStore> World<S> {
 
     fn apply_fault<R: Rng>(&mut self, alloc: Global, g: usize, tax: Tax, rng: &mut R) -> Answer
         ensures logs { (h : ℕ) → log_at self.new.tenants h ≡ log_at self.old.tenants h ++ [] }
+        ensures answered { IsAnswered S.true_to_digests S.failed S.honest self.old self.new (Event.Fault g) result }
         ensures boots { map boot_of self.new.tenants ≡ map boot_of self.old.tenants }
         ensures frames { self.new.frames ≡ self.old.frames }
         ensures slots { S.slots self.new.store ≡ S.slots self.old.store }
@@ -169,6 +177,7 @@ impl<S: SwapStore> World<S> {
 
     fn apply_evict(&mut self, g: usize, p: Ppn) -> Answer
         ensures logs { (h : ℕ) → log_at self.new.tenants h ≡ log_at self.old.tenants h ++ [] }
+        ensures answered { IsAnswered S.true_to_digests S.failed S.honest self.old self.new (Event.Evict g p) result }
         ensures boots { map boot_of self.new.tenants ≡ map boot_of self.old.tenants }
         ensures frames { self.new.frames ≡ self.old.frames }
         ensures slots { S.slots self.new.store ≡ S.slots self.old.store }
@@ -184,6 +193,7 @@ impl<S: SwapStore> World<S> {
 
     fn apply_scan(&mut self, g: usize, p: Ppn) -> Answer
         ensures logs { (h : ℕ) → log_at self.new.tenants h ≡ log_at self.old.tenants h ++ [] }
+        ensures answered { IsAnswered S.true_to_digests S.failed S.honest self.old self.new (Event.Scan g p) result }
         ensures boots { map boot_of self.new.tenants ≡ map boot_of self.old.tenants }
         ensures store { self.new.store ≡ self.old.store }
         ensures frames { self.new.frames ≡ self.old.frames }
@@ -197,13 +207,14 @@ impl<S: SwapStore> World<S> {
         Answer::Scanned(self.scan(g, p))
     }
 
-    /// One event. Its items are added to its guest's log, and no other log changes; the machines that the guests booted stay. The bytes
-    /// that a debugger reads are those of the guest's view. The tax and the generator are those of `evict_one`, which may be called
-    /// where a page gets a frame.
+    /// One event. Its items are added to its guest's log, and no other log changes; the machines that the guests booted stay. What is
+    /// answered is what the guest's view has to say to it, or why it was refused (`IsAnswered`): each kind of event has the answers of
+    /// `step`, `steps`, `run_steps`, `input`, `debug_read`, `debug_write`, `supply`, `fault`, `evict` and `scan`. The tax and the
+    /// generator are those of `evict_one`, which may be called where a page gets a frame.
     pub fn apply<R: Rng>(&mut self, alloc: Global, event: Event, tax: Tax, rng: &mut R) -> Answer
         requires { IsProper event }
         ensures logs { (h : ℕ) → log_at self.new.tenants h ≡ log_at self.old.tenants h ++ own_items h event result }
-        ensures probed { S.true_to_digests self.old.store → IsProbed self.old.tenants event result }
+        ensures answered { IsAnswered S.true_to_digests S.failed S.honest self.old self.new event result }
         ensures boots { map boot_of self.new.tenants ≡ map boot_of self.old.tenants }
         ensures frames { self.new.frames ≡ self.old.frames }
         ensures slots { S.slots self.new.store ≡ S.slots self.old.store }
@@ -230,7 +241,8 @@ impl<S: SwapStore> World<S> {
 
     /// Events, one after another, and what each was answered. After them the log of each guest is the one before with the items of
     /// its own events that were done: its steps and writes that were made, and its items that were accepted. So whatever else happens in the
-    /// world, each guest's view is the run of its own items; and the books are exact (`is_sound`).
+    /// world, each guest's view is the run of its own items; and the books are exact (`is_sound`). Each event is answered as by `apply`, in
+    /// the world that the one before it left (`AllHappen`).
     ///
     /// `AllocError` where there is no memory for the answers: nothing has happened then.
     pub fn run<R: Rng>(
@@ -242,6 +254,7 @@ impl<S: SwapStore> World<S> {
     ) -> Result<Vec<Answer>, AllocError>
         requires { All IsProper events.items }
         ensures logs { IfOk result (λ answers. (h : ℕ) → log_at self.new.tenants h ≡ log_at self.old.tenants h ++ own h events.items answers.items) }
+        ensures happen { IfOk result (λ answers. AllHappen S.true_to_digests S.failed S.honest self.old events.items answers.items self.new) }
         ensures count { IfOk result (λ answers. length answers.items ≡ length events.items) }
         ensures unchanged { OnErr result (self.new ≡ self.old) }
         ensures boots { map boot_of self.new.tenants ≡ map boot_of self.old.tenants }

@@ -18,8 +18,8 @@ returns-in-Err-clause-logs g c = fault_logs c.args.self.now.tenants c.debug_read
 pub returns-in-Err-clause-boots : goal.returns-in-Err-clause-boots
 returns-in-Err-clause-boots g c = fault_boots c.args.self.now.tenants c.debug_read.new.self.tenants c.debug_read.ensures.moves
 
-pub returns-in-Ok-debug_read-clause-probed : goal.returns-in-Ok-debug_read-clause-probed
-returns-in-Ok-debug_read-clause-probed g c = λ trust t.
+pub returns-in-Ok-debug_read-clause-answered : goal.returns-in-Ok-debug_read-clause-answered
+returns-in-Ok-debug_read-clause-answered g c = λ t trust.
     let m = view_of (get_or c.args.self.now.tenants c.args.g t).guest in
     let bytes = c.debug_read.new.bytes in
     let rest = drop (length bytes) c.in-Ok.bytes.items in

@@ -2,13 +2,15 @@ use Rattle.std.proofs.Common.{suc, ◌≡◌, ◌++◌, ◌∷◌, [], All, List
 use Rattle.std.specs.Vec.Iter.{into_iter_items}
 use Rattle.world.specs.declared.events.Event.{Event}
 use Rattle.world.specs.declared.events.Answer.{Answer}
+use Rattle.world.specs.Answers.{AllHappen}
 use Rattle.world.specs.Events.{IsProper, own}
 use Rattle.world.specs.Worlds.{log_at}
-use Rattle.world.proofs.Worlds.{logs_more}
+use Rattle.world.proofs.Worlds.{logs_more, all_more}
 use Rattle.world.proofs.world.World.run.Goals as goal
 
 pub loop-event-preserved : goal.loop-event-preserved
 loop-event-preserved g c =
+    let store = g.S.SwapStore in
     let at = c.loop-event in
     let e = c.in-Some.event in
     let a = c.apply-answer.result in
@@ -25,6 +27,9 @@ loop-event-preserved g c =
       logs = λ h. subst (λ (l : List Answer). log_at c.apply-answer.new.self.tenants h ≡ log_at c.args.self.now.tenants h ++ own h (at.yielded ++ e ∷ []) l) (sym items)
           (logs_more h at.yielded at.answers.items e a (log_at c.args.self.now.tenants h) (log_at at.self.tenants h) (log_at c.apply-answer.new.self.tenants h)
           (sym at.invariant.count) (at.invariant.logs h) (c.apply-answer.ensures.logs h));
+      happen = subst (λ (l : List Answer). AllHappen store.true_to_digests store.failed store.honest c.args.self.now (at.yielded ++ e ∷ []) l c.apply-answer.new.self) (sym items)
+          (all_more store.true_to_digests store.failed store.honest c.args.self.now at.self c.apply-answer.new.self at.yielded at.answers.items e a at.invariant.happen
+          (record { answered = c.apply-answer.ensures.answered; logs = c.apply-answer.ensures.logs; boots = c.apply-answer.ensures.boots }));
       count = omega (arith, ap length items, longer, length-append at.yielded (e ∷ []), at.invariant.count);
       len = omega (arith, c.push_reserved.ensures.len, ap length items, longer, at.invariant.len);
       room = omega (arith, c.push_reserved.ensures.len, c.push_reserved.ensures.capacity, gone, at.invariant.room);

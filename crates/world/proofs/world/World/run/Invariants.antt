@@ -1,5 +1,6 @@
 use Rattle.std.proofs.Common.{◌≡◌, ℕ, ◌+◌, ◌≤◌, ◌↔◌, ◌++◌, All, length, map, vec_len, vec_capacity}
 use Rattle.std.specs.Vec.Iter.{into_iter_items, into_iter_len}
+use Rattle.world.specs.Answers.{AllHappen}
 use Rattle.world.specs.Events.{IsProper, own}
 use Rattle.world.specs.Worlds.{boot_of, log_at}
 use Rattle.world.proofs.world.World.run.Given as goal
@@ -11,6 +12,7 @@ invariant-loop-event g l = record {
   left : into_iter_len l.event-iterator ≡ length (into_iter_items l.event-iterator);
   proper : All IsProper (into_iter_items l.event-iterator);
   logs : (h : ℕ) → log_at l.self.tenants h ≡ log_at l.fn.self.tenants h ++ own h l.yielded l.answers.items;
+  happen : AllHappen g.S.SwapStore.true_to_digests g.S.SwapStore.failed g.S.SwapStore.honest l.fn.self l.yielded l.answers.items l.self;
   count : length l.answers.items ≡ length l.yielded;
   len : vec_len l.answers ≡ length l.answers.items;
   room : vec_len l.answers + into_iter_len l.event-iterator ≤ vec_capacity l.answers;

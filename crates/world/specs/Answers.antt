@@ -1,0 +1,176 @@
+-- What is answered to events, and why.
+use Rattle.std.specs.Prelude.{◌≡◌, ◌≢◌, ◌↔◌, ◌<◌, ◌≤◌, ◌^◌, ℕ, false, true, Result, Ok, Err, Option, Some, None, IfOk, IfErr, OnOk, IsErrOf, List, [], ◌∷◌, ◌++◌, length, map, slice_index_or}
+use Rattle.frames.specs.FreeList.{FreeList}
+use Rattle.items.specs.declared.item.Item.{Item}
+use Rattle.items.specs.declared.item.What.TheVariants.{Write}
+use Rattle.guest_log.specs.Logs.{IsFull}
+use Rattle.guest_log.specs.declared.stop.Stop.{Stop}
+use Rattle.guest_log.specs.declared.stop.Stop.TheVariants as halt
+use Rattle.mips_tlb.specs.declared.kind.Kind.TheVariants.{Store}
+use Rattle.mips_step.specs.Accesses.{accesses, first_lack}
+use Rattle.mips_step.specs.Answer.{need_of}
+use Rattle.mips_step.specs.declared.access.StepOut.{StepOut}
+use Rattle.mips_step.specs.declared.access.Why.{Why}
+use Rattle.flatvm.specs.Answers.{replied}
+use Rattle.flatvm.specs.Items.{accepts, reply}
+use Rattle.flatvm.specs.Replies.{bytes_at}
+use Rattle.flatvm.specs.declared.reply.Reply.{Reply}
+use Rattle.swapstore.specs.Failures.{one_more}
+use Rattle.physmap.specs.declared.page.PageKind.TheVariants.{Private}
+use Rattle.physmap.specs.Pages.{kind_at}
+use Rattle.paging.specs.Scans.{Answered}
+use Rattle.paging.specs.Supplies.{WhyAway}
+use Rattle.paging.specs.declared.supply.SupplyError.{SupplyError}
+use Rattle.paged_bus.specs.Lacking.{lacks_in}
+use Rattle.paged_bus.specs.Writes.{WritesTo}
+use Rattle.guest.specs.Guests.{view_of, standing}
+use Rattle.guest.specs.declared.refused.Refused.{Refused}
+use Rattle.guest.specs.declared.refused.Refused.TheVariants as refusal
+use Rattle.tenant.specs.Lent.{WhyStays}
+use Rattle.tenant.specs.Tenants.{TenantIs, pages_in, stat_of}
+use Rattle.tenant.specs.declared.moves.EvictError.{EvictError}
+use Rattle.world.specs.declared.events.Event.{Event}
+use Rattle.world.specs.declared.events.Event.TheVariants as event
+use Rattle.world.specs.declared.events.Answer.{Answer}
+use Rattle.world.specs.declared.events.Answer.TheVariants as answer
+use Rattle.world.specs.declared.debugging.DebugError.{DebugError}
+use Rattle.world.specs.declared.debugging.DebugError.TheVariants as debug
+use Rattle.world.specs.declared.faulting.FaultError.{FaultError}
+use Rattle.world.specs.declared.running.End.TheVariants as ending
+use Rattle.world.specs.declared.running.Ran.{Ran}
+use Rattle.world.specs.declared.running.RunStop.{RunStop}
+use Rattle.world.specs.declared.running.RunStop.TheVariants as halted
+use Rattle.world.specs.declared.world.Evicted.{Evicted}
+use Rattle.world.specs.Debugging.{IfStopped}
+use Rattle.world.specs.Events.{own_items, IfStop, IsForRoom, IsSupplied, WhyStopped}
+use Rattle.world.specs.Evictions.{Became}
+use Rattle.world.specs.Victims.{WhyLacking}
+use Rattle.world.specs.Worlds.{WorldIs, boot_of, log_at}
+
+-- the page that a guest's next step needs, and why
+abbrev pub needed_by : TenantIs → Option (ℕ × Why)
+needed_by t = first_lack (lacks_in (pages_in t)) (accesses (view_of t.guest))
+
+-- a step answers the page that it needs, and else is made; it stops for a full log exactly where the log is full
+pub record IsStepAnswer (trusted : Type 0) (t : TenantIs) (stepped : Result StepOut Stop) : Type 0 where
+  pub need : trusted → IfOk stepped (λ s. need_of s ≡ needed_by t)
+  pub full : IsErrOf stepped halt.LogFull ↔ IsFull t.guest.log
+
+-- as many steps are made as were wanted, or it is said why not: the next one needs this page, the log is full, or this stop
+pub record IsRunAnswer (trusted : Type 0) (count : ℕ) (t' : TenantIs) (why : RunStop → Type 0) (ran : Ran) : Type 0 where
+  pub most : ran.steps ≤ count
+  pub done : (ran.end ≡ ending.Done) ↔ (ran.steps ≡ count)
+  pub need : trusted → (p : ℕ) (w : Why) → ran.end ≡ ending.Need p w → needed_by t' ≡ Some (p, w)
+  pub full : ran.end ≡ ending.Stop halted.LogFull → IsFull t'.guest.log
+  pub room : ran.end ≢ ending.Done → ran.end ≢ ending.Stop halted.LogFull → IsFull t'.guest.log → ⊥
+  pub stop : IfStop ran.end why
+
+-- where pages are supplied, the step that needs a page has one already that was supplied for it
+abbrev pub AreSupplied : Type 0 → TenantIs → Ran → Type 0
+AreSupplied trusted t' ran = trusted → (p : ℕ) (w : Why) → ran.end ≡ ending.Need p w → IsSupplied p t'
+
+-- an item is accepted and replied to as by the guest's view, and refused only where that refuses it, where a page that it writes to is
+-- away, or where the log is full, and then always
+pub record IsInputAnswer (trusted : Type 0) (item : Item) (t : TenantIs) (done : Result Reply Refused) : Type 0 where
+  pub accepted : OnOk done (trusted → accepts item.what (view_of t.guest) ≡ true)
+  pub reply : IfOk done (λ r. trusted → replied r ≡ reply item.what (view_of t.guest))
+  pub refused : IsErrOf done refusal.Machine → trusted → accepts item.what (view_of t.guest) ≡ false
+  pub away : (page : ℕ) → IsErrOf done (refusal.Away page) → lacks_in (pages_in t) page Store ≢ None
+  pub its_page : (page : ℕ) → IsErrOf done (refusal.Away page) → WritesTo item.what (standing t.guest) page
+  pub full : IsErrOf done (refusal.Stop halt.LogFull) ↔ IsFull t.guest.log
+
+-- why no bytes are read: one has no place, or it is said why a page is away
+pub record IsProbeRefusal (trusted : Type 0) (address count : ℕ) (t : TenantIs) (why : RunStop → Type 0) (error : DebugError) : Type 0 where
+  pub no_place : error ≡ debug.NoPlace → trusted → bytes_at (view_of t.guest) address count ≡ None
+  pub stop : IfStopped error why
+  pub never_full : error ≡ debug.Stop halted.LogFull → ⊥
+
+-- bytes are written as the guest's view accepts them, and refused exactly where that refuses them, or it is said why not
+pub record IsWriteAnswer (trusted : Type 0) (address : ℕ) (bytes : List ℕ) (t : TenantIs) (why : RunStop → Type 0) (done : Result (Unit {0}) DebugError) : Type 0 where
+  pub accepted : OnOk done (trusted → accepts (Write address bytes) (view_of t.guest) ≡ true)
+  pub no_place : trusted → (IsErrOf done debug.NoPlace ↔ (accepts (Write address bytes) (view_of t.guest) ≡ false))
+  pub stop : IfErr done (λ error. IfStopped error why)
+  pub full : IsErrOf done (debug.Stop halted.LogFull) → IsFull t.guest.log
+  pub room : OnOk done (IsFull t.guest.log → ⊥)
+
+-- a page has a frame of its own, or it is said why not
+pub record IsSupplyAnswer (p : ℕ) (t' : TenantIs) (pool : FreeList) (failed dishonest : Type 0) (done : Result (Unit {0}) SupplyError) : Type 0 where
+  pub private : OnOk done (kind_at (pages_in t') p ≡ Private)
+  pub err : IfErr done (WhyAway pool failed dishonest)
+
+-- the page that the next step needs has one, or it is said why not
+pub record IsFaultAnswer (trusted : Type 0) (t t' : TenantIs) (why : FaultError → Type 0) (done : Result (Unit {0}) FaultError) : Type 0 where
+  pub private : OnOk done (trusted → (p : ℕ) (w : Why) → needed_by t ≡ Some (p, w) → kind_at (pages_in t') p ≡ Private)
+  pub err : IfErr done why
+
+-- a page has left its frame, or was in none; or it is said why it stays
+pub record IsEvictAnswer (p : ℕ) (t t' : TenantIs) (slots : FreeList) (failed : Type 0) (done : Result Evicted EvictError) : Type 0 where
+  pub page : IfOk done (λ evicted. Became p evicted (pages_in t) (pages_in t') slots)
+  pub err : IfErr done (WhyStays slots failed)
+
+-- There is no such guest, or no such page to supply. The table of shared frames knows guests by numbers below 2^32.
+abbrev pub IsNowhere : List TenantIs → Event → Type 0
+IsNowhere ts (event.Step g) = length ts ≤ g
+IsNowhere ts (event.Steps g count) = length ts ≤ g
+IsNowhere ts (event.Run g count) = length ts ≤ g
+IsNowhere ts (event.Input g item) = length ts ≤ g
+IsNowhere ts (event.Probe g address count) = length ts ≤ g
+IsNowhere ts (event.Write g address bytes) = length ts ≤ g
+IsNowhere ts (event.Supply g p) = (t : TenantIs) → g < length ts → length (pages_in (slice_index_or ts g t)) ≤ p
+IsNowhere ts (event.Fault g) = length ts ≤ g
+IsNowhere ts (event.Evict g p) = length ts ≤ g
+IsNowhere ts (event.Scan g p) = g < length ts → 2 ^ 32 ≤ g
+
+-- the count of a store's failures went up by one in an event
+abbrev pub FailsOnce : {Kept : Type 0} → (Kept → ℕ) → WorldIs Kept → WorldIs Kept → Type 0
+FailsOnce failures w w' = failures w'.store ≡ one_more (failures w.store)
+
+-- why many steps, or a debugger's access, for which pages are supplied one after another stopped: the last of them has no frame for a
+-- reason that `WhyStopped` has
+abbrev pub WhyHalted : {Kept : Type 0} → (Kept → ℕ) → (Kept → Type 0) → WorldIs Kept → WorldIs Kept → RunStop → Type 0
+WhyHalted failures honest w w' =
+    WhyStopped w'.pool w'.slots (map stat_of w'.tenants) ((before : ℕ) × (failures w'.store ≡ one_more before)) (honest w.store → ⊥)
+
+-- What is answered to an event, and why. Of a store: whether it is true to digests, how many failures it counts, and whether it is honest.
+abbrev pub IsAnswered : {Kept : Type 0} → (trusted : Kept → Type 0) → (failures : Kept → ℕ) → (honest : Kept → Type 0) → WorldIs Kept → WorldIs Kept → Event → Answer → Type 0
+IsAnswered trusted failures honest w w' (event.Step g) (answer.Stepped stepped) =
+    (t : TenantIs) → IsStepAnswer (trusted w.store) (slice_index_or w.tenants g t) stepped
+IsAnswered trusted failures honest w w' (event.Steps g count) (answer.Ran ran) =
+    (t : TenantIs) → IsRunAnswer (trusted w.store) count (slice_index_or w'.tenants g t) IsForRoom ran
+IsAnswered trusted failures honest w w' (event.Run g count) (answer.Ran ran) =
+    (t : TenantIs) → IsRunAnswer (trusted w.store) count (slice_index_or w'.tenants g t) (WhyHalted failures honest w w') ran
+    × AreSupplied (trusted w.store) (slice_index_or w'.tenants g t) ran
+IsAnswered trusted failures honest w w' (event.Input g item) (answer.Input done) =
+    (t : TenantIs) → IsInputAnswer (trusted w.store) item (slice_index_or w.tenants g t) done
+IsAnswered trusted failures honest w w' (event.Probe g address count) (answer.Probed (Ok bytes)) =
+    (t : TenantIs) → trusted w.store → bytes_at (view_of (slice_index_or w.tenants g t).guest) address count ≡ Some bytes.items
+IsAnswered trusted failures honest w w' (event.Probe g address count) (answer.Probed (Err error)) =
+    (t : TenantIs) → IsProbeRefusal (trusted w.store) address count (slice_index_or w.tenants g t) (WhyHalted failures honest w w') error
+IsAnswered trusted failures honest w w' (event.Write g address bytes) (answer.Written done) =
+    (t : TenantIs) → IsWriteAnswer (trusted w.store) address bytes.items (slice_index_or w.tenants g t) (WhyHalted failures honest w w') done
+IsAnswered trusted failures honest w w' (event.Supply g p) (answer.Supplied done) =
+    (t : TenantIs) → IsSupplyAnswer p (slice_index_or w'.tenants g t) w.pool (FailsOnce failures w w') (honest w.store → ⊥) done
+IsAnswered trusted failures honest w w' (event.Fault g) (answer.Faulted done) =
+    (t : TenantIs) → IsFaultAnswer (trusted w.store) (slice_index_or w.tenants g t) (slice_index_or w'.tenants g t)
+    (WhyLacking w'.pool w'.slots (map stat_of w'.tenants) (FailsOnce failures w w') (honest w.store → ⊥)) done
+IsAnswered trusted failures honest w w' (event.Evict g p) (answer.Evicted done) =
+    (t : TenantIs) → IsEvictAnswer p (slice_index_or w.tenants g t) (slice_index_or w'.tenants g t) w.slots (FailsOnce failures w w') done
+IsAnswered trusted failures honest w w' (event.Scan g p) (answer.Scanned scan) =
+    (t : TenantIs) → Answered w.shares (pages_in (slice_index_or w.tenants g t)) (record { guest = g; page = p }) scan
+IsAnswered trusted failures honest w w' e answer.Nowhere = IsNowhere w.tenants e
+IsAnswered trusted failures honest w w' e a = ⊥
+
+-- An event has happened: it is answered as `IsAnswered` has it, each log has the items more that the event adds to it, and the machines
+-- that the guests booted are as before.
+pub record Happens {Kept : Type 0} (trusted : Kept → Type 0) (failures : Kept → ℕ) (honest : Kept → Type 0) (w : WorldIs Kept) (e : Event) (a : Answer) (w' : WorldIs Kept) : Type 0 where
+  pub answered : IsAnswered trusted failures honest w w' e a
+  pub logs : (h : ℕ) → log_at w'.tenants h ≡ log_at w.tenants h ++ own_items h e a
+  pub boots : map boot_of w'.tenants ≡ map boot_of w.tenants
+
+-- events have happened one after another, each in the world that the one before it left
+abbrev pub AllHappen : {Kept : Type 0} → (trusted : Kept → Type 0) → (failures : Kept → ℕ) → (honest : Kept → Type 0) → WorldIs Kept → List Event → List Answer → WorldIs Kept → Type 0
+AllHappen trusted failures honest w [] [] w' = w' ≡ w
+AllHappen trusted failures honest w [] (a ∷ answers) w' = ⊥
+AllHappen trusted failures honest w (e ∷ events) [] w' = ⊥
+AllHappen {Kept} trusted failures honest w (e ∷ events) (a ∷ answers) w' =
+    (mid : WorldIs Kept) × Happens trusted failures honest w e a mid × AllHappen trusted failures honest mid events answers w'
