@@ -12,12 +12,12 @@ use Rattle.script.specs.Headers as headers
 use Rattle.script.specs.Views.{event_view, guest_view, script_view}
 use Rattle.script.specs.declared.header.Script.{Script as ScriptCode}
 use Rattle.world.specs.declared.boot.NewGuest.{NewGuest}
-use Rattle.world.specs.Boots.{AreWithinLimits}
+use Rattle.world.specs.Boots.{AreAdmitted, AreWithinLimits}
 use Rattle.simulation.specs.Transcripts.{IsTranscript}
 use Rattle.simulation.specs.Effects.{IsFor}
 use Rattle.script.specs.Scripts.{Script, script_of}
 use Rattle.commands.specs.Faults.{IsRefusedScript}
-use Rattle.commands.specs.Sims.{IsKnown, IsKnownEvent, IsPlain, IsSimulation, line_numbers, log_runs, numbers_of}
+use Rattle.commands.specs.Sims.{IsKnown, IsKnownEvent, IsSimulation, config_of, line_numbers, numbers_of}
 
 has_them : (lines : List headers.GuestLine) (g pages : ℕ) → has_pages (slice_get lines g) pages ≡ true → g < length lines
 has_them [] g pages e = absurd (cc)
@@ -50,7 +50,7 @@ one_for guests slots (event.Probe guest address count) allowed known =
 one_for guests slots (event.Fault guest) allowed known = inside guests guest allowed
 one_for guests slots (event.Scan guest page) allowed known = inside guests guest allowed
 one_for guests slots (event.Evict guest page) allowed known = inside guests guest allowed
-one_for guests slots event.Sample allowed known = known
+one_for guests slots event.Sample allowed known = tt
 one_for guests slots event.Level allowed known = known
 one_for guests slots event.Audit allowed known = tt
 one_for guests slots (event.Dump guest) allowed known = inside guests guest allowed
@@ -77,17 +77,12 @@ pub none_is : (given : Option ℕ) → is_some given ≡ false → given ≡ Non
 none_is None e = refl
 none_is (Some n) e = absurd (cc)
 
-pub plain_guests : (script : ScriptCode) → IsKnown (script_view script) → All (λ line. IsPlain (guest_view line)) script.header.guests.items
-plain_guests script known = unmapped IsPlain guest_view script.header.guests.items known.guests
-
 pub known_events : (script : ScriptCode) → IsKnown (script_view script) → All (λ event. IsKnownEvent (event_view event)) script.events.items
 known_events script known = unmapped IsKnownEvent event_view script.events.items known.events
 
-pub known_script : (script : ScriptCode) → All (λ line. IsPlain (guest_view line)) script.header.guests.items → script.header.admit ≡ false → script.header.profile ≡ None
+pub known_script : (script : ScriptCode) → script.header.profile ≡ None
     → All (λ event. IsKnownEvent (event_view event)) script.events.items → IsKnown (script_view script)
-known_script script plain admit profile events = record {
-  guests = All-map IsPlain guest_view script.header.guests.items plain;
-  admit = admit;
+known_script script profile events = record {
   profile = profile;
   events = All-map IsKnownEvent event_view script.events.items events;
 }
@@ -95,10 +90,11 @@ known_script script plain admit profile events = record {
 -- what is replied to a script, where it is
 pub simulated : {E : Type 0} (r : Result (String Global) E) (text : List ℕ) (script : ScriptCode) (guests : List NewGuest) → script_of text ≡ Ok (script_view script) → IsKnown (script_view script)
     → map numbers_of guests ≡ map line_numbers script.header.guests.items → IfOk r (λ replies. IsTranscript (Unit {0}) guests script.events.items (string_bytes replies))
-    → IfOk r (λ replies. AreWithinLimits script.header.frames script.header.slots log_runs guests) → IfOk r (λ replies. IsSimulation text (string_bytes replies))
-simulated (Err error) text script guests reads known numbers transcript within = tt
-simulated (Ok replies) text script guests reads known numbers transcript within =
-    record { script = script; reads = reads; known = known; guests = guests; numbers = numbers; within = within; transcript = transcript }
+    → IfOk r (λ replies. AreWithinLimits (config_of script.header) script.header.slots guests)
+    → IfOk r (λ replies. AreAdmitted (config_of script.header) script.header.slots guests) → IfOk r (λ replies. IsSimulation text (string_bytes replies))
+simulated (Err error) text script guests reads known numbers transcript within admitted = tt
+simulated (Ok replies) text script guests reads known numbers transcript within admitted =
+    record { script = script; reads = reads; known = known; guests = guests; numbers = numbers; within = within; admitted = admitted; transcript = transcript }
 
 -- a text is one script alone
 pub refused : (text : List ℕ) (script : Script) → script_of text ≡ Ok script → (IsKnown script → ⊥) → IsRefusedScript text

@@ -25,6 +25,7 @@ use std::alloc::{AllocError, Global};
 use std::marker::Model;
 use std::sync::Arc;
 use swapstore::MemStore;
+use taxpolicy::DEFAULT_MINIMUM;
 use world::{Config, End, NewGuest, Ran, RunStop, World};
 
 /// The greatest number of runs of a guest's log.
@@ -125,12 +126,14 @@ fn boot_world(alloc: Global, image: Image, pages: u32) -> Result<World<MemStore>
         image,
         pages,
         shares: 1,
+        minimum: DEFAULT_MINIMUM,
     };
     let guests = Vec::from_array(alloc, [guest])?;
     let store = MemStore::new(alloc, 0)?;
     let config = Config {
         frames: (pages + 1).max(4),
         log_runs: LOG_RUNS,
+        admit: false,
     };
     match World::boot(alloc, config, guests, store) {
         Ok(world) => {

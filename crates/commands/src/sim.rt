@@ -1,12 +1,12 @@
 //! The command `sim`.
 ghost use Rattle.std.specs.Prelude.{◌≡◌, ◌⊎◌, ◌↔◌, All, IfErr, IfOk, IsTrue, Ok, length, map, string_bytes};
 ghost use Rattle.script.specs.Scripts.{script_of};
-ghost use Rattle.script.specs.Views.{event_view, guest_view, script_view};
+ghost use Rattle.script.specs.Views.{event_view, script_view};
 ghost use Rattle.simulation.specs.Effects.{IsFor};
 ghost use Rattle.simulation.specs.Transcripts.{IsTranscript};
-ghost use Rattle.world.specs.Boots.{AreWithinLimits};
+ghost use Rattle.world.specs.Boots.{AreAdmitted, AreWithinLimits};
 ghost use Rattle.commands.specs.Faults.{IsFileFault, IsScriptFault, IsSimFault, IsToldFault};
-ghost use Rattle.commands.specs.Sims.{IsKnown, IsKnownEvent, IsPlain, IsSimulation, line_numbers, log_runs, numbers_of};
+ghost use Rattle.commands.specs.Sims.{IsKnown, IsKnownEvent, IsSimulation, config_of, line_numbers, numbers_of};
 
 use crate::fault::{Fault, of_file};
 use crate::image_file::{Loaded, elf_image, whole_file};
@@ -18,6 +18,7 @@ use std::fs::File;
 use std::rt::Files;
 use std::sync::Arc;
 use swapstore::{FaultStore, MemStore, Op};
+use taxpolicy::DEFAULT_MINIMUM;
 use tenant::BootError;
 use world::{Config, NewGuest, are_within_limits};
 
@@ -39,8 +40,7 @@ pub fn script_text<'a, R: Files + AllocGlobal>(rt: &R, order: Sim<'a>) -> Result
 ///
 /// An error is `Script` with the first line that is refused, before any other file is read; `File` where a guest's file can't be
 /// read and `Elf` with its first fault, guest after guest; `Boot` where the world is refused; `Memory` where a request for memory
-/// was refused. The events `sample` and `level`, the lines `admit` and `profile`, and a guest's minimum are refused like words of no
-/// event.
+/// was refused. The event `level` and the line `profile` are refused like words of no event.
 pub fn run_script<'a, R: Files + AllocGlobal>(rt: &R, text: &'a str) -> Result<String, Fault<'a>>
     ensures replies { IfOk result (λ replies. IsSimulation text.now (string_bytes replies)) }
     ensures faults { IfErr result (λ fault. IsSimFault text.now fault) }
@@ -76,23 +76,10 @@ fn script_in<'a>(alloc: Global, text: &'a str) -> Result<Script<'a>, Fault<'a>>
 fn is_known(script: &Script<'_>) -> bool
     ensures { IsTrue result ↔ IsKnown (script_view script.now) }
 {
-    if !all_plain(&script.header.guests) {
-        return false;
-    }
-    if script.header.admit {
-        return false;
-    }
     if script.header.profile.is_some() {
         return false;
     }
     all_known(&script.events)
-}
-
-/// Whether each guest has no minimum.
-fn all_plain(guests: &[GuestLine<'_>]) -> bool
-    ensures { IsTrue result ↔ All (λ line. IsPlain (guest_view line)) guests.now }
-{
-    guests.iter().all(|guest| guest.minimum.is_none())
 }
 
 /// Whether each event is known here.
@@ -107,7 +94,7 @@ fn is_known_event(event: &Event) -> bool
     ensures { IsTrue result ↔ IsKnownEvent (event_view event.now) }
 {
     match event {
-        Event::Sample | Event::Level => false,
+        Event::Level => false,
         _ => true,
     }
 }
@@ -132,8 +119,7 @@ fn is_unknown(line: &str) -> bool {
         None => line,
     };
     match name {
-        "sample" | "level" | "admit" | "profile" => true,
-        "guest" => line.split(' ').count() > 4,
+        "level" | "profile" => true,
         _ => false,
     }
 }
@@ -168,6 +154,7 @@ fn load_guest<'a, R: Files + AllocGlobal>(
             image,
             pages: line.pages,
             shares: line.shares,
+            minimum: line.minimum.unwrap_or(DEFAULT_MINIMUM),
         }),
         Err(_) => Err(Fault::Memory),
     }
@@ -182,12 +169,14 @@ fn replies_to<'a>(
 ) -> Result<String, Fault<'a>>
     requires { All (IsFor (length guests.items) header.now.slots) events.items }
     ensures replies { IfOk result (λ replies. IsTranscript (Unit {0}) guests.items events.items (string_bytes replies)) }
-    ensures within { IfOk result (λ replies. AreWithinLimits header.now.frames header.now.slots log_runs guests.items) }
+    ensures within { IfOk result (λ replies. AreWithinLimits (config_of header.now) header.now.slots guests.items) }
+    ensures admitted { IfOk result (λ replies. AreAdmitted (config_of header.now) header.now.slots guests.items) }
     ensures faults { IfErr result (λ fault. IsToldFault fault) }
 {
     let config = Config {
         frames: header.frames,
         log_runs: LOG_RUNS,
+        admit: header.admit,
     };
     // Slots beyond the limit want memory that there may not be.
     if !are_within_limits(config, header.slots, &guests) {

@@ -11,6 +11,8 @@ use items::Item;
 use journal::Journal;
 use mips_step::{Cpu, Ppn, Why};
 use paged_bus::{InputError, PagedBus};
+use rand_core::Rng;
+use sampling::Sample;
 use std::alloc::{AllocError, Global};
 use std::marker::Model;
 use std::sync::Arc;
@@ -62,6 +64,7 @@ impl Guest {
     ghost use Rattle.guest_log.specs.Logs.{HasRoom, IsFull, TakesRoom};
     ghost use Rattle.guest_log.specs.declared.stop.Stop.{Stop};
     ghost use Rattle.loghead.specs.Legal.{Legal};
+    ghost use Rattle.taxpolicy.specs.Sample.{drawn, after_words};
     ghost use Rattle.physmap.specs.declared.page.Page.{Page};
     ghost use Rattle.physmap.specs.declared.page.PageKind.{PageKind};
     ghost use Rattle.physmap.specs.Pages.{page_at, kind_at, own_frame};
@@ -229,6 +232,24 @@ impl Guest {
         ensures within { result ≤ length self.now.bus.pages }
     {
         self.bus.resident()
+    }
+
+    /// Whether the page of this number was accessed since it was last drawn for a sample, if it ever was: by a fetch, a load or a store
+    /// of a step that was made, or by a debugger's write. It is about the page of this number, whatever becomes of it.
+    pub fn is_touched(&self, page: u32) -> bool {
+        self.bus.is_touched(page)
+    }
+
+    /// Ends a period of a sample of its pages and begins the next, as `Sample::turn` has it, of the pages that were accessed. The guest
+    /// doesn't notice.
+    pub fn sample<R: Rng>(&mut self, sample: &mut Sample, rng: &mut R)
+        requires { 0 < length self.old.bus.pages }
+        ensures guest { self.new ≡ self.old }
+        ensures first { sample.old.draws ≡ None → sample.new.active ≡ sample.old.active }
+        ensures draws { sample.new.draws ≡ Some (drawn (length self.old.bus.pages) 100 (R.stream rng.old)) }
+        ensures rest { R.stream rng.new ≡ after_words 100 (R.stream rng.old) }
+    {
+        self.bus.sample(sample, rng);
     }
 
     /// The `Need` that `step` would answer. The page is one of the guest's.

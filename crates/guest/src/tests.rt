@@ -15,6 +15,9 @@ use mips_instr::Reg;
 use mips_step::{Ppn, Why};
 use paging::{Pages, evict_in, supply_first, supply_swapped};
 use physmap::{PageKind, Returned};
+use rand_core::SeedableRng;
+use rand_pcg::Pcg32;
+use sampling::Sample;
 use sharetab::Shares;
 use std::alloc::Global;
 use std::fmt::Debug;
@@ -22,6 +25,7 @@ use std::marker::Model;
 use std::process::Abort;
 use std::sync::Arc;
 use swapstore::{MemStore, SlotBook, SwapStore};
+use taxpolicy::pick_sample;
 
 /// Asserts one case. The tests share it, since each assertion in a function's own body makes its proof much longer.
 fn expect<T: PartialEq + Debug + Drop>(rt: &impl Abort, case: &'static str, got: T, wanted: T) {
@@ -760,4 +764,68 @@ fn a_page_in_a_slot_is_away(rt: HostRuntime) {
     expect(&rt, "back", answer, (Ok(()), [7, 8]));
     parts.close();
     close_swap(swap);
+}
+
+impl Parts {
+    /// Of each page whether it is marked as touched.
+    fn touched(&self) -> [bool; 4] {
+        let guest = &self.guest;
+        [
+            guest.is_touched(0),
+            guest.is_touched(1),
+            guest.is_touched(2),
+            guest.is_touched(3),
+        ]
+    }
+
+    /// Ends a period of a sample, of which each page is drawn, and begins the next. It answers how many draws were touched.
+    fn sample(&mut self, rt: &impl Abort, sample: &mut Sample, rng: &mut Pcg32) -> u16 {
+        if self.guest.count() == 0 {
+            panic!(rt; "there is no page");
+        }
+        self.guest.sample(sample, rng);
+        sample.active
+    }
+}
+
+/// How many of the first hundred draws of four pages are no draw of page 3.
+fn draws_below_3(seed: u64) -> u16 {
+    let draws = pick_sample(&mut Pcg32::seed_from_u64(seed), 4);
+    draws.iter().filter(|page| **page < 3).count() as u16
+}
+
+#[test]
+fn accesses_mark_pages_until_they_are_drawn(rt: HostRuntime) {
+    let alloc = rt.alloc();
+    let mut sample = Sample::new();
+    let mut rng = Pcg32::seed_from_u64(7);
+    let mut parts = started(&rt, alloc, &LOADING);
+    parts.supply(&rt, alloc, 0);
+    parts.load(&rt, 0);
+    expect(&rt, "no access", parts.touched(), [false; 4]);
+    made(&rt, parts.step(&rt));
+    let fetched = [true, false, false, false];
+    expect(&rt, "a fetch", parts.touched(), fetched);
+    let active = parts.sample(&rt, &mut sample, &mut rng);
+    expect(&rt, "no period is whole", active, 100);
+    expect(&rt, "each is drawn", parts.touched(), [false; 4]);
+    expect(&rt, "a need", needed(&rt, parts.step(&rt)), first(1));
+    parts.supply(&rt, alloc, 1);
+    expect(&rt, "a supply", parts.touched(), [false; 4]);
+    made(&rt, parts.step(&rt));
+    let loaded = [true, true, false, false];
+    expect(&rt, "a load", parts.touched(), loaded);
+    parts.supply(&rt, alloc, 2);
+    let read = parts.two_bytes(0x8000_2000);
+    expect(&rt, "a debugger's read", read, (Ok(()), [0; 2]));
+    expect(&rt, "marks nothing", parts.touched(), loaded);
+    let write = write(&rt, alloc, 0x8000_2000);
+    expect(&rt, "a debugger's write", parts.refusal(write), None);
+    let written = [true, true, true, false];
+    expect(&rt, "marks its page", parts.touched(), written);
+    let active = parts.sample(&rt, &mut sample, &mut rng);
+    expect(&rt, "draws of marked pages", active, draws_below_3(7));
+    let active = parts.sample(&rt, &mut sample, &mut rng);
+    expect(&rt, "nothing since", active, 0);
+    parts.close();
 }

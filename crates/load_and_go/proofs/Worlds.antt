@@ -8,6 +8,7 @@ use Rattle.mips_step.specs.Step.{Machine}
 use Rattle.flatvm.specs.Boot.{boot_machine}
 use Rattle.flatvm.specs.Items.{run}
 use Rattle.guest.specs.Guests.{view_of}
+use Rattle.world.specs.declared.boot.Config.{Config}
 use Rattle.world.specs.declared.boot.NewGuest.{NewGuest}
 use Rattle.tenant.specs.declared.loading.BootError.{BootError}
 use Rattle.tenant.specs.declared.loading.BootError.TheVariants as error
@@ -28,17 +29,7 @@ pub view_holds : (text : List ℕ) (runs : ℕ) (guest : NewGuest) (ts : List Te
 view_holds text runs guest ts booted h =
     (h.0, h.1, λ t. subst (λ (m : Machine). Holds m h.0) (sym (view_booted runs guest ts booted t)) h.2)
 
--- where the pages hold the image, a world is not refused because they don't
-refused_otherwise : (within hold : Type 0) (e : BootError) → hold → WhyNotBooted within hold e → WhyNotBooted within (Unit {0}) e
-refused_otherwise within hold error.Limits h why = why
-refused_otherwise within hold error.Segment h why = absurd (why.1 h)
-refused_otherwise within hold error.Room h why = (why.0, tt)
-refused_otherwise within hold error.Store h why = (why.0, tt)
-refused_otherwise within hold error.Memory h why = (why.0, tt)
-
--- so why a world of guests is refused is why one of a guest alone is, where that one is their list
-pub refused_alone : (within : List NewGuest → Type 0) (guest : NewGuest) (guests : List NewGuest) (e : BootError) → guests ≡ guest ∷ [] → HoldsImage guest
-    → WhyNotBooted (within guests) (All HoldsImage guests) e → WhyNotBooted (within (guest ∷ [])) (Unit {0}) e
-refused_alone within guest guests e alone holds why =
-    refused_otherwise (within (guest ∷ [])) (All HoldsImage (guest ∷ [])) e (All-cons HoldsImage guest [] holds (All-nil HoldsImage))
-    (subst (λ (gs : List NewGuest). WhyNotBooted (within gs) (All HoldsImage gs) e) alone why)
+-- why a world of guests is refused is why one of a guest alone is, where that one is their list
+pub refused_alone : (config : Config) (slots : ℕ) (guest : NewGuest) (guests : List NewGuest) (e : BootError) → guests ≡ guest ∷ []
+    → WhyNotBooted config slots guests e → WhyNotBooted config slots (guest ∷ []) e
+refused_alone config slots guest guests e alone why = subst (λ (gs : List NewGuest). WhyNotBooted config slots gs e) alone why

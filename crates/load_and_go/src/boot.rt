@@ -25,6 +25,7 @@ use masm::assemble;
 use std::alloc::{AllocError, Global};
 use std::sync::Arc;
 use swapstore::SwapStore;
+use taxpolicy::DEFAULT_MINIMUM;
 use world::{Config, NewGuest, World};
 
 /// A world whose one guest has booted the program of a text in assembly language: the guest of `guest_of_text`, booted as
@@ -50,13 +51,13 @@ pub fn boot_text<S: SwapStore>(
         × ((t : TenantIs) → Holds (view_of (slice_index_or w.tenants 0 t).guest) listing)) }
     // It is the one guest, at the boot of an image that the text's executable stands for.
     ensures booted { IfOk result (λ w. (guest : boot.NewGuest) × IsGuestOf text.now pages shares guest
-        × AreBooted config.log_runs (guest ∷ []) w.tenants × AreWithinLimits config.frames (S.slots store) config.log_runs (guest ∷ [])) }
+        × AreBooted config.log_runs (guest ∷ []) w.tenants × AreWithinLimits config (S.slots store) (guest ∷ [])) }
     ensures hints { IfOk result (λ w. (page : GuestPage) → at_page w.shares.hints page ≡ None) }
     ensures frames { IfOk result (λ w. w.frames ≡ config.frames) }
     ensures slots { IfOk result (λ w. S.slots w.store ≡ S.slots store) }
     ensures honest { IfOk result (λ w. S.honest w.store ↔ S.honest store) }
     ensures true_to_digests { IfOk result (λ w. S.true_to_digests w.store ↔ S.true_to_digests store) }
-    ensures refused { IfErr result (λ refused. WhyNotBooted text.now pages shares (AreWithinLimits config.frames (S.slots store) config.log_runs) refused.0) }
+    ensures refused { IfErr result (λ refused. WhyNotBooted text.now pages shares config (S.slots store) refused.0) }
     ensures back { IfErr result (λ refused. (S.slots refused.1 ≡ S.slots store) × (S.honest refused.1 ↔ S.honest store)) }
     ensures untouched { IfErr result (λ refused. (error : text_error.TextError) → refused.0 ≡ BootError.Text error → refused.1 ≡ store) }
 {
@@ -93,7 +94,7 @@ fn alone(alloc: Global, guest: NewGuest) -> Result<Vec<NewGuest>, AllocError>
     Ok(Vec::from_array(alloc, [guest])?)
 }
 
-/// A guest of a world that boots the program of a text in assembly language, with this many shares. The text is assembled, and its
+/// A guest of a world that boots the program of a text in assembly language, with this many shares and the least minimum. The text is assembled, and its
 /// executable is read for a machine with `pages` pages of 4096 bytes from 80000000 on, which hold the image.
 ///
 /// The error is `Assembler` with the text's first fault, then `Executable` with the first fault that its executable has for so many
@@ -116,6 +117,7 @@ pub fn guest_of_text(
         image: shared(alloc, image)?,
         pages,
         shares,
+        minimum: DEFAULT_MINIMUM,
     })
 }
 

@@ -117,6 +117,7 @@ fn booted<R: AllocGlobal + Abort>(
     let config = Config {
         frames: numbers.frames,
         log_runs: 16,
+        admit: false,
     };
     match boot_text(
         rt.alloc(),

@@ -1,12 +1,13 @@
 //! The pages of a guest with its devices, as a bus.
-ghost use Rattle.std.specs.Prelude.{◌≡◌, ◌*◌, ◌%◌, ◌<◌, ◌≤◌, ◌^◌, ◌↔◌, IsTrue, IsSome, IfOk, IfSome, length, replicate, None};
+ghost use Rattle.std.specs.Prelude.{◌≡◌, ◌*◌, ◌%◌, ◌<◌, ◌≤◌, ◌^◌, ◌↔◌, IsTrue, IsSome, IfOk, IfSome, length, replicate, None, Some};
 ghost use Rattle.word32.specs.Pages.{page_number};
 ghost use Rattle.word32.specs.Zeros.{zeros};
-ghost use Rattle.devices.specs.Devices.{fresh_devices};
+ghost use Rattle.devices.specs.Devices.{fresh_devices, page_accessed};
 ghost use Rattle.devices.specs.Registers.{device_register_at};
 ghost use Rattle.mips_step.specs.World.{with_memory, is_in_memory, register_reach, reached_value, world_loaded, world_stored};
 ghost use Rattle.mips_step.specs.Given.{reached_given};
 ghost use Rattle.mips_step.specs.Places.{alignment};
+ghost use Rattle.taxpolicy.specs.Sample.{drawn, after_words};
 ghost use Rattle.physmap.specs.declared.page.Page.{Page};
 ghost use Rattle.physmap.specs.declared.page.PageKind.{PageKind};
 ghost use Rattle.physmap.specs.Pages.{page_at, kind_at, is_resident, shown, memory_of, own_frame, slot_of, digest_of, ticket_of};
@@ -19,6 +20,8 @@ use crate::accesses::{lack, put_value, reaches_register, value};
 use devices::{DeviceRegister, Devices};
 use mips_step::{Kind, PhysBus, Refusal, Size};
 use physmap::{PageKind, PhysMap};
+use rand_core::Rng;
+use sampling::{Marks, Sample};
 use std::alloc::{AllocError, Global};
 use std::marker::Model;
 use word32::{Ppn, page_of};
@@ -30,6 +33,8 @@ pub struct PagedBus {
     pub(crate) devices: Devices,
     /// The page that was given to the balloon and has not left its place yet.
     pub(crate) waiting: Option<Ppn>,
+    /// The pages that were accessed since they were last drawn for a sample, which nothing else here asks for.
+    pub(crate) marks: Marks,
 }
 
 impl Model for PagedBus {
@@ -40,7 +45,7 @@ impl Model for PagedBus {
 
     ghost view = { λ b. record { pages = b.map; devices = b.devices; waiting = b.waiting } };
 
-    ghost invariant = { λ b. (length b.map ≡ length b.devices.balloon.given) × IfSome b.waiting (λ p. p < length b.map) };
+    ghost invariant = { λ b. (length b.map ≡ length b.devices.balloon.given) × IfSome b.waiting (λ p. p < length b.map) × (length b.marks ≡ length b.map) };
 }
 
 impl PagedBus {
@@ -53,10 +58,12 @@ impl PagedBus {
         ensures world { IfOk result (λ bus. world_of bus ≡ with_memory (zeros (pages * 4096))) }
     {
         let devices = Devices::new(alloc, pages)?;
+        let marks = Marks::new(alloc, pages)?;
         Ok(PagedBus {
             map: PhysMap::new(alloc, pages)?,
             devices,
             waiting: None,
+            marks,
         })
     }
 
@@ -162,14 +169,34 @@ impl PagedBus {
         self.map.resident()
     }
 
+    /// Whether the page of this number was accessed since it was last drawn for a sample, if it ever was: by a fetch, a load or a store
+    /// of a step, or by a write of a debugger. It is about the page of this number, whatever becomes of it.
+    pub fn is_touched(&self, page: u32) -> bool {
+        self.marks.is_marked(page)
+    }
+
+    /// Ends a period of a sample of these pages and begins the next, as `Sample::turn` has it, of the pages that were accessed. The bus
+    /// is as before.
+    pub fn sample<R: Rng>(&mut self, sample: &mut Sample, rng: &mut R)
+        requires { 0 < length self.old.pages }
+        ensures bus { self.new ≡ self.old }
+        ensures first { sample.old.draws ≡ None → sample.new.active ≡ sample.old.active }
+        ensures draws { sample.new.draws ≡ Some (drawn (length self.old.pages) 100 (R.stream rng.old)) }
+        ensures rest { R.stream rng.new ≡ after_words 100 (R.stream rng.old) }
+    {
+        sample.turn(&mut self.marks, rng);
+    }
+
     /// Gives the bus up, and with it what its pages hold.
     pub fn close(self) {
         let PagedBus {
             map,
             devices,
             waiting: _,
+            marks,
         } = self;
         drop(devices);
+        drop(marks);
         map.close();
     }
 }
@@ -206,6 +233,16 @@ impl PagedBus {
         if let Some(register) = DeviceRegister::at(at) {
             self.waiting = self.devices.store(register, value);
         }
+    }
+
+    /// What an access of a page does beside it: the page leaves the given ones, and is marked.
+    #[inline(always)]
+    fn access(&mut self, page: Ppn)
+        requires { page < length self.old.pages }
+        ensures { self.new ≡ record self.old { devices = page_accessed page self.old.devices } }
+    {
+        self.devices.touch(page);
+        self.marks.touch(page);
     }
 
     /// Whether an access reaches memory. An address is a multiple of the access's size, so the page alone decides.
@@ -253,14 +290,14 @@ impl PhysBus for PagedBus {
 
     #[inline(always)]
     fn fetch(&mut self, at: u32) -> u32 {
-        self.devices.touch(page_of(at));
+        self.access(page_of(at));
         self.map.read_word(at)
     }
 
     #[inline(always)]
     fn load(&mut self, at: u32, size: Size) -> u32 {
         if self.is_in_memory(at, size) {
-            self.devices.touch(page_of(at));
+            self.access(page_of(at));
             value(&self.map, size, at)
         } else {
             self.load_register(at)
@@ -280,7 +317,7 @@ impl PhysBus for PagedBus {
     #[inline(always)]
     fn store(&mut self, at: u32, size: Size, value: u32) {
         if self.is_in_memory(at, size) {
-            self.devices.touch(page_of(at));
+            self.access(page_of(at));
             put_value(&mut self.map, size, at, value);
         } else {
             self.store_register(at, value);

@@ -4,6 +4,7 @@ use Rattle.items.specs.declared.item.Item.{Item}
 use Rattle.mips_step.specs.Step.{Machine}
 use Rattle.flatvm.specs.Boot.{boot_machine}
 use Rattle.script.specs.declared.event.Event.{Event}
+use Rattle.world.specs.declared.boot.Config.{Config}
 use Rattle.world.specs.declared.boot.NewGuest.{NewGuest}
 use Rattle.world.specs.Boots.{AreBooted, WhyNotBooted}
 use Rattle.world.specs.Worlds.{WorldIs}
@@ -62,6 +63,6 @@ pub record IsOfWorld {Store : Type 0} (trusted : Store → Type 0) (slots : Stor
   pub run : IsRun trusted slots first events replies last
 
 -- why there is no transcript: the world is not booted, or a request for memory was refused
-abbrev pub WhyNotDone : Type 0 → Type 0 → SimError → Type 0
-WhyNotDone within hold (Boot error) = WhyNotBooted within hold error
-WhyNotDone within hold Memory = Unit {0}
+abbrev pub WhyNotDone : Config → ℕ → List NewGuest → SimError → Type 0
+WhyNotDone config slots guests (Boot error) = WhyNotBooted config slots guests error
+WhyNotDone config slots guests Memory = Unit {0}

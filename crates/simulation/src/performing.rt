@@ -11,6 +11,7 @@ ghost use Rattle.world.specs.Debugging.{write_of};
 ghost use Rattle.world.specs.declared.running.RunStop.{RunStop};
 ghost use Rattle.world.specs.Events.{IsForRoom};
 ghost use Rattle.tenant.specs.Tenants.{TenantIs};
+ghost use Rattle.world.specs.Samples.{OnlySamplesChange};
 ghost use Rattle.world.specs.Worlds.{boot_of, log_at};
 ghost use Rattle.simulation.specs.Answers as answers;
 ghost use Rattle.simulation.specs.Effects as spec;
@@ -338,6 +339,18 @@ fn evict<S: SwapStore>(world: &mut World<S>, guest: u32, page: u32) -> Reply
     }
 }
 
+// A period of the samples of all guests' pages ends, and the next one begins.
+fn sample<S: SwapStore, R: Rng>(world: &mut World<S>, rng: &mut R) -> Reply
+    ensures logs { (h : ℕ) → log_at world.new.tenants h ≡ log_at world.old.tenants h ++ [] }
+    ensures of { result ≡ Reply.Done }
+    ensures answers { OnlySamplesChange world.old.tenants world.new.tenants }
+    ensures boots { map boot_of world.new.tenants ≡ map boot_of world.old.tenants }
+    ensures store { world.new.store ≡ world.old.store }
+{
+    world.sample(rng);
+    Reply::Done
+}
+
 // What the books count.
 fn audit<S: SwapStore>(world: &World<S>) -> Reply
     ensures of { spec.IsOfAudit result }
@@ -413,7 +426,7 @@ pub(crate) fn perform<S: Damage, R: Rng>(
         Event::Fault { guest } => fault(alloc, world, rng, guest),
         Event::Scan { guest, page } => scan(world, guest, page),
         Event::Evict { guest, page } => evict(world, guest, page),
-        Event::Sample => unreachable!(),
+        Event::Sample => sample(world, rng),
         Event::Level => unreachable!(),
         Event::Audit => audit(world),
         Event::Dump { guest } => dump_of(alloc, world, guest),

@@ -70,6 +70,7 @@ fn booted(rt: &impl Abort, alloc: Global) -> World<MemStore> {
             image: image(rt, alloc),
             pages: PAGES,
             shares: 100 + g,
+            minimum: 2,
         };
         if guests.push(guest).is_err() {
             panic!(rt; "no memory for the guests");
@@ -81,6 +82,7 @@ fn booted(rt: &impl Abort, alloc: Global) -> World<MemStore> {
     let config = Config {
         frames: 12,
         log_runs: 1 << 20,
+        admit: false,
     };
     match World::boot(alloc, config, guests, store) {
         Ok(world) => world,

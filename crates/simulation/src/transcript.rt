@@ -1,7 +1,7 @@
 //! A list of events, done in a world that is booted for them.
 ghost use Rattle.std.specs.Prelude.{◌≡◌, All, IfOk, IfErr, length, map, string_bytes};
 ghost use Rattle.mips_step.specs.Step.{Machine};
-ghost use Rattle.world.specs.Boots.{AreWithinLimits, HoldsImage};
+ghost use Rattle.world.specs.Boots.{AreWithinLimits, HoldsImage, AreAdmitted};
 ghost use Rattle.world.specs.Worlds.{boot_of, log_at};
 ghost use Rattle.simulation.specs.Answers.{IsRun};
 ghost use Rattle.simulation.specs.Effects.{IsFor};
@@ -84,9 +84,8 @@ pub fn simulate<S: Damage + Drop>(
     requires { All (IsFor (length guests.items) (S.slots store)) events.items }
     ensures transcript { IfOk result (λ text. IsTranscript (S.true_to_digests store) guests.items events.items (string_bytes text)) }
     ensures answers { IfOk result (λ text. IsOfWorld S.true_to_digests S.slots config.log_runs guests.items events.items (string_bytes text)) }
-    ensures within { IfOk result (λ text. AreWithinLimits config.frames (S.slots store) config.log_runs guests.items × All HoldsImage guests.items) }
-    ensures refused { IfErr result
-        (λ error. WhyNotDone (AreWithinLimits config.frames (S.slots store) config.log_runs guests.items) (All HoldsImage guests.items) error) }
+    ensures within { IfOk result (λ text. AreWithinLimits config (S.slots store) guests.items × All HoldsImage guests.items × AreAdmitted config (S.slots store) guests.items) }
+    ensures refused { IfErr result (WhyNotDone config (S.slots store) guests.items) }
 {
     let mut world = match World::boot(alloc, config, guests, store) {
         Ok(world) => world,

@@ -11,7 +11,7 @@ use Rattle.physmap.specs.Pages.{page_at, kind_of, kind_at}
 use Rattle.paging.specs.Faith.{IsFaithful, IsHeld}
 use Rattle.guest.specs.Loading.{IsBeside}
 use Rattle.tenant.specs.declared.loading.BootError.{BootError}
-use Rattle.tenant.specs.declared.loading.BootError.TheVariants.{Limits, Segment, Room, Store, Memory}
+use Rattle.tenant.specs.declared.loading.BootError.TheVariants.{Limits, Segment, AdmitFrames, AdmitSlots, Room, Store, Memory}
 
 -- the bytes of a page as an image boots in a memory of so many pages
 abbrev pub boot_page : Image → ℕ → ℕ → List ℕ
@@ -49,6 +49,8 @@ pub record FramesFirst (pool : FreeList) (pages : List Page) : Type 0 where
 abbrev pub WhyNotLoaded : FreeList → FreeList → Type 0 → BootError → Type 0
 WhyNotLoaded pool slots failed Limits = ⊥
 WhyNotLoaded pool slots failed Segment = ⊥
+WhyNotLoaded pool slots failed AdmitFrames = ⊥
+WhyNotLoaded pool slots failed AdmitSlots = ⊥
 WhyNotLoaded pool slots failed Room = (pool.free ≡ []) × (slots.free ≡ [])
 WhyNotLoaded pool slots failed Store = (pool.free ≡ []) × (0 < length slots.free) × failed
 WhyNotLoaded pool slots failed Memory = Unit {0}
@@ -57,6 +59,8 @@ WhyNotLoaded pool slots failed Memory = Unit {0}
 abbrev pub IsOfLoading : BootError → Type 0
 IsOfLoading Limits = ⊥
 IsOfLoading Segment = ⊥
+IsOfLoading AdmitFrames = ⊥
+IsOfLoading AdmitSlots = ⊥
 IsOfLoading Room = Unit {0}
 IsOfLoading Store = Unit {0}
 IsOfLoading Memory = Unit {0}
@@ -68,3 +72,5 @@ boot_number Segment = 2
 boot_number Room = 3
 boot_number Store = 4
 boot_number Memory = 5
+boot_number AdmitFrames = 6
+boot_number AdmitSlots = 7

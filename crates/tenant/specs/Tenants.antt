@@ -1,6 +1,6 @@
 -- A guest with its seats and its shares, and what becomes of it.
-use Rattle.std.specs.Prelude.{◌≡◌, ℕ, ◌∷◌, ◌++◌, List, [], Option, length}
-use Rattle.std.proofs.Common.{lit<, lit≤}
+use Rattle.std.specs.Prelude.{◌≡◌, ℕ, Bool, false, ◌∷◌, ◌++◌, List, [], Some, None, Option, length}
+use Rattle.std.proofs.Common.{lit<}
 use Rattle.items.specs.declared.item.Item.{Item}
 use Rattle.items.specs.Entries.{steps_of}
 use Rattle.elf32.specs.declared.image.Image.{Image}
@@ -11,7 +11,10 @@ use Rattle.physmap.specs.declared.page.Page.TheVariants.{Zero}
 use Rattle.physmap.specs.Pages.{page_at}
 use Rattle.physmap.specs.Holdings.{resident_pages}
 use Rattle.dev_balloon.specs.Balloon.{given_count}
+use Rattle.rand_core.specs.Stream.{Stream}
+use Rattle.taxpolicy.specs.Sample.{drawn}
 use Rattle.taxpolicy.specs.declared.stat.Stat.{Stat}
+use Rattle.sampling.specs.declared.sample.Sample.{Sample}
 use Rattle.paging.specs.Faith.{Kept}
 use Rattle.guest.specs.Guests.{GuestIs, view_of, Intact, without_pages}
 use Rattle.guest.specs.Loading.{IsBeside}
@@ -22,6 +25,12 @@ pub record TenantIs : Type 0 where
   pub guest : GuestIs
   -- how many shares of the memory the guest has
   pub shares : ℕ
+  -- how many resident pages it always keeps
+  pub minimum : ℕ
+  -- the pages that were drawn to see which it uses, and how many draws were touched
+  pub sample : Sample
+  -- whether it is to make no step for want of memory
+  pub blocked : Bool
 
 -- a seat of a guest, of this number
 pub record IsSeat (g : GuestIs) (number : ℕ) (seat : SeatIs) : Type 0 where
@@ -41,12 +50,28 @@ pub record IsKept (held : ℕ → Option (List ℕ)) (t : TenantIs) : Type 0 whe
   pub intact : Intact t.guest
   pub pages : Kept held (pages_seen (view_of t.guest)) t.guest.bus.pages
 
--- what no event changes
+-- what nothing that happens to a guest changes: its boot, how many runs its log may have, how many pages it has, and what the policy
+-- goes by
 pub record Stays (t t' : TenantIs) : Type 0 where
   pub boot : t'.guest.boot ≡ t.guest.boot
   pub limit : t'.guest.log.limit ≡ t.guest.log.limit
   pub shares : t'.shares ≡ t.shares
+  pub minimum : t'.minimum ≡ t.minimum
+  pub sample : t'.sample ≡ t.sample
+  pub blocked : t'.blocked ≡ t.blocked
   pub count : length (pages_in t') ≡ length (pages_in t)
+
+-- no page of it was drawn for a sample yet, so all of them count as active
+pub record IsUnsampled (t : TenantIs) : Type 0 where
+  pub draws : t.sample.draws ≡ None
+  pub active : t.sample.active ≡ 100
+
+-- A period of its sample has ended, and the next one has begun, whose pages are the generator's next words; until a period has ended it
+-- counts as before. All else is as it was.
+pub record IsSampled (words : Stream) (t t' : TenantIs) : Type 0 where
+  pub rest : t' ≡ record t { sample = t'.sample }
+  pub draws : t'.sample.draws ≡ Some (drawn (length (pages_in t)) 100 words)
+  pub first : t.sample.draws ≡ None → t'.sample.active ≡ t.sample.active
 
 -- its log has one more item, by which its view has moved
 abbrev pub Adds : TenantIs → Item → TenantIs → Type 0
@@ -63,25 +88,28 @@ pub record NothingHappens (t t' : TenantIs) : Type 0 where
   pub items : t'.guest.log.items ≡ t.guest.log.items
 
 -- it is at the boot of an image in a memory of its own of so many pages, and nothing has happened to it
-pub record IsBooted (image : Image) (count shares log_runs : ℕ) (t : TenantIs) : Type 0 where
+pub record IsBooted (image : Image) (count shares minimum log_runs : ℕ) (t : TenantIs) : Type 0 where
   pub boot : t.guest.boot ≡ boot_machine image count
   pub items : t.guest.log.items ≡ []
   pub limit : t.guest.log.limit ≡ log_runs
   pub shares_are : t.shares ≡ shares
+  pub minimum_is : t.minimum ≡ minimum
+  pub unsampled : IsUnsampled t
+  pub unblocked : t.blocked ≡ false
   pub size : length (pages_in t) ≡ count
   -- a page that the image doesn't reach was never touched
   pub beside : (p : ℕ) → IsBeside image p → page_at (pages_in t) p ≡ Zero
 
--- what the policy knows of a guest of which no sample was taken: all of its pages count as active
+-- what the policy knows of a guest
 abbrev pub stat_of : TenantIs → Stat
 stat_of t = record {
   shares = t.shares;
   pages = length (pages_in t);
   resident = resident_pages (pages_in t);
   given = given_count t.guest.bus.devices.balloon;
-  active = 100;
+  active = t.sample.active;
   sample = 100;
-  minimum = 2;
+  minimum = t.minimum;
   sampled = lit< tt;
-  touched = lit≤ tt;
+  touched = t.sample.few;
 }

@@ -35,6 +35,10 @@ pub enum BootError {
     Limits,
     /// A guest's pages don't hold its image.
     Segment,
+    /// There are fewer frames than guests that are admitted by their minimums always keep, and one more for each.
+    AdmitFrames,
+    /// There are fewer slots than such guests have pages beside those.
+    AdmitSlots,
     /// A page of its image found neither a free frame nor a free slot.
     Room,
     /// A page of its image found no free frame, and the store failed to write it.
@@ -44,7 +48,7 @@ pub enum BootError {
 }
 
 impl BootError {
-    /// Its number: 1 `Limits`, 2 `Segment`, 3 `Room`, 4 `Store`, 5 `Memory`.
+    /// Its number: 1 `Limits`, 2 `Segment`, 3 `Room`, 4 `Store`, 5 `Memory`, 6 `AdmitFrames`, 7 `AdmitSlots`.
     pub fn number(self) -> u32
         ensures { result ≡ boot_number self }
     {
@@ -54,6 +58,8 @@ impl BootError {
             BootError::Room => 3,
             BootError::Store => 4,
             BootError::Memory => 5,
+            BootError::AdmitFrames => 6,
+            BootError::AdmitSlots => 7,
         }
     }
 }
@@ -245,6 +251,7 @@ pub fn loaded<S: SwapStore>(
     image: Arc<Image, Global>,
     pages: u32,
     shares: u32,
+    minimum: u32,
     log_runs: u32,
     pool: &mut Pool,
     slots: &mut SlotBook,
@@ -252,12 +259,14 @@ pub fn loaded<S: SwapStore>(
 ) -> Result<Tenant, BootError>
     requires fits { FitsPages image.value pages }
     requires few { pages ≤ 2 ^ 20 }
+    requires least { 2 ≤ minimum }
+    requires most { minimum ≤ pages }
     requires once { (k : ℕ) → count_of k slots.old.free ≤ below k (S.slots store.old) }
     ensures conserves { IfOk result (λ t. (entries : EntriesAre) →
         Conserves (replicate pages Page.Zero) pool.old slots.old entries (pages_in t) pool.new slots.new entries) }
     ensures reads { IfOk result (λ t. (entries : EntriesAre) → Reads entries (pages_in t)) }
     ensures used { S.true_to_digests store.old → UsedStay slots.old (S.held store.old) (S.held store.new) }
-    ensures booted { IfOk result (IsBooted image.value pages shares log_runs) }
+    ensures booted { IfOk result (IsBooted image.value pages shares minimum log_runs) }
     ensures kept { IfOk result (λ t. S.true_to_digests store.old → IsKept (S.held store.new) t) }
     ensures frames_first { IfOk result (λ t. FramesFirst pool.new (pages_in t)) }
     ensures err { IfErr result IsOfLoading }
@@ -271,7 +280,7 @@ pub fn loaded<S: SwapStore>(
     let Ok(guest) = Guest::boot(alloc, its_image, pages, log_runs) else {
         return Err(BootError::Memory);
     };
-    let mut tenant = Tenant::new(guest, shares);
+    let mut tenant = Tenant::new(guest, shares, minimum);
     match load(alloc, &mut tenant, &image, pool, slots, store) {
         Ok(()) => Ok(tenant),
         Err(error) => {

@@ -9,13 +9,16 @@ use items::Item;
 use mips_step::Why;
 use paging::Pages;
 use physmap::{PageKind, Returned};
+use rand_core::Rng;
+use sampling::Sample;
 use sharetab::Shares;
 use std::alloc::AllocError;
 use std::marker::Model;
-use taxpolicy::{DEFAULT_MINIMUM, SAMPLE_SIZE, Stat};
+use taxpolicy::{SAMPLE_SIZE, Stat};
 use word32::Ppn;
 
-/// A guest with its four seats and its shares of the memory. In clauses it is a record, `TenantIs`.
+/// A guest with its four seats, and with what the policy goes by: its shares of the memory, the least number of pages that are left to
+/// it, what a sample of its pages says, and whether it is blocked for want of memory. In clauses it is a record, `TenantIs`.
 ///
 /// Seat 0 makes its steps and brings its console's input, seat 1 drains its console and sets its balloon's target for those who
 /// run the world, seat 2 sets it for the policy, and seat 3 pokes and writes for the debugger; but any seat may bring any item
@@ -27,16 +30,21 @@ pub struct Tenant {
     policy: Seat,
     debugger: Seat,
     shares: u32,
+    minimum: u32,
+    sample: Sample,
+    blocked: bool,
 }
 
 impl Model for Tenant {
+    ghost use Rattle.std.specs.Prelude.{◌≤◌, length};
     ghost use Rattle.tenant.specs.Tenants.{TenantIs, IsSeat};
 
     ghost Value = { TenantIs };
 
-    ghost view = { λ t. record { guest = t.guest; shares = t.shares } };
+    ghost view = { λ t. record { guest = t.guest; shares = t.shares; minimum = t.minimum; sample = t.sample; blocked = t.blocked } };
 
-    ghost invariant = { λ t. IsSeat t.guest 0 t.runner × IsSeat t.guest 1 t.console × IsSeat t.guest 2 t.policy × IsSeat t.guest 3 t.debugger };
+    ghost invariant = { λ t. IsSeat t.guest 0 t.runner × IsSeat t.guest 1 t.console × IsSeat t.guest 2 t.policy × IsSeat t.guest 3 t.debugger
+        × (2 ≤ t.minimum) × (t.minimum ≤ length t.guest.bus.pages) };
 }
 
 impl Tenant {
@@ -65,13 +73,20 @@ impl Tenant {
     ghost use Rattle.guest.specs.Guests.{view_of, standing, need_of, HandsBack, HasPaused};
     ghost use Rattle.guest.specs.declared.progress.Pause.{Pause};
     ghost use Rattle.tenant.specs.Tenants.{TenantIs, pages_in, beside_pages, IsKept, Stays, Adds, AddsSteps, NothingHappens};
-    ghost use Rattle.tenant.specs.Tenants.{stat_of};
+    ghost use Rattle.tenant.specs.Tenants.{stat_of, IsUnsampled, IsSampled};
+    ghost use Rattle.taxpolicy.specs.Sample.{after_words};
 
-    /// A guest that has no seat yet, with this many shares.
-    pub fn new(mut guest: Guest, shares: u32) -> Tenant
-        requires { guest.seats ≡ 0 }
+    /// A guest that has no seat yet, with this many shares and this minimum, 2 to its pages. No page of it was drawn for a sample yet, so it counts as
+    /// active, and it is not blocked.
+    pub fn new(mut guest: Guest, shares: u32, minimum: u32) -> Tenant
+        requires seats { guest.seats ≡ 0 }
+        requires least { 2 ≤ minimum }
+        requires most { minimum ≤ length guest.bus.pages }
         ensures guest { result.guest ≡ record guest { seats = 4 } }
         ensures shares { result.shares ≡ shares }
+        ensures minimum { result.minimum ≡ minimum }
+        ensures unsampled { IsUnsampled result }
+        ensures unblocked { result.blocked ≡ false }
     {
         Tenant {
             runner: guest.seat(),
@@ -80,6 +95,9 @@ impl Tenant {
             debugger: guest.seat(),
             guest,
             shares,
+            minimum,
+            sample: Sample::new(),
+            blocked: false,
         }
     }
 
@@ -95,6 +113,46 @@ impl Tenant {
         ensures { result ≡ self.now.shares }
     {
         self.shares
+    }
+
+    /// How many of its resident pages it always keeps, 2 to its pages: those who look for a page that is to leave its frame take none of them.
+    pub fn minimum(&self) -> u32
+        ensures value { result ≡ self.now.minimum }
+        ensures least { 2 ≤ result }
+        ensures most { result ≤ length (pages_in self.now) }
+    {
+        self.minimum
+    }
+
+    /// What the sample of its pages says.
+    pub fn sampled(&self) -> &Sample
+        ensures { result.now ≡ self.now.sample }
+    {
+        &self.sample
+    }
+
+    /// Whether it is blocked: it is to make no step while memory is low.
+    pub fn is_blocked(&self) -> bool
+        ensures { result ≡ self.now.blocked }
+    {
+        self.blocked
+    }
+
+    /// Blocks it, or lets it go on. All else stays.
+    pub fn set_blocked(&mut self, blocked: bool)
+        ensures { self.new ≡ record self.old { blocked = blocked } }
+    {
+        self.blocked = blocked;
+    }
+
+    /// Ends a period of the sample of its pages and begins the next: of the pages that were drawn for the period that ends, a draw counts
+    /// as active where the page was accessed in it; then the pages of the next period are drawn, each by the generator's next word. The
+    /// guest doesn't notice.
+    pub fn sample<R: Rng>(&mut self, rng: &mut R)
+        ensures sampled { IsSampled (R.stream rng.old) self.old self.new }
+        ensures rest { R.stream rng.new ≡ after_words 100 (R.stream rng.old) }
+    {
+        self.guest.sample(&mut self.sample, rng);
     }
 
     /// How many pages it has, at most 2^20.
@@ -134,7 +192,7 @@ impl Tenant {
         self.guest.swapped()
     }
 
-    /// What the policy knows of it: no sample was taken, so all of its pages count as active.
+    /// What the policy knows of it: while no period of a sample is whole, all of its pages count as active.
     pub fn stat(&self) -> Stat
         ensures { result ≡ stat_of self.now }
     {
@@ -143,9 +201,9 @@ impl Tenant {
             pages: self.page_count(),
             resident: self.resident(),
             given: self.guest.view().devices.given(),
-            active: SAMPLE_SIZE as u16,
+            active: self.sample.active,
             sample: SAMPLE_SIZE as u16,
-            minimum: DEFAULT_MINIMUM,
+            minimum: self.minimum,
         }
     }
 
@@ -245,6 +303,9 @@ impl Tenant {
             policy,
             debugger,
             shares: _,
+            minimum: _,
+            sample: _,
+            blocked: _,
         } = self;
         drop(runner);
         drop(console);

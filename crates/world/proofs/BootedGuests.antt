@@ -1,29 +1,30 @@
 -- One guest more is booted, and why a world is not.
-use Rattle.std.proofs.Common.{ℕ, ◌≡◌, ◌+◌, inl, inr, List, [], ◌∷◌, ◌++◌, length, get_or, sym, ap, subst, ◌∙◌, arith, length-append}
+use Rattle.std.proofs.Common.{All, ℕ, ◌≡◌, ◌+◌, inl, inr, List, [], ◌∷◌, ◌++◌, length, get_or, sym, ap, subst, ◌∙◌, arith, length-append}
 use Rattle.std.proofs.lemmas.Bool.{cases_lt}
 use Rattle.std.proofs.lemmas.List.{get_or_append_left}
+use Rattle.world.specs.declared.boot.Config.{Config}
 use Rattle.world.specs.declared.boot.NewGuest.{NewGuest}
 use Rattle.tenant.specs.declared.loading.BootError.{BootError}
 use Rattle.tenant.specs.declared.loading.BootError.TheVariants as error
 use Rattle.tenant.specs.Tenants.{TenantIs, IsBooted}
-use Rattle.world.specs.Boots.{AreBooted, WhyNotBooted}
+use Rattle.world.specs.Boots.{AreWithinLimits, HoldsImage, AreAdmitted, AreBooted, WhyNotBooted}
 use Rattle.tenant.specs.Loading.{IsOfLoading}
 use Rattle.world.proofs.Worlds.{get_last}
 
 abbrev IsBootOf : ℕ → NewGuest → TenantIs → Type 0
-IsBootOf runs guest t = IsBooted guest.image.value guest.pages guest.shares runs t
+IsBootOf runs guest t = IsBooted guest.image.value guest.pages guest.shares guest.minimum runs t
 
 pub none_booted : (runs : ℕ) (ts : List TenantIs) → ts ≡ [] → AreBooted runs [] ts
 none_booted runs ts none = record { count = ap length none; each = λ g guest t inside. absurd (omega (arith, inside)) }
 
 pub one_booted : (runs : ℕ) (guests : List NewGuest) (guest : NewGuest) (ts ts' : List TenantIs) → length ts' ≡ length ts + 1
-    → ((t : TenantIs) → ts' ≡ ts ++ get_or ts' (length ts) t ∷ []) → ((t : TenantIs) → IsBooted guest.image.value guest.pages guest.shares runs (get_or ts' (length ts) t))
+    → ((t : TenantIs) → ts' ≡ ts ++ get_or ts' (length ts) t ∷ []) → ((t : TenantIs) → IsBooted guest.image.value guest.pages guest.shares guest.minimum runs (get_or ts' (length ts) t))
     → AreBooted runs guests ts → AreBooted runs (guests ++ guest ∷ []) ts'
 one_booted runs guests guest ts ts' size more boots a = record {
   count = omega (arith, size, a.count, length-append guests (guest ∷ []));
   each = λ g other t inside. elim (cases_lt g (length guests)) [
     | inl before ↦
-        subst (λ (n : NewGuest). IsBooted n.image.value n.pages n.shares runs (get_or ts' g t)) (sym (get_or_append_left guests (guest ∷ []) other g before))
+        subst (λ (n : NewGuest). IsBooted n.image.value n.pages n.shares n.minimum runs (get_or ts' g t)) (sym (get_or_append_left guests (guest ∷ []) other g before))
         (subst (λ (u : TenantIs). IsBootOf runs (get_or guests g other) u)
         (sym (ap (λ (l : List TenantIs). get_or l g t) (more t) ∙ get_or_append_left ts (get_or ts' (length ts) t ∷ []) t g (omega (arith, before, a.count))))
         (a.each g other t before))
@@ -34,9 +35,12 @@ one_booted runs guests guest ts ts' size more boots a = record {
   ];
 }
 
-pub why_of_loading : (within hold : Type 0) (e : BootError) → within → hold → IsOfLoading e → WhyNotBooted within hold e
-why_of_loading within hold error.Limits w h i = absurd i
-why_of_loading within hold error.Segment w h i = absurd i
-why_of_loading within hold error.Room w h i = (w, h)
-why_of_loading within hold error.Store w h i = (w, h)
-why_of_loading within hold error.Memory w h i = (w, h)
+pub why_of_loading : (config : Config) (slots : ℕ) (guests : List NewGuest) (e : BootError)
+    → AreWithinLimits config slots guests × All HoldsImage guests × AreAdmitted config slots guests → IsOfLoading e → WhyNotBooted config slots guests e
+why_of_loading config slots guests error.Limits is i = absurd i
+why_of_loading config slots guests error.Segment is i = absurd i
+why_of_loading config slots guests error.AdmitFrames is i = absurd i
+why_of_loading config slots guests error.AdmitSlots is i = absurd i
+why_of_loading config slots guests error.Room is i = is
+why_of_loading config slots guests error.Store is i = is
+why_of_loading config slots guests error.Memory is i = is

@@ -1,6 +1,7 @@
 pub mod BootedGuests
 pub mod Reached
 pub mod Runs
+pub mod Sampling
 pub mod Totals
 pub mod Victims
 pub mod Worlds

@@ -75,10 +75,18 @@ changes_then how on g ts mid ts' before after = record {
 }
 
 stays_same : (t : TenantIs) → Stays t t
-stays_same t = record { boot = refl; limit = refl; shares = refl; count = refl }
+stays_same t = record { boot = refl; limit = refl; shares = refl; minimum = refl; sample = refl; blocked = refl; count = refl }
 
 stays_on : (t u v : TenantIs) → Stays t u → Stays u v → Stays t v
-stays_on t u v s r = record { boot = r.boot ∙ s.boot; limit = r.limit ∙ s.limit; shares = r.shares ∙ s.shares; count = r.count ∙ s.count }
+stays_on t u v s r = record {
+  boot = r.boot ∙ s.boot;
+  limit = r.limit ∙ s.limit;
+  shares = r.shares ∙ s.shares;
+  minimum = r.minimum ∙ s.minimum;
+  sample = r.sample ∙ s.sample;
+  blocked = r.blocked ∙ s.blocked;
+  count = r.count ∙ s.count;
+}
 
 pub all_stays : (g : ℕ) (ts : List TenantIs) → Changes Stays g ts ts
 all_stays g ts = changes_none Stays stays_same g ts

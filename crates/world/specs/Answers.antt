@@ -44,8 +44,9 @@ use Rattle.world.specs.declared.world.Evicted.{Evicted}
 use Rattle.world.specs.Debugging.{IfStopped}
 use Rattle.world.specs.Events.{own_items, IfStop, IsForRoom, IsSupplied, WhyStopped}
 use Rattle.world.specs.Evictions.{Became}
+use Rattle.world.specs.Samples.{OnlySamplesChange}
 use Rattle.world.specs.Victims.{WhyLacking}
-use Rattle.world.specs.Worlds.{WorldIs, boot_of, log_at}
+use Rattle.world.specs.Worlds.{WorldIs, SameAround, boot_of, log_at}
 
 -- the page that a guest's next step needs, and why
 abbrev pub needed_by : TenantIs → Option (ℕ × Why)
@@ -120,6 +121,7 @@ IsNowhere ts (event.Supply g p) = (t : TenantIs) → g < length ts → length (p
 IsNowhere ts (event.Fault g) = length ts ≤ g
 IsNowhere ts (event.Evict g p) = length ts ≤ g
 IsNowhere ts (event.Scan g p) = g < length ts → 2 ^ 32 ≤ g
+IsNowhere ts event.Sample = ⊥
 
 -- the count of a store's failures went up by one in an event
 abbrev pub FailsOnce : {Kept : Type 0} → (Kept → ℕ) → WorldIs Kept → WorldIs Kept → Type 0
@@ -157,6 +159,7 @@ IsAnswered trusted failures honest w w' (event.Evict g p) (answer.Evicted done) 
     (t : TenantIs) → IsEvictAnswer p (slice_index_or w.tenants g t) (slice_index_or w'.tenants g t) w.slots (FailsOnce failures w w') done
 IsAnswered trusted failures honest w w' (event.Scan g p) (answer.Scanned scan) =
     (t : TenantIs) → Answered w.shares (pages_in (slice_index_or w.tenants g t)) (record { guest = g; page = p }) scan
+IsAnswered trusted failures honest w w' event.Sample answer.Sampled = OnlySamplesChange w.tenants w'.tenants × SameAround w w'
 IsAnswered trusted failures honest w w' e answer.Nowhere = IsNowhere w.tenants e
 IsAnswered trusted failures honest w w' e a = ⊥
 

@@ -42,6 +42,7 @@ IsProper (event.Supply g p) = Unit {0}
 IsProper (event.Fault g) = Unit {0}
 IsProper (event.Evict g p) = Unit {0}
 IsProper (event.Scan g p) = Unit {0}
+IsProper event.Sample = Unit {0}
 
 -- a step that is made is an item of seat 0
 abbrev pub step_items : ℕ → ℕ → Result StepOut Stop → List Item
@@ -59,6 +60,7 @@ items_stepped h g (answer.Supplied done) = []
 items_stepped h g (answer.Faulted done) = []
 items_stepped h g (answer.Evicted done) = []
 items_stepped h g (answer.Scanned scan) = []
+items_stepped h g answer.Sampled = []
 items_stepped h g answer.Nowhere = []
 
 -- so many steps by seat 0, where the guest is the one that made them
@@ -75,6 +77,7 @@ items_ran h g (answer.Supplied done) = []
 items_ran h g (answer.Faulted done) = []
 items_ran h g (answer.Evicted done) = []
 items_ran h g (answer.Scanned scan) = []
+items_ran h g answer.Sampled = []
 items_ran h g answer.Nowhere = []
 
 -- an item that is accepted
@@ -92,6 +95,7 @@ items_input h g item (answer.Supplied done) = []
 items_input h g item (answer.Faulted done) = []
 items_input h g item (answer.Evicted done) = []
 items_input h g item (answer.Scanned scan) = []
+items_input h g item answer.Sampled = []
 items_input h g item answer.Nowhere = []
 
 -- a write that is made is an item of seat 3
@@ -105,6 +109,7 @@ items_written h g address bytes (answer.Supplied done) = []
 items_written h g address bytes (answer.Faulted done) = []
 items_written h g address bytes (answer.Evicted done) = []
 items_written h g address bytes (answer.Scanned scan) = []
+items_written h g address bytes answer.Sampled = []
 items_written h g address bytes answer.Nowhere = []
 
 -- The items that an event adds to the log of guest h, by its answer: steps that are made, an item that is accepted, and a write that is
@@ -120,6 +125,7 @@ own_items h (event.Supply g p) a = []
 own_items h (event.Fault g) a = []
 own_items h (event.Evict g p) a = []
 own_items h (event.Scan g p) a = []
+own_items h event.Sample a = []
 
 -- the items that events add to the log of guest h, in order
 abbrev pub own : ℕ → List Event → List Answer → List Item

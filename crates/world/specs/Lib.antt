@@ -3,5 +3,6 @@ pub mod Boots
 pub mod Debugging
 pub mod Events
 pub mod Evictions
+pub mod Samples
 pub mod Victims
 pub mod Worlds

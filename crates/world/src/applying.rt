@@ -207,10 +207,21 @@ impl<S: SwapStore> World<S> {
         Answer::Scanned(self.scan(g, p))
     }
 
+    fn apply_sample<R: Rng>(&mut self, rng: &mut R) -> Answer
+        ensures logs { (h : ℕ) → log_at self.new.tenants h ≡ log_at self.old.tenants h ++ [] }
+        ensures answered { IsAnswered S.true_to_digests S.failed S.honest self.old self.new Event.Sample result }
+        ensures boots { map boot_of self.new.tenants ≡ map boot_of self.old.tenants }
+        ensures store { self.new.store ≡ self.old.store }
+        ensures frames { self.new.frames ≡ self.old.frames }
+    {
+        self.sample(rng);
+        Answer::Sampled
+    }
+
     /// One event. Its items are added to its guest's log, and no other log changes; the machines that the guests booted stay. What is
     /// answered is what the guest's view has to say to it, or why it was refused (`IsAnswered`): each kind of event has the answers of
-    /// `step`, `steps`, `run_steps`, `input`, `debug_read`, `debug_write`, `supply`, `fault`, `evict` and `scan`. The tax and the
-    /// generator are those of `evict_one`, which may be called where a page gets a frame.
+    /// `step`, `steps`, `run_steps`, `input`, `debug_read`, `debug_write`, `supply`, `fault`, `evict`, `scan` and `sample`. The tax
+    /// and the generator are those of `evict_one`, which may be called where a page gets a frame, and of `sample`.
     pub fn apply<R: Rng>(&mut self, alloc: Global, event: Event, tax: Tax, rng: &mut R) -> Answer
         requires { IsProper event }
         ensures logs { (h : ℕ) → log_at self.new.tenants h ≡ log_at self.old.tenants h ++ own_items h event result }
@@ -236,6 +247,7 @@ impl<S: SwapStore> World<S> {
             Event::Fault(g) => self.apply_fault(alloc, g, tax, rng),
             Event::Evict(g, p) => self.apply_evict(g, p),
             Event::Scan(g, p) => self.apply_scan(g, p),
+            Event::Sample => self.apply_sample(rng),
         }
     }
 

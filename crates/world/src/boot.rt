@@ -1,8 +1,8 @@
 //! Worlds that are booted with all of their guests.
-ghost use Rattle.std.specs.Prelude.{◌≡◌, ◌↔◌, IsTrue, All};
-ghost use Rattle.world.specs.Boots.{IsWithinLimits, AreWithinLimits, HoldsImage};
+ghost use Rattle.std.specs.Prelude.{◌≡◌, ◌↔◌, All};
 
 use crate::World;
+use crate::limits::refusal;
 use elf32::Image;
 use std::alloc::Global;
 use std::sync::Arc;
@@ -16,6 +16,9 @@ pub struct Config {
     pub frames: u32,
     /// The greatest number of runs that a guest's log may have, 16 to 1,048,576.
     pub log_runs: u32,
+    /// Whether guests are admitted by their minimums alone: only where there is a frame for each page that they always keep and one more
+    /// for each guest, and a slot for each of their other pages.
+    pub admit: bool,
 }
 
 /// A guest that is to be booted.
@@ -27,55 +30,15 @@ pub struct NewGuest {
     pub pages: u32,
     /// How many shares of the machine's memory it has, 1 to 1,000,000.
     pub shares: u32,
-}
-
-impl NewGuest {
-    // Whether its numbers are within their limits.
-    fn is_within_limits(&self) -> bool
-        ensures { IsTrue result ↔ IsWithinLimits self.now }
-    {
-        (2..=16_384).contains(&self.pages) && (1..=1_000_000).contains(&self.shares)
-    }
-
-    // Whether its pages hold its image.
-    fn holds_image(&self) -> bool
-        ensures { IsTrue result ↔ HoldsImage self.now }
-    {
-        self.image.fits(self.pages)
-    }
-}
-
-// Whether the numbers of each guest are within their limits.
-fn each_within_limits(guests: &[NewGuest]) -> bool
-    ensures { IsTrue result ↔ All IsWithinLimits guests.now }
-{
-    guests.iter().all(|guest| guest.is_within_limits())
-}
-
-// Whether the pages of each guest hold its image.
-fn each_holds_image(guests: &[NewGuest]) -> bool
-    ensures { IsTrue result ↔ All HoldsImage guests.now }
-{
-    guests.iter().all(|guest| guest.holds_image())
-}
-
-/// Whether the numbers of a world with so many slots, and those of its guests, are within their limits; else `World::boot` refuses
-/// them.
-pub fn are_within_limits(config: Config, slots: u32, guests: &[NewGuest]) -> bool
-    ensures { IsTrue result ↔ AreWithinLimits config.frames slots config.log_runs guests.now }
-{
-    (1..=16).contains(&guests.len())
-        && each_within_limits(guests)
-        && (4..=65_536).contains(&config.frames)
-        && slots <= 131_072
-        && (16..=1_048_576).contains(&config.log_runs)
+    /// How many resident pages it always keeps, 2 to its pages.
+    pub minimum: u32,
 }
 
 impl<S: SwapStore> World<S> {
     ghost use Rattle.std.specs.Prelude.{◌≡◌, ◌↔◌, All, IfOk, IfErr, None, [], length};
     ghost use Rattle.sharetab.specs.Maps.{at_page};
     ghost use Rattle.sharetab.specs.declared.guest_page.GuestPage.{GuestPage};
-    ghost use Rattle.world.specs.Boots.{IsWithinLimits, AreWithinLimits, HoldsImage, AreBooted, WhyNotBooted};
+    ghost use Rattle.world.specs.Boots.{IsWithinLimits, AreWithinLimits, HoldsImage, AreAdmitted, AreBooted, WhyNotBooted};
     ghost use Rattle.tenant.specs.Loading.{IsOfLoading};
 
     // A world of no guest gets guests, in their order.
@@ -100,7 +63,14 @@ impl<S: SwapStore> World<S> {
     {
         let mut world = self;
         for guest in guests {
-            world = world.add(alloc, guest.image, guest.pages, guest.shares, log_runs)?;
+            world = world.add(
+                alloc,
+                guest.image,
+                guest.pages,
+                guest.shares,
+                guest.minimum,
+                log_runs,
+            )?;
         }
         Ok(world)
     }
@@ -109,8 +79,10 @@ impl<S: SwapStore> World<S> {
     /// guests and pages rising, and then in slots of the store, which has at most 131,072.
     ///
     /// It is refused, and the store comes back, where a number is outside its limits or there are no or more than 16 guests
-    /// (`Limits`); else where a guest's pages don't hold its image (`Segment`); else where a page of an image found neither frame
-    /// nor slot (`Room`), the store failed to write one (`Store`), or a request for memory was refused (`Memory`).
+    /// (`Limits`); else where a guest's pages don't hold its image (`Segment`); else, where guests are to be admitted by their minimums,
+    /// where there are too few frames for these (`AdmitFrames`), or too few slots for their other pages (`AdmitSlots`); else where a page
+    /// of an image found neither frame nor slot (`Room`), the store failed to write one (`Store`), or a request for memory was refused
+    /// (`Memory`).
     pub fn boot(
         alloc: Global,
         config: Config,
@@ -123,17 +95,13 @@ impl<S: SwapStore> World<S> {
         ensures slots { IfOk result (λ w. S.slots w.store ≡ S.slots store) }
         ensures honest { IfOk result (λ w. S.honest w.store ↔ S.honest store) }
         ensures true_to_digests { IfOk result (λ w. S.true_to_digests w.store ↔ S.true_to_digests store) }
-        ensures within { IfOk result (λ w. AreWithinLimits config.frames (S.slots store) config.log_runs guests.items × All HoldsImage guests.items) }
-        ensures err { IfErr result
-            (λ refused. WhyNotBooted (AreWithinLimits config.frames (S.slots store) config.log_runs guests.items) (All HoldsImage guests.items) refused.0) }
+        ensures within { IfOk result (λ w. AreWithinLimits config (S.slots store) guests.items × All HoldsImage guests.items × AreAdmitted config (S.slots store) guests.items) }
+        ensures err { IfErr result (λ refused. WhyNotBooted config (S.slots store) guests.items refused.0) }
         ensures back { IfErr result (λ refused. (S.slots refused.1 ≡ S.slots store) × (S.honest refused.1 ↔ S.honest store) ×
             (S.true_to_digests refused.1 ↔ S.true_to_digests store)) }
     {
-        if !are_within_limits(config, store.slot_count(), &guests) {
-            return Err((BootError::Limits, store));
-        }
-        if !each_holds_image(&guests) {
-            return Err((BootError::Segment, store));
+        if let Some(error) = refusal(config, store.slot_count(), &guests) {
+            return Err((error, store));
         }
         match World::new(alloc, config.frames, store) {
             Ok(world) => world.with_guests(alloc, guests, config.log_runs),

@@ -31,6 +31,8 @@ pub enum Event {
     Evict(usize, Ppn),
     /// A page of a guest is to be scanned for one of equal bytes.
     Scan(usize, Ppn),
+    /// A period of the samples of all guests' pages is to end, and the next to begin.
+    Sample,
 }
 
 /// What is answered to an event.
@@ -54,6 +56,8 @@ pub enum Answer {
     Evicted(Result<Evicted, EvictError>),
     /// What the scan of the page was answered.
     Scanned(Scan),
+    /// The guests' pages are sampled.
+    Sampled,
     /// There is no such guest, or no such page to supply. Nothing has happened.
     Nowhere,
 }

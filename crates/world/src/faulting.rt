@@ -18,7 +18,7 @@ use word32::Ppn;
 /// Why a page that a guest needs gets no frame.
 #[derive(Clone, Copy, Debug, PartialEq, Eq)]
 pub enum FaultError {
-    /// No frame is free, and no guest has more than two resident pages, or the store failed to write one of them.
+    /// No frame is free, and no guest has more resident pages than its minimum, or the store failed to write one of them.
     NoFrame,
     /// No frame is free, and no slot.
     NoSwap,
@@ -106,11 +106,13 @@ fn next_resident(tenant: &Tenant, spared: &Option<(Ppn, Ppn)>, start: u32) -> Pp
 
 // A page of a guest's for the generator's next word, but for those that are spared.
 fn drawn_page<R: Rng>(tenant: &Tenant, spared: &Option<(Ppn, Ppn)>, rng: &mut R) -> Ppn
-    requires { 2 < resident_pages (pages_in tenant.now) }
+    requires { tenant.now.minimum < resident_pages (pages_in tenant.now) }
     ensures page { IsNextResident spared.now (pages_in tenant.now) ((next_u32 (R.stream rng.old)).0 % length (pages_in tenant.now)) result }
     ensures rest { R.stream rng.new ≡ (next_u32 (R.stream rng.old)).1 }
 {
+    // Who asks for the two knows that they are no more than the pages, and at least 2.
     let _resident = tenant.resident();
+    let _minimum = tenant.minimum();
     next_resident(tenant, spared, rng.next_u32() % tenant.page_count())
 }
 
@@ -138,11 +140,11 @@ impl<S: SwapStore> World<S> {
     ghost use Rattle.world.specs.Victims.{IsPolicys, OnlyPagesMove, SparedStay, OtherSparedStay, WhyLacking, all_resident};
     ghost use Rattle.tenant.specs.Tenants.{stat_of};
 
-    /// A page of the policy's victim leaves its frame for a slot: of the guests with more than two resident pages the victim is the
-    /// one of the least ratio of shares to pages, taxed for idle ones, and its page is the first resident one at or after the
+    /// A page of the policy's victim leaves its frame for a slot: of the guests with more resident pages than their minimum the victim
+    /// is the one of the least ratio of shares to pages, taxed for idle ones, and its page is the first resident one at or after the
     /// generator's next word modulo its pages, going round. The frame is free then but where other pages read it too.
     ///
-    /// `NoFrame` where nobody has more than two resident pages, for which no word is drawn, or where the store failed to write the
+    /// `NoFrame` where nobody has more resident pages than its minimum, for which no word is drawn, or where the store failed to write the
     /// page; `NoSwap` where no slot is free; `Memory` where a request for memory was refused. Then no page has moved.
     pub fn evict_one<R: Rng>(
         &mut self,
@@ -265,7 +267,7 @@ impl<S: SwapStore> World<S> {
     /// The page that a guest's next step needs gets a frame of its own, with its bytes. Where none is free, pages of victims leave
     /// theirs one after another (`evict_one`) until one is. Where no page is needed it does nothing.
     ///
-    /// `NoFrame` where none is free and the store failed to write a victim's page or nobody has more than two resident pages;
+    /// `NoFrame` where none is free and the store failed to write a victim's page or nobody has more resident pages than its minimum;
     /// `NoSwap` where neither frame nor slot is free; `SwapRead` where the store failed to read the page's slot; `SwapDamaged` where
     /// what was read has another SHA-256 than the page, which an honest store never does; `Memory` where a request for memory was
     /// refused. Pages of victims that have left their frames before that stay in their slots.

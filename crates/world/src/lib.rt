@@ -16,13 +16,16 @@ mod damage;
 pub mod debugging;
 pub mod events;
 pub mod faulting;
+mod limits;
 pub mod running;
+pub mod samples;
 pub mod world;
 
 pub use books::BookCounts;
-pub use boot::{Config, NewGuest, are_within_limits};
+pub use boot::{Config, NewGuest};
 pub use debugging::DebugError;
 pub use events::{Answer, Event};
 pub use faulting::{FaultError, Spared};
+pub use limits::are_within_limits;
 pub use running::{End, Ran, RunStop};
 pub use world::{Evicted, World};

@@ -15,7 +15,7 @@ use word32::Ppn;
 /// Why a guest's run stopped before all of its steps were made.
 #[derive(Clone, Copy, Debug, PartialEq, Eq)]
 pub enum RunStop {
-    /// No frame is free, and no guest has more than two resident pages, or the store failed to write one of them.
+    /// No frame is free, and no guest has more resident pages than its minimum, or the store failed to write one of them.
     NoFrame,
     /// No frame is free, and no slot.
     NoSwap,

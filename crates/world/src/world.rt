@@ -123,9 +123,9 @@ impl<S: SwapStore> World<S> {
         })
     }
 
-    /// The same world with one guest more, the last, at the boot of an image in a memory of `pages` pages, with this many shares
-    /// and a log of at most `log_runs` runs. Each page that the image reaches has its bytes: in rising order in a frame while one
-    /// is free, then in the free slot of the lowest number.
+    /// The same world with one guest more, the last, at the boot of an image in a memory of `pages` pages, with this many shares, this
+    /// minimum, 2 to its pages, and a log of at most `log_runs` runs. Each page that the image reaches has its bytes: in rising order in a
+    /// frame while one is free, then in the free slot of the lowest number.
     ///
     /// `Room` where neither frame nor slot was free for one of them, `Store` where the store failed to write one, `Memory` where a
     /// request for memory was refused: the world is given up then, and its store comes back.
@@ -135,13 +135,17 @@ impl<S: SwapStore> World<S> {
         image: Arc<Image, Global>,
         pages: u32,
         shares: u32,
+        minimum: u32,
         log_runs: u32,
     ) -> Result<World<S>, (BootError, S)>
         requires fits { FitsPages image.value pages }
         requires few { pages ≤ 2 ^ 20 }
+        requires least { 2 ≤ minimum }
+        requires most { minimum ≤ pages }
         ensures tenants { IfOk result (λ w. (t : TenantIs) → w.tenants ≡ self.tenants ++ slice_index_or w.tenants (length self.tenants) t ∷ []) }
         ensures count { IfOk result (λ w. length w.tenants ≡ length self.tenants + 1) }
-        ensures booted { IfOk result (λ w. (t : TenantIs) → IsBooted image.value pages shares log_runs (slice_index_or w.tenants (length self.tenants) t)) }
+        ensures booted { IfOk result (λ w. (t : TenantIs) →
+            IsBooted image.value pages shares minimum log_runs (slice_index_or w.tenants (length self.tenants) t)) }
         ensures frames_first { IfOk result (λ w. (t : TenantIs) → FramesFirst w.pool (pages_in (slice_index_or w.tenants (length self.tenants) t))) }
         ensures shares { IfOk result (λ w. w.shares ≡ self.shares) }
         ensures frames { IfOk result (λ w. w.frames ≡ self.frames) }
@@ -161,7 +165,7 @@ impl<S: SwapStore> World<S> {
             frames,
         } = self;
         match loaded(
-            alloc, image, pages, shares, log_runs, &mut pool, &mut slots, &mut store,
+            alloc, image, pages, shares, minimum, log_runs, &mut pool, &mut slots, &mut store,
         ) {
             Ok(tenant) => match tenants.push(tenant) {
                 Ok(()) => Ok(World {

@@ -17,8 +17,11 @@ struct Numbers {
     guests: u32,
     pages: u32,
     shares: u32,
+    minimum: u32,
     /// How many bytes the image has, all zeros.
     size: usize,
+    /// Whether guests are admitted by their minimums.
+    admit: bool,
 }
 
 /// The least numbers that a world has: two pages are an image's.
@@ -29,7 +32,9 @@ const LEAST: Numbers = Numbers {
     guests: 1,
     pages: 2,
     shares: 1,
+    minimum: 2,
     size: 8192,
+    admit: false,
 };
 
 /// An image of zeros.
@@ -58,6 +63,7 @@ fn guests_of(rt: &impl Abort, alloc: Global, numbers: &Numbers) -> Vec<NewGuest>
             image: image_of(rt, alloc, numbers.size),
             pages: numbers.pages,
             shares: numbers.shares,
+            minimum: numbers.minimum,
         };
         if guests.push(guest).is_err() {
             panic!(rt; "no memory for the guests");
@@ -84,6 +90,7 @@ fn booted(
     let config = Config {
         frames: numbers.frames,
         log_runs: numbers.log_runs,
+        admit: numbers.admit,
     };
     let guests = guests_of(rt, alloc, numbers);
     match World::boot(alloc, config, guests, store_of(rt, alloc, numbers, k)) {
@@ -196,6 +203,20 @@ fn numbers_have_limits(rt: HostRuntime) {
                 ..LEAST
             },
         ),
+        (
+            "a minimum of 1",
+            Numbers {
+                minimum: 1,
+                ..LEAST
+            },
+        ),
+        (
+            "a minimum above the pages",
+            Numbers {
+                minimum: 3,
+                ..LEAST
+            },
+        ),
     ];
     for (case, numbers) in &wrong {
         let answer = booted(&rt, rt.alloc(), numbers, 100);
@@ -214,4 +235,58 @@ fn pages_hold_the_image(rt: HostRuntime) {
     let both = Numbers { frames: 3, ..large };
     let answer = booted(&rt, rt.alloc(), &both, 100);
     expect(&rt, "limits first", answer, Err(BootError::Limits));
+}
+
+/// Two guests of 16 pages that always keep six of them, with a frame for each of those and for each guest, and a slot for each of the
+/// other pages.
+const ADMITTED: Numbers = Numbers {
+    frames: 14,
+    slots: 20,
+    guests: 2,
+    pages: 16,
+    minimum: 6,
+    admit: true,
+    ..LEAST
+};
+
+#[test]
+fn guests_are_admitted_by_their_minimums(rt: HostRuntime) {
+    let of = |numbers: &Numbers| booted(&rt, rt.alloc(), numbers, 100);
+    expect(&rt, "enough", of(&ADMITTED), Ok(counted(14, 4, 0, 20)));
+    let frames = Numbers {
+        frames: 13,
+        ..ADMITTED
+    };
+    expect(&rt, "13 frames", of(&frames), Err(BootError::AdmitFrames));
+    let slots = Numbers {
+        slots: 19,
+        ..ADMITTED
+    };
+    expect(&rt, "19 slots", of(&slots), Err(BootError::AdmitSlots));
+    let both = Numbers {
+        frames: 13,
+        ..slots
+    };
+    expect(&rt, "frames first", of(&both), Err(BootError::AdmitFrames));
+    let minimum = Numbers {
+        minimum: 17,
+        ..both
+    };
+    expect(&rt, "limits first", of(&minimum), Err(BootError::Limits));
+    let size = Numbers {
+        pages: 15,
+        size: 65_536,
+        ..both
+    };
+    expect(&rt, "then the images", of(&size), Err(BootError::Segment));
+    let unasked = Numbers {
+        admit: false,
+        ..both
+    };
+    expect(
+        &rt,
+        "not asked for",
+        of(&unasked),
+        Ok(counted(13, 4, 0, 19)),
+    );
 }

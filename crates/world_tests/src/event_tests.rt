@@ -77,7 +77,7 @@ pub(crate) fn with_guest(
     if !image.fits(3) {
         panic!(rt; "the image has no room");
     }
-    match world.add(alloc, image, 3, 100, 8) {
+    match world.add(alloc, image, 3, 100, 2, 8) {
         Ok(world) => Ok(world),
         Err((error, _store)) => Err(error),
     }
@@ -432,7 +432,7 @@ fn a_failing_store_refuses_a_guest(rt: HostRuntime) {
     if !image.fits(3) {
         panic!(&rt; "the image has no room");
     }
-    match world.add(rt.alloc(), image, 3, 100, 8) {
+    match world.add(rt.alloc(), image, 3, 100, 2, 8) {
         Ok(world) => {
             let _store = world.close();
             panic!(&rt; "a guest")
@@ -539,6 +539,7 @@ fn word(answer: &Answer) -> &'static str {
         Answer::Faulted(Err(_)) => "not there",
         Answer::Evicted(_) => "evicted",
         Answer::Scanned(_) => "scanned",
+        Answer::Sampled => "sampled",
         Answer::Nowhere => "nowhere",
     }
 }

@@ -11,3 +11,5 @@ mod debugging_tests;
 mod event_tests;
 #[cfg(test)]
 mod running_tests;
+#[cfg(test)]
+mod sampling_tests;

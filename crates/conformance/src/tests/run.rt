@@ -120,6 +120,7 @@ pub fn boot_world<R: AllocGlobal + Abort>(
     let config = Config {
         frames: pages.saturating_add(1).max(4),
         log_runs: LOG_RUNS,
+        admit: false,
     };
     match World::boot(rt.alloc(), config, guests, store) {
         Ok(world) => Ok(world),
@@ -134,6 +135,7 @@ fn alone(alloc: Global, image: Image, pages: u32) -> Result<Vec<NewGuest>, Fail>
         image: Arc::new(alloc, image)?,
         pages,
         shares: 1,
+        minimum: 2,
     };
     Ok(Vec::from_array(alloc, [guest])?)
 }

@@ -7,3 +7,4 @@ pub returns-clause-replies : goal.returns-clause-replies
 returns-clause-replies g c =
     simulated c.replies_to.result c.args.text.now c.in_ok-header.field-0 c.in_ok-guests.guests.items c.in_ok-header.ensures.script c.in_ok-header.ensures.known
     (c.in_ok-guests.ensures.guests ∙ ap (map line_numbers) c.deref.ensures.value) c.replies_to.ensures.replies c.replies_to.ensures.within
+    c.replies_to.ensures.admitted

@@ -17,7 +17,7 @@ returns-in-Ok-boot-clause-booted g c =
     let one = c.in-Ok.ensures.one in
     let config = c.args.config in
     let tenants = c.in-Ok-boot.world.tenants in
-    let within = AreWithinLimits config.frames (g.S.SwapStore.slots c.args.store) config.log_runs in (
+    let within = AreWithinLimits config (g.S.SwapStore.slots c.args.store) in (
       one.0,
       one.2,
       subst (λ (guests : List NewGuest). AreBooted config.log_runs guests tenants) one.1 c.in-Ok-boot.ensures.booted,
@@ -27,6 +27,5 @@ returns-in-Ok-boot-clause-booted g c =
 pub returns-in-Err-boot-clause-refused : goal.returns-in-Err-boot-clause-refused
 returns-in-Err-boot-clause-refused g c =
     let one = c.in-Ok.ensures.one in
-    let config = c.args.config in
-    let within = AreWithinLimits config.frames (g.S.SwapStore.slots c.args.store) config.log_runs in
-    (one.0, one.2, refused_alone within one.0 c.in-Ok.guests.items c.in-Err-boot.error one.1 one.3 c.in-Err-boot.ensures.err)
+    let slots = g.S.SwapStore.slots c.args.store in
+    (one.0, one.2, one.3, refused_alone c.args.config slots one.0 c.in-Ok.guests.items c.in-Err-boot.error one.1 c.in-Err-boot.ensures.err)

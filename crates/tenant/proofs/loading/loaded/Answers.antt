@@ -43,6 +43,12 @@ returns-in-Ok-load-clause-booted g c =
       items = ap (λ (u : TenantIs). u.guest.log.items) rest ∙ ap (λ (h : GuestIs). h.log.items) guest ∙ b.log;
       limit = ap (λ (u : TenantIs). u.guest.log.limit) rest ∙ ap (λ (h : GuestIs). h.log.limit) guest ∙ b.limit;
       shares_are = ap (λ (u : TenantIs). u.shares) rest ∙ c.new-tenant.ensures.shares;
+      minimum_is = ap (λ (u : TenantIs). u.minimum) rest ∙ c.new-tenant.ensures.minimum;
+      unsampled = record {
+        draws = ap (λ (u : TenantIs). u.sample.draws) rest ∙ c.new-tenant.ensures.unsampled.draws;
+        active = ap (λ (u : TenantIs). u.sample.active) rest ∙ c.new-tenant.ensures.unsampled.active;
+      };
+      unblocked = ap (λ (u : TenantIs). u.blocked) rest ∙ c.new-tenant.ensures.unblocked;
       size = c.load.ensures.count ∙ ap (λ (h : GuestIs). length h.bus.pages) guest ∙ ap (λ (u : PagedBusIs). length u.pages) b.bus ∙ length-replicate c.args.pages Zero;
       beside = λ p away. c.in-Ok-load.ensures.untouched.beside p (subst (λ (i : Image). IsBeside i p) (sym c.deref.ensures) away);
     }

@@ -1,0 +1,28 @@
+//! The sample of a guest's pages.
+ghost use Rattle.std.specs.Prelude.{◌≡◌, ◌≤◌, None};
+
+use taxpolicy::SAMPLE_SIZE;
+
+/// What is known of the pages that a guest touches: the pages that were drawn for the period that runs, and how many draws of the last
+/// whole period were touched.
+#[derive(Clone, Copy, Debug, PartialEq, Eq)]
+pub struct Sample {
+    /// The pages drawn for the period that runs, in the order of the draws; none before the first period.
+    pub draws: Option<[u32; SAMPLE_SIZE]>,
+    /// How many draws of the last whole period were of a page that was touched in it. While no period is whole it is all of them.
+    pub active: u16,
+    pub ghost few: { active ≤ 100 },
+}
+
+impl Sample {
+    /// The sample of a guest of which no page was drawn yet: it counts as active.
+    pub fn new() -> Sample
+        ensures draws { result.draws ≡ None }
+        ensures active { result.active ≡ 100 }
+    {
+        Sample {
+            draws: None,
+            active: SAMPLE_SIZE as u16,
+        }
+    }
+}
