@@ -3,7 +3,7 @@ use Rattle.std.proofs.Common.{◌≡◌, refl, sym, ap, subst, ◌∙◌, Result
 use Rattle.std.proofs.lemmas.Bool.{and_parts}
 use Rattle.std.proofs.lemmas.List.{length-map}
 use Rattle.std.specs.List.{list_all}
-use Rattle.std.proofs.lemmas.List.Elements.{All-nil, All-cons, All-head, All-tail, All-map}
+use Rattle.std.proofs.lemmas.List.Elements.{All-nil, All-cons}
 use Rattle.script.specs.declared.event.Event.{Event}
 use Rattle.script.specs.declared.event.Event.TheVariants as event
 use Rattle.script.specs.declared.header.GuestLine.{GuestLine}
@@ -17,7 +17,7 @@ use Rattle.simulation.specs.Transcripts.{IsTranscript}
 use Rattle.simulation.specs.Effects.{IsFor}
 use Rattle.script.specs.Scripts.{Script, script_of}
 use Rattle.commands.specs.Faults.{IsRefusedScript}
-use Rattle.commands.specs.Sims.{IsKnown, IsKnownEvent, IsSimulation, config_of, line_numbers, numbers_of}
+use Rattle.commands.specs.Sims.{IsKnown, IsSimulation, config_of, line_numbers, numbers_of}
 
 has_them : (lines : List headers.GuestLine) (g pages : ℕ) → has_pages (slice_get lines g) pages ≡ true → g < length lines
 has_them [] g pages e = absurd (cc)
@@ -27,65 +27,45 @@ has_them (line ∷ lines) (suc g) pages e = omega (arith, has_them lines g pages
 inside : (guests : List GuestLine) (g : ℕ) → nat_lt g (length (map guest_view guests)) ≡ true → g < length guests
 inside guests g e = omega (arith, ltb-true g (length (map guest_view guests)) e, length-map guests guest_view)
 
-one_for : (guests : List GuestLine) (slots : ℕ) (e : Event) → is_allowed (map guest_view guests) slots (event_view e) ≡ true → IsKnownEvent (event_view e) → IsFor (length guests) slots e
+one_for : (guests : List GuestLine) (slots : ℕ) (e : Event) → is_allowed (map guest_view guests) slots (event_view e) ≡ true → IsFor (length guests) slots e
 unfolding is_allowed
-one_for guests slots (event.Step guest count) allowed known = inside guests guest allowed
-one_for guests slots (event.Run guest count) allowed known = inside guests guest allowed
-one_for guests slots (event.In guest bytes) allowed known = inside guests guest allowed
-one_for guests slots (event.Drain guest) allowed known = inside guests guest allowed
-one_for guests slots (event.Target guest pages) allowed known = omega (arith, has_them (map guest_view guests) guest pages allowed, length-map guests guest_view)
-one_for guests slots (event.Poke guest register value) allowed known =
+one_for guests slots (event.Step guest count) allowed = inside guests guest allowed
+one_for guests slots (event.Run guest count) allowed = inside guests guest allowed
+one_for guests slots (event.In guest bytes) allowed = inside guests guest allowed
+one_for guests slots (event.Drain guest) allowed = inside guests guest allowed
+one_for guests slots (event.Target guest pages) allowed = omega (arith, has_them (map guest_view guests) guest pages allowed, length-map guests guest_view)
+one_for guests slots (event.Poke guest register value) allowed =
     let parts = and_parts _ _ allowed in
     (inside guests guest parts.0, omega (arith, leb-true register 37 parts.1))
-one_for guests slots (event.Write guest address bytes) allowed known =
+one_for guests slots (event.Write guest address bytes) allowed =
     let parts = and_parts _ _ allowed in
     let sizes = and_parts _ _ parts.1 in
     let some : 1 ≤ length bytes.items = leb-true 1 (length bytes.items) sizes.0 in
     (inside guests guest parts.0, omega (arith, some), leb-true (length bytes.items) 1024 sizes.1)
-one_for guests slots (event.Probe guest address count) allowed known =
+one_for guests slots (event.Probe guest address count) allowed =
     let parts = and_parts _ _ allowed in
     let sizes = and_parts _ _ parts.1 in
     let some : 1 ≤ count = leb-true 1 count sizes.0 in
     (inside guests guest parts.0, omega (arith, some), leb-true count 1024 sizes.1)
-one_for guests slots (event.Fault guest) allowed known = inside guests guest allowed
-one_for guests slots (event.Scan guest page) allowed known = inside guests guest allowed
-one_for guests slots (event.Evict guest page) allowed known = inside guests guest allowed
-one_for guests slots event.Sample allowed known = tt
-one_for guests slots event.Level allowed known = known
-one_for guests slots event.Audit allowed known = tt
-one_for guests slots (event.Dump guest) allowed known = inside guests guest allowed
-one_for guests slots (event.Damage slot byte) allowed known =
+one_for guests slots (event.Fault guest) allowed = inside guests guest allowed
+one_for guests slots (event.Scan guest page) allowed = inside guests guest allowed
+one_for guests slots (event.Evict guest page) allowed = inside guests guest allowed
+one_for guests slots event.Sample allowed = tt
+one_for guests slots event.Level allowed = tt
+one_for guests slots event.Audit allowed = tt
+one_for guests slots (event.Dump guest) allowed = inside guests guest allowed
+one_for guests slots (event.Damage slot byte) allowed =
     let parts = and_parts _ _ allowed in
     (ltb-true slot slots parts.0, omega (arith, leb-true byte 4095 parts.1))
 
--- events that a header allows and that are known can be done in its world
-pub all_for : (guests : List GuestLine) (slots : ℕ) (events : List Event) → list_all (is_allowed (map guest_view guests) slots) (map event_view events) ≡ true
-    → All IsKnownEvent (map event_view events) → All (IsFor (length guests) slots) events
-all_for guests slots [] allowed known = All-nil (IsFor (length guests) slots)
-all_for guests slots (e ∷ events) allowed known =
+-- events that a header allows can be done in its world
+pub all_for : (guests : List GuestLine) (slots : ℕ) (events : List Event) → list_all (is_allowed (map guest_view guests) slots) (map event_view events) ≡ true → All (IsFor (length guests) slots) events
+all_for guests slots [] allowed = All-nil (IsFor (length guests) slots)
+all_for guests slots (e ∷ events) allowed =
     let parts = and_parts _ _ allowed in
-    All-cons (IsFor (length guests) slots) e events (one_for guests slots e parts.0 (All-head IsKnownEvent (event_view e) (map event_view events) known))
-    (all_for guests slots events parts.1 (All-tail IsKnownEvent (event_view e) (map event_view events) known))
+    All-cons (IsFor (length guests) slots) e events (one_for guests slots e parts.0) (all_for guests slots events parts.1)
 
 -- ---- scripts that are known
-
-unmapped : {X Y : Type 0} (P : Y → Type 0) (f : X → Y) (xs : List X) → All P (map f xs) → All (λ x. P (f x)) xs
-unmapped P f [] all = All-nil (λ x. P (f x))
-unmapped P f (x ∷ xs) all = All-cons (λ x. P (f x)) x xs (All-head P (f x) (map f xs) all) (unmapped P f xs (All-tail P (f x) (map f xs) all))
-
-pub none_is : (given : Option ℕ) → is_some given ≡ false → given ≡ None
-none_is None e = refl
-none_is (Some n) e = absurd (cc)
-
-pub known_events : (script : ScriptCode) → IsKnown (script_view script) → All (λ event. IsKnownEvent (event_view event)) script.events.items
-known_events script known = unmapped IsKnownEvent event_view script.events.items known.events
-
-pub known_script : (script : ScriptCode) → script.header.profile ≡ None
-    → All (λ event. IsKnownEvent (event_view event)) script.events.items → IsKnown (script_view script)
-known_script script profile events = record {
-  profile = profile;
-  events = All-map IsKnownEvent event_view script.events.items events;
-}
 
 -- what is replied to a script, where it is
 pub simulated : {E : Type 0} (r : Result (String Global) E) (text : List ℕ) (script : ScriptCode) (guests : List NewGuest) → script_of text ≡ Ok (script_view script) → IsKnown (script_view script)

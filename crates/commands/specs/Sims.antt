@@ -1,9 +1,8 @@
 -- What is replied to a script.
-use Rattle.std.specs.Prelude.{◌≡◌, ℕ, List, All, map, None, Some, Ok}
+use Rattle.std.specs.Prelude.{◌≡◌, ℕ, List, map, None, Some, Ok}
 use Rattle.script.specs.declared.header.GuestLine.{GuestLine as GuestLineCode}
 use Rattle.script.specs.declared.header.Header.{Header as HeaderCode}
 use Rattle.script.specs.declared.header.Script.{Script as ScriptCode}
-use Rattle.script.specs.Events.{Event, Level}
 use Rattle.script.specs.Scripts.{Script, script_of}
 use Rattle.script.specs.Views.{script_view}
 use Rattle.world.specs.declared.boot.Config.{Config}
@@ -11,15 +10,9 @@ use Rattle.world.specs.declared.boot.NewGuest.{NewGuest}
 use Rattle.world.specs.Boots.{AreAdmitted, AreWithinLimits}
 use Rattle.simulation.specs.Transcripts.{IsTranscript}
 
--- levels are not acted upon
-abbrev pub IsKnownEvent : Event → Type 0
-IsKnownEvent Level = ⊥
-IsKnownEvent _ = Unit {0}
-
--- a script that says nothing of profiles, and has known events alone
-pub record IsKnown (script : Script) : Type 0 where
-  pub profile : script.header.profile ≡ None
-  pub events : All IsKnownEvent script.events
+-- a script that says nothing of profiles
+abbrev pub IsKnown : Script → Type 0
+IsKnown script = script.header.profile ≡ None
 
 -- the pages, the shares and the minimum of a guest, as a line of the header has them; a minimum that isn't given is 2
 abbrev pub line_numbers : GuestLineCode → ℕ × ℕ × ℕ
@@ -33,7 +26,8 @@ abbrev pub config_of : HeaderCode → Config
 config_of header = record { frames = header.frames; log_runs = 1048576; admit = header.admit }
 
 -- The replies to the script that a text is, in a world that is booted with its guests, each with an image and with the pages, shares
--- and minimum of its line, and admitted by these where the header asks for that: whatever the script does, what is shown of a guest is of its own machine run alone (`IsTranscript`).
+-- and minimum of its line, and admitted by these where the header asks for that: whatever the script does, what is shown of a guest is
+-- of its own machine run alone (`IsTranscript`).
 pub record IsSimulation (text replies : List ℕ) : Type 0 where
   pub script : ScriptCode
   pub reads : script_of text ≡ Ok (script_view script)

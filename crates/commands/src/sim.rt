@@ -1,12 +1,12 @@
 //! The command `sim`.
 ghost use Rattle.std.specs.Prelude.{◌≡◌, ◌⊎◌, ◌↔◌, All, IfErr, IfOk, IsTrue, Ok, length, map, string_bytes};
 ghost use Rattle.script.specs.Scripts.{script_of};
-ghost use Rattle.script.specs.Views.{event_view, script_view};
+ghost use Rattle.script.specs.Views.{script_view};
 ghost use Rattle.simulation.specs.Effects.{IsFor};
 ghost use Rattle.simulation.specs.Transcripts.{IsTranscript};
 ghost use Rattle.world.specs.Boots.{AreAdmitted, AreWithinLimits};
 ghost use Rattle.commands.specs.Faults.{IsFileFault, IsScriptFault, IsSimFault, IsToldFault};
-ghost use Rattle.commands.specs.Sims.{IsKnown, IsKnownEvent, IsSimulation, config_of, line_numbers, numbers_of};
+ghost use Rattle.commands.specs.Sims.{IsKnown, IsSimulation, config_of, line_numbers, numbers_of};
 
 use crate::fault::{Fault, of_file};
 use crate::image_file::{Loaded, elf_image, whole_file};
@@ -40,7 +40,7 @@ pub fn script_text<'a, R: Files + AllocGlobal>(rt: &R, order: Sim<'a>) -> Result
 ///
 /// An error is `Script` with the first line that is refused, before any other file is read; `File` where a guest's file can't be
 /// read and `Elf` with its first fault, guest after guest; `Boot` where the world is refused; `Memory` where a request for memory
-/// was refused. The event `level` and the line `profile` are refused like words of no event.
+/// was refused. The line `profile` is refused like a word of no event.
 pub fn run_script<'a, R: Files + AllocGlobal>(rt: &R, text: &'a str) -> Result<String, Fault<'a>>
     ensures replies { IfOk result (λ replies. IsSimulation text.now (string_bytes replies)) }
     ensures faults { IfErr result (λ fault. IsSimFault text.now fault) }
@@ -76,27 +76,7 @@ fn script_in<'a>(alloc: Global, text: &'a str) -> Result<Script<'a>, Fault<'a>>
 fn is_known(script: &Script<'_>) -> bool
     ensures { IsTrue result ↔ IsKnown (script_view script.now) }
 {
-    if script.header.profile.is_some() {
-        return false;
-    }
-    all_known(&script.events)
-}
-
-/// Whether each event is known here.
-fn all_known(events: &[Event]) -> bool
-    ensures { IsTrue result ↔ All (λ event. IsKnownEvent (event_view event)) events.now }
-{
-    events.iter().all(|event| is_known_event(event))
-}
-
-/// Whether an event is known here.
-fn is_known_event(event: &Event) -> bool
-    ensures { IsTrue result ↔ IsKnownEvent (event_view event.now) }
-{
-    match event {
-        Event::Level => false,
-        _ => true,
-    }
+    script.header.profile.is_none()
 }
 
 /// The number of the first line, counted from 1, that says what is not known here; the greatest number where none does. Each line
@@ -118,10 +98,7 @@ fn is_unknown(line: &str) -> bool {
         Some((name, _)) => name,
         None => line,
     };
-    match name {
-        "level" | "profile" => true,
-        _ => false,
-    }
+    name == "profile"
 }
 
 /// The guests of a script's header, with the images of their files.

@@ -1,5 +1,5 @@
 -- What replies say of the world: how steps ended, what became of pages, and what the books count.
-use Rattle.std.specs.Prelude.{◌≡◌, ◌≢◌, ℕ, ◌<◌, ◌^◌, List, [], ◌∷◌, Option, Some, Ok, length, map, sum_by, slice_index_or}
+use Rattle.std.specs.Prelude.{◌≡◌, ◌≢◌, ℕ, ◌<◌, ◌^◌, Bool, true, false, List, [], ◌∷◌, Option, Some, Ok, length, map, sum_by, slice_index_or}
 use Rattle.guest_log.specs.Logs.{IsFull}
 use Rattle.mips_step.specs.Accesses.{accesses, first_lack}
 use Rattle.mips_step.specs.declared.access.Why.{Why}
@@ -20,6 +20,7 @@ use Rattle.world.specs.Evictions.{Became}
 use Rattle.world.specs.Events.{IfStop, IsForRoom, IsSupplied}
 use Rattle.tenant.specs.Tenants.{TenantIs, pages_in}
 use Rattle.world.specs.Samples.{OnlySamplesChange}
+use Rattle.world.specs.Turns.{IsTurn}
 use Rattle.world.specs.Worlds.{WorldIs}
 use Rattle.simulation.specs.declared.reply.Reply.{Reply}
 use Rattle.simulation.specs.declared.reply.Reply.TheVariants as reply
@@ -35,19 +36,25 @@ pub record Ends (trusted : Type 0) (g : ℕ) (tenants : List TenantIs) (ran : Ra
   pub full : ran.end ≡ end.Stop stop.LogFull → (t : TenantIs) → IsFull (slice_index_or tenants g t).guest.log
   pub room : ran.end ≢ end.Done → ran.end ≢ end.Stop stop.LogFull → (t : TenantIs) → IsFull (slice_index_or tenants g t).guest.log → ⊥
 
+-- a guest of a world is blocked, or isn't
+abbrev pub IsBlockedOr : {Store : Type 0} → Bool → ℕ → WorldIs Store → Type 0
+IsBlockedOr is g w = (t : TenantIs) → (slice_index_or w.tenants g t).blocked ≡ is
+
 -- steps for which no page is supplied
-abbrev pub AnswersStep : Type 0 → ℕ → List TenantIs → Reply → Type 0
-AnswersStep trusted g tenants (reply.Stepped guest ran) = Ends trusted g tenants ran × IfStop ran.end IsForRoom
-AnswersStep trusted g tenants _ = Unit {0}
+abbrev pub AnswersStep : {Store : Type 0} → Type 0 → ℕ → WorldIs Store → WorldIs Store → Reply → Type 0
+AnswersStep trusted g w w' (reply.Stepped guest ran) = Ends trusted g w'.tenants ran × IfStop ran.end IsForRoom × IsBlockedOr false g w
+AnswersStep trusted g w w' (reply.StepBlocked guest) = IsBlockedOr true g w × (w' ≡ w)
+AnswersStep trusted g w w' _ = Unit {0}
 
 -- steps for which pages are: one that needs a page after all has had another supplied
 pub record EndsSupplied (trusted : Type 0) (g : ℕ) (tenants : List TenantIs) (ran : Ran) : Type 0 where
   pub ends : Ends trusted g tenants ran
   pub supplied : trusted → (p : ℕ) (why : Why) → ran.end ≡ end.Need p why → (t : TenantIs) → IsSupplied p (slice_index_or tenants g t)
 
-abbrev pub AnswersRun : Type 0 → ℕ → List TenantIs → Reply → Type 0
-AnswersRun trusted g tenants (reply.Ran guest ran) = EndsSupplied trusted g tenants ran
-AnswersRun trusted g tenants _ = Unit {0}
+abbrev pub AnswersRun : {Store : Type 0} → Type 0 → ℕ → WorldIs Store → WorldIs Store → Reply → Type 0
+AnswersRun trusted g w w' (reply.Ran guest ran) = EndsSupplied trusted g w'.tenants ran × IsBlockedOr false g w
+AnswersRun trusted g w w' (reply.RunBlocked guest) = IsBlockedOr true g w × (w' ≡ w)
+AnswersRun trusted g w w' _ = Unit {0}
 
 -- the page that was needed has a frame of its own
 abbrev pub AnswersFault : Type 0 → ℕ → List TenantIs → List TenantIs → Reply → Type 0
@@ -66,6 +73,12 @@ AnswersEvict w w' g page (reply.Evicted (Ok answer)) = page < 2 ^ 20 → (t : Te
     Became page answer (pages_in (slice_index_or w.tenants g t)) (pages_in (slice_index_or w'.tenants g t)) w.slots
 AnswersEvict w w' g page _ = Unit {0}
 
+-- what a turn of the policy did, at a tax of 75 percent; or nothing has happened
+abbrev pub AnswersLevel : {Store : Type 0} → WorldIs Store → WorldIs Store → Reply → Type 0
+AnswersLevel w w' (reply.Turned turn) = IsTurn 75 (Unit {0}) w turn w'
+AnswersLevel w w' (reply.Stopped why) = w' ≡ w
+AnswersLevel w w' _ = Unit {0}
+
 -- what the books count
 pub record AreCounts {Store : Type 0} (w : WorldIs Store) (all_slots : ℕ) (counts : BookCounts) : Type 0 where
   pub frames : counts.frames ≡ w.frames
@@ -82,8 +95,8 @@ AnswersAudit w all_slots _ = Unit {0}
 
 -- what the reply to an event says of the worlds before and after it, of so many slots
 abbrev pub Answers : {Store : Type 0} → Type 0 → ℕ → WorldIs Store → WorldIs Store → Event → Reply → Type 0
-Answers trusted slots w w' (event.Step guest count) r = AnswersStep trusted guest w'.tenants r
-Answers trusted slots w w' (event.Run guest count) r = AnswersRun trusted guest w'.tenants r
+Answers trusted slots w w' (event.Step guest count) r = AnswersStep trusted guest w w' r
+Answers trusted slots w w' (event.Run guest count) r = AnswersRun trusted guest w w' r
 Answers trusted slots w w' (event.In guest bytes) r = Unit {0}
 Answers trusted slots w w' (event.Drain guest) r = Unit {0}
 Answers trusted slots w w' (event.Target guest pages) r = Unit {0}
@@ -94,7 +107,7 @@ Answers trusted slots w w' (event.Fault guest) r = AnswersFault trusted guest w.
 Answers trusted slots w w' (event.Scan guest page) r = AnswersScan w guest page r
 Answers trusted slots w w' (event.Evict guest page) r = AnswersEvict w w' guest page r
 Answers trusted slots w w' event.Sample r = OnlySamplesChange w.tenants w'.tenants
-Answers trusted slots w w' event.Level r = Unit {0}
+Answers trusted slots w w' event.Level r = AnswersLevel w w' r
 Answers trusted slots w w' event.Audit r = AnswersAudit w slots r
 Answers trusted slots w w' (event.Dump guest) r = Unit {0}
 Answers trusted slots w w' (event.Damage slot byte) r = Unit {0}

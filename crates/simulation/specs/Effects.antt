@@ -1,5 +1,5 @@
 -- What events do to guests, and what their replies show of them.
-use Rattle.std.specs.Prelude.{◌≡◌, ℕ, ◌+◌, ◌<◌, ◌≤◌, ◌↔◌, ◌==◌, if◌then◌else◌, false, List, [], take, length, map, Option, Some, None, Result, Ok, Err, string_bytes}
+use Rattle.std.specs.Prelude.{◌≡◌, ℕ, ◌+◌, ◌<◌, ◌≤◌, ◌↔◌, ◌==◌, if◌then◌else◌, false, List, [], take, length, map, slice_index_or, Option, Some, None, Result, Ok, Err, string_bytes}
 use Rattle.items.specs.declared.item.Item.{Item}
 use Rattle.items.specs.declared.item.What.TheVariants as what
 use Rattle.mips_step.specs.Step.{Machine}
@@ -12,15 +12,18 @@ use Rattle.script.specs.declared.event.Event.TheVariants as event
 use Rattle.world.specs.declared.running.Ran.{Ran}
 use Rattle.world.specs.declared.running.End.TheVariants as end
 use Rattle.world.specs.declared.running.RunStop.{RunStop}
+use Rattle.world.specs.declared.running.RunStop.TheVariants as stop
 use Rattle.world.specs.Debugging.{write_of}
 use Rattle.world.specs.Events.{steps_for, IsForRoom}
+use Rattle.world.specs.Turns.{aim_items}
+use Rattle.tenant.specs.declared.turning.Aim.TheVariants as aim
 use Rattle.world.specs.Worlds.{item_for}
 use Rattle.simulation.specs.declared.reply.Reply.{Reply}
 use Rattle.simulation.specs.declared.reply.Reply.TheVariants as reply
 use Rattle.simulation.specs.declared.performing.Undone.{Undone}
 
 -- An event can be done in a world of so many guests and slots: its guest, register, slot and byte are there, and a debugger reads and
--- writes 1 to 1,024 bytes. Touched pages are not sampled, and levels are not acted upon.
+-- writes 1 to 1,024 bytes.
 abbrev pub IsFor : ℕ → ℕ → Event → Type 0
 IsFor guests slots (event.Step guest count) = guest < guests
 IsFor guests slots (event.Run guest count) = guest < guests
@@ -34,7 +37,7 @@ IsFor guests slots (event.Fault guest) = guest < guests
 IsFor guests slots (event.Scan guest page) = guest < guests
 IsFor guests slots (event.Evict guest page) = guest < guests
 IsFor guests slots event.Sample = Unit {0}
-IsFor guests slots event.Level = ⊥
+IsFor guests slots event.Level = Unit {0}
 IsFor guests slots event.Audit = Unit {0}
 IsFor guests slots (event.Dump guest) = guest < guests
 IsFor guests slots (event.Damage slot byte) = (slot < slots) × (byte < 4096)
@@ -110,8 +113,14 @@ abbrev pub ok_items : ℕ → ℕ → Item → Reply → List Item
 ok_items h g item reply.Done = item_for h g item
 ok_items h g item _ = []
 
+-- the targets of balloons that a turn of the policy has set
+abbrev pub turned_items : ℕ → Reply → List Item
+turned_items h (reply.Turned turn) = aim_items (slice_index_or turn.aims.items h aim.Kept)
+turned_items h _ = []
+
 -- The items that an event adds to the log of guest h, by its reply: steps that were made, input that was taken, and what was done to
--- console, balloon, registers and memory, where the guest is the event's. No other event adds any.
+-- console, balloon, registers and memory, where the guest is the event's; and the target of its balloon that a turn of the policy has
+-- set. No other event adds any.
 abbrev pub added : ℕ → Event → Reply → List Item
 added h (event.Step guest count) r = stepped_items h guest r
 added h (event.Run guest count) r = ran_items h guest r
@@ -125,7 +134,7 @@ added h (event.Fault guest) r = []
 added h (event.Scan guest page) r = []
 added h (event.Evict guest page) r = []
 added h event.Sample r = []
-added h event.Level r = []
+added h event.Level r = turned_items h r
 added h event.Audit r = []
 added h (event.Dump guest) r = []
 added h (event.Damage slot byte) r = []
@@ -138,10 +147,12 @@ IsRan guest count g ran = (g ≡ guest) × (ran.steps ≤ count) × (ran.end ≡
 
 abbrev pub IsOfStep : ℕ → ℕ → Reply → Type 0
 IsOfStep guest count (reply.Stepped g ran) = IsRan guest count g ran
+IsOfStep guest count (reply.StepBlocked g) = g ≡ guest
 IsOfStep guest count _ = ⊥
 
 abbrev pub IsOfRun : ℕ → ℕ → Reply → Type 0
 IsOfRun guest count (reply.Ran g ran) = IsRan guest count g ran
+IsOfRun guest count (reply.RunBlocked g) = g ≡ guest
 IsOfRun guest count _ = ⊥
 
 -- what stops input is a log that has no room
@@ -189,6 +200,12 @@ abbrev pub IsOfEvict : Reply → Type 0
 IsOfEvict (reply.Evicted answer) = Unit {0}
 IsOfEvict _ = ⊥
 
+-- the policy made a turn, or there was no memory to plan it
+abbrev pub IsOfLevel : Reply → Type 0
+IsOfLevel (reply.Turned turn) = Unit {0}
+IsOfLevel (reply.Stopped why) = why ≡ stop.Memory
+IsOfLevel _ = ⊥
+
 -- the frames that are free, those of private pages and the shared ones are all frames
 abbrev pub IsOfAudit : Reply → Type 0
 IsOfAudit (reply.Audited counts) = (counts.free + counts.private + counts.shared ≡ counts.frames) × (counts.swapped ≤ counts.slots)
@@ -213,7 +230,7 @@ IsOf (event.Fault guest) r = IsOfFault r
 IsOf (event.Scan guest page) r = IsOfScan r
 IsOf (event.Evict guest page) r = IsOfEvict r
 IsOf event.Sample r = r ≡ reply.Done
-IsOf event.Level r = ⊥
+IsOf event.Level r = IsOfLevel r
 IsOf event.Audit r = IsOfAudit r
 IsOf (event.Dump guest) r = IsOfDump r
 IsOf (event.Damage slot byte) r = r ≡ reply.Done

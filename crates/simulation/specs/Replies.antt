@@ -4,6 +4,8 @@ use Rattle.mips_step.specs.declared.access.Why.{Why}
 use Rattle.mips_step.specs.declared.access.Why.TheVariants.{First, Swapped, Copy}
 use Rattle.paging.specs.declared.scan.Scan.{Scan}
 use Rattle.paging.specs.declared.scan.Scan.TheVariants as scan
+use Rattle.reclaim.specs.Levels.{level_name}
+use Rattle.reclaim.specs.declared.level.Level.{Level}
 use Rattle.world.specs.declared.books.BookCounts.{BookCounts}
 use Rattle.tenant.specs.declared.moves.EvictError.{EvictError}
 use Rattle.tenant.specs.declared.moves.EvictError.TheVariants.{NoSwap, SwapWrite}
@@ -46,6 +48,10 @@ end_text (end.Stop why) = codes " " ++ stop_text why
 abbrev pub ran_text : List ℕ → ℕ → Ran → List ℕ
 ran_text name guest ran = name ++ decimal guest ++ codes " done " ++ decimal ran.steps ++ end_text ran.end ++ codes "\n"
 
+-- no step of a guest that is blocked
+abbrev pub blocked_text : List ℕ → ℕ → List ℕ
+blocked_text name guest = name ++ decimal guest ++ codes " done 0 blocked\n"
+
 abbrev pub taken_end_text : Option RunStop → List ℕ
 taken_end_text None = []
 taken_end_text (Some why) = codes " " ++ stop_text why
@@ -71,6 +77,10 @@ evict_text (Ok evicted.Skipped) = codes "skipped\n"
 evict_text (Err NoSwap) = codes "refused 2\n"
 evict_text (Err SwapWrite) = codes "refused 8\n"
 
+-- the level of a turn of the policy
+abbrev pub level_text : Level → List ℕ
+level_text level = codes "level " ++ level_name level ++ codes "\n"
+
 -- frames and slots, of each kind how many
 abbrev pub books_text : BookCounts → List ℕ
 books_text b =
@@ -82,6 +92,8 @@ abbrev pub reply_text : Reply → List ℕ
 reply_text reply.Done = codes "ok\n"
 reply_text (reply.Stepped guest ran) = ran_text (codes "step ") guest ran
 reply_text (reply.Ran guest ran) = ran_text (codes "run ") guest ran
+reply_text (reply.StepBlocked guest) = blocked_text (codes "step ") guest
+reply_text (reply.RunBlocked guest) = blocked_text (codes "run ") guest
 reply_text (reply.Taken guest count why) = taken_text guest count why
 reply_text (reply.Drained guest output) = drained_text guest output.items
 reply_text (reply.Probed bytes) = digits_of bytes.items ++ codes "\n"
@@ -89,6 +101,7 @@ reply_text reply.NoPlace = codes "error E14\n"
 reply_text (reply.Stopped why) = stop_text why ++ codes "\n"
 reply_text (reply.Scanned answer) = scan_text answer
 reply_text (reply.Evicted answer) = evict_text answer
+reply_text (reply.Turned turn) = level_text turn.level
 reply_text (reply.Audited counts) = books_text counts
 reply_text (reply.Dumped text) = string_bytes text
 

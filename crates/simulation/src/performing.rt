@@ -351,6 +351,64 @@ fn sample<S: SwapStore, R: Rng>(world: &mut World<S>, rng: &mut R) -> Reply
     Reply::Done
 }
 
+// A guest makes steps for which no page is supplied, unless it is blocked.
+fn step<S: SwapStore>(world: &mut World<S>, guest: u32, count: u32) -> Reply
+    requires { guest < length world.old.tenants }
+    ensures logs { (h : ℕ) → log_at world.new.tenants h ≡ log_at world.old.tenants h ++ spec.stepped_items h guest result }
+    ensures of { spec.IsOfStep guest count result }
+    ensures answers { answers.AnswersStep (S.true_to_digests world.old.store) guest world.old world.new result }
+    ensures boots { map boot_of world.new.tenants ≡ map boot_of world.old.tenants }
+    ensures store { world.new.store ≡ world.old.store }
+{
+    if world.guest(guest as usize).is_blocked() {
+        return Reply::StepBlocked { guest };
+    }
+    Reply::Stepped {
+        guest,
+        ran: world.steps(guest as usize, count),
+    }
+}
+
+// A guest makes steps for which pages are supplied, unless it is blocked.
+fn run<S: SwapStore, R: Rng>(
+    alloc: Global,
+    world: &mut World<S>,
+    rng: &mut R,
+    guest: u32,
+    count: u32,
+) -> Reply
+    requires { guest < length world.old.tenants }
+    ensures logs { (h : ℕ) → log_at world.new.tenants h ≡ log_at world.old.tenants h ++ spec.ran_items h guest result }
+    ensures of { spec.IsOfRun guest count result }
+    ensures answers { answers.AnswersRun (S.true_to_digests world.old.store) guest world.old world.new result }
+    ensures boots { map boot_of world.new.tenants ≡ map boot_of world.old.tenants }
+    ensures slots { S.slots world.new.store ≡ S.slots world.old.store }
+    ensures true_to_digests { S.true_to_digests world.new.store ↔ S.true_to_digests world.old.store }
+{
+    if world.guest(guest as usize).is_blocked() {
+        return Reply::RunBlocked { guest };
+    }
+    Reply::Ran {
+        guest,
+        ran: world.run_steps(alloc, guest as usize, count, TAX, rng),
+    }
+}
+
+// The policy makes a turn.
+fn level<S: SwapStore, R: Rng>(alloc: Global, world: &mut World<S>, rng: &mut R) -> Reply
+    ensures logs { (h : ℕ) → log_at world.new.tenants h ≡ log_at world.old.tenants h ++ spec.turned_items h result }
+    ensures of { spec.IsOfLevel result }
+    ensures answers { answers.AnswersLevel world.old world.new result }
+    ensures boots { map boot_of world.new.tenants ≡ map boot_of world.old.tenants }
+    ensures slots { S.slots world.new.store ≡ S.slots world.old.store }
+    ensures true_to_digests { S.true_to_digests world.new.store ↔ S.true_to_digests world.old.store }
+{
+    match world.level_turn(alloc, TAX, rng) {
+        Ok(turn) => Reply::Turned(turn),
+        Err(_) => Reply::Stopped(RunStop::Memory),
+    }
+}
+
 // What the books count.
 fn audit<S: SwapStore>(world: &World<S>) -> Reply
     ensures of { spec.IsOfAudit result }
@@ -397,14 +455,8 @@ pub(crate) fn perform<S: Damage, R: Rng>(
     ensures true_to_digests { spec.IsHarmless event → (S.true_to_digests world.new.store ↔ S.true_to_digests world.old.store) }
 {
     match event {
-        Event::Step { guest, count } => Reply::Stepped {
-            guest,
-            ran: world.steps(guest as usize, count),
-        },
-        Event::Run { guest, count } => Reply::Ran {
-            guest,
-            ran: world.run_steps(alloc, guest as usize, count, TAX, rng),
-        },
+        Event::Step { guest, count } => step(world, guest, count),
+        Event::Run { guest, count } => run(alloc, world, rng, guest, count),
         Event::In { guest, bytes } => take_input(world, guest, &bytes),
         Event::Drain { guest } => drain(world, guest),
         Event::Target { guest, pages } => set_target(world, guest, pages),
@@ -427,7 +479,7 @@ pub(crate) fn perform<S: Damage, R: Rng>(
         Event::Scan { guest, page } => scan(world, guest, page),
         Event::Evict { guest, page } => evict(world, guest, page),
         Event::Sample => sample(world, rng),
-        Event::Level => unreachable!(),
+        Event::Level => level(alloc, world, rng),
         Event::Audit => audit(world),
         Event::Dump { guest } => dump_of(alloc, world, guest),
         Event::Damage { slot, byte } => {

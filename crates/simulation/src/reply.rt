@@ -1,7 +1,7 @@
 //! What is replied to an event of a script.
 use paging::Scan;
 use tenant::EvictError;
-use world::{BookCounts, Evicted, Ran, RunStop};
+use world::{BookCounts, Evicted, Ran, RunStop, Turn};
 
 /// What is replied to an event of a script.
 #[derive(Drop)]
@@ -17,6 +17,14 @@ pub enum Reply {
     Ran {
         guest: u32,
         ran: Ran,
+    },
+    /// This guest is blocked, and has made none of the steps for which no page is supplied.
+    StepBlocked {
+        guest: u32,
+    },
+    /// This guest is blocked, and has made none of the steps for which pages are supplied.
+    RunBlocked {
+        guest: u32,
     },
     /// So many bytes of input were taken by this guest's console, and what stopped it before the next one, if the log had no room.
     Taken {
@@ -41,6 +49,8 @@ pub enum Reply {
     Scanned(Scan),
     /// What became of a page that was to leave its frame.
     Evicted(Result<Evicted, EvictError>),
+    /// What a turn of the policy did.
+    Turned(Turn),
     /// What the books count.
     Audited(BookCounts),
     /// The state of a guest, as `dump::dump` writes it.

@@ -8,6 +8,7 @@ use crate::Reply;
 use dump::{push_digits, push_output_digits};
 use mips_step::Why;
 use paging::Scan;
+use reclaim::Level;
 use sharetab::GuestPage;
 use std::alloc::AllocError;
 use tenant::EvictError;
@@ -69,6 +70,13 @@ fn push_ran(out: &mut String, name: &str, guest: u32, ran: Ran) -> Result<(), Al
     write!(out, "{name}{guest} done {steps}")?;
     push_end(out, ran.end)?;
     out.push_str("\n")
+}
+
+// No step of a guest that is blocked.
+fn push_blocked(out: &mut String, name: &str, guest: u32) -> Result<(), AllocError>
+    ensures { OnOk result (string_bytes out.new ≡ string_bytes out.old ++ spec.blocked_text name.now guest) }
+{
+    writeln!(out, "{name}{guest} done 0 blocked")
 }
 
 fn push_taken_end(out: &mut String, stop: Option<RunStop>) -> Result<(), AllocError>
@@ -149,6 +157,13 @@ fn push_evicted(out: &mut String, evicted: Result<Evicted, EvictError>) -> Resul
     }
 }
 
+fn push_level(out: &mut String, level: Level) -> Result<(), AllocError>
+    ensures { OnOk result (string_bytes out.new ≡ string_bytes out.old ++ spec.level_text level) }
+{
+    let name = level.name();
+    writeln!(out, "level {name}")
+}
+
 // A count behind its label.
 fn push_count(out: &mut String, label: &str, count: u64) -> Result<(), AllocError>
     ensures { OnOk result (string_bytes out.new ≡ string_bytes out.old ++ label.now ++ decimal count) }
@@ -177,6 +192,8 @@ pub fn push_reply(out: &mut String, reply: &Reply) -> Result<(), AllocError>
         Reply::Done => out.push_str("ok\n"),
         Reply::Stepped { guest, ran } => push_ran(out, "step ", *guest, *ran),
         Reply::Ran { guest, ran } => push_ran(out, "run ", *guest, *ran),
+        Reply::StepBlocked { guest } => push_blocked(out, "step ", *guest),
+        Reply::RunBlocked { guest } => push_blocked(out, "run ", *guest),
         Reply::Taken { guest, count, stop } => push_taken(out, *guest, *count, *stop),
         Reply::Drained { guest, output } => push_drained(out, *guest, output),
         Reply::Probed { bytes } => push_probed(out, bytes),
@@ -184,6 +201,7 @@ pub fn push_reply(out: &mut String, reply: &Reply) -> Result<(), AllocError>
         Reply::Stopped(stop) => push_stopped(out, *stop),
         Reply::Scanned(scan) => push_scan(out, *scan),
         Reply::Evicted(evicted) => push_evicted(out, *evicted),
+        Reply::Turned(turn) => push_level(out, turn.level),
         Reply::Audited(counts) => push_books(out, *counts),
         Reply::Dumped(text) => out.push_str(text),
     }

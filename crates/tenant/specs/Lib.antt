@@ -1,3 +1,4 @@
 pub mod Lent
 pub mod Loading
 pub mod Tenants
+pub mod Turns

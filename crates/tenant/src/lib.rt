@@ -11,8 +11,10 @@ pub mod loading;
 mod moves;
 mod stepping;
 pub mod tenant;
+pub mod turning;
 
 pub use loading::{BootError, loaded};
 pub use moves::{EvictError, evict_page, scan_page, store_page, supply_page};
 pub use stepping::{run_in, step_in};
 pub use tenant::Tenant;
+pub use turning::Aim;

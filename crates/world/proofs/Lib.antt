@@ -3,5 +3,6 @@ pub mod Reached
 pub mod Runs
 pub mod Sampling
 pub mod Totals
+pub mod Turning
 pub mod Victims
 pub mod Worlds

@@ -45,6 +45,7 @@ use Rattle.world.specs.Debugging.{IfStopped}
 use Rattle.world.specs.Events.{own_items, IfStop, IsForRoom, IsSupplied, WhyStopped}
 use Rattle.world.specs.Evictions.{Became}
 use Rattle.world.specs.Samples.{OnlySamplesChange}
+use Rattle.world.specs.Turns.{IsTurn}
 use Rattle.world.specs.Victims.{WhyLacking}
 use Rattle.world.specs.Worlds.{WorldIs, SameAround, boot_of, log_at}
 
@@ -122,6 +123,7 @@ IsNowhere ts (event.Fault g) = length ts ≤ g
 IsNowhere ts (event.Evict g p) = length ts ≤ g
 IsNowhere ts (event.Scan g p) = g < length ts → 2 ^ 32 ≤ g
 IsNowhere ts event.Sample = ⊥
+IsNowhere ts event.Level = ⊥
 
 -- the count of a store's failures went up by one in an event
 abbrev pub FailsOnce : {Kept : Type 0} → (Kept → ℕ) → WorldIs Kept → WorldIs Kept → Type 0
@@ -133,47 +135,63 @@ abbrev pub WhyHalted : {Kept : Type 0} → (Kept → ℕ) → (Kept → Type 0) 
 WhyHalted failures honest w w' =
     WhyStopped w'.pool w'.slots (map stat_of w'.tenants) ((before : ℕ) × (failures w'.store ≡ one_more before)) (honest w.store → ⊥)
 
--- What is answered to an event, and why. Of a store: whether it is true to digests, how many failures it counts, and whether it is honest.
-abbrev pub IsAnswered : {Kept : Type 0} → (trusted : Kept → Type 0) → (failures : Kept → ℕ) → (honest : Kept → Type 0) → WorldIs Kept → WorldIs Kept → Event → Answer → Type 0
-IsAnswered trusted failures honest w w' (event.Step g) (answer.Stepped stepped) =
-    (t : TenantIs) → IsStepAnswer (trusted w.store) (slice_index_or w.tenants g t) stepped
-IsAnswered trusted failures honest w w' (event.Steps g count) (answer.Ran ran) =
-    (t : TenantIs) → IsRunAnswer (trusted w.store) count (slice_index_or w'.tenants g t) IsForRoom ran
-IsAnswered trusted failures honest w w' (event.Run g count) (answer.Ran ran) =
+-- a guest is there that is to make no step, and nothing has happened
+pub record IsBlocked {Kept : Type 0} (g : ℕ) (w w' : WorldIs Kept) : Type 0 where
+  pub there : g < length w.tenants
+  pub blocked : (t : TenantIs) → (slice_index_or w.tenants g t).blocked ≡ true
+  pub nothing : w' ≡ w
+
+-- a guest may make steps
+abbrev pub IsGoing : TenantIs → Type 0
+IsGoing t = t.blocked ≡ false
+
+-- What is answered to an event, and why, at a tax in percent. Of a store: whether it is true to digests, how many failures it counts, and
+-- whether it is honest.
+abbrev pub IsAnswered : {Kept : Type 0} → (trusted : Kept → Type 0) → (failures : Kept → ℕ) → (honest : Kept → Type 0) → (tax : ℕ) → WorldIs Kept → WorldIs Kept → Event → Answer → Type 0
+IsAnswered trusted failures honest tax w w' (event.Step g) (answer.Stepped stepped) =
+    (t : TenantIs) → IsStepAnswer (trusted w.store) (slice_index_or w.tenants g t) stepped × IsGoing (slice_index_or w.tenants g t)
+IsAnswered trusted failures honest tax w w' (event.Steps g count) (answer.Ran ran) =
+    (t : TenantIs) → IsRunAnswer (trusted w.store) count (slice_index_or w'.tenants g t) IsForRoom ran × IsGoing (slice_index_or w.tenants g t)
+IsAnswered trusted failures honest tax w w' (event.Run g count) (answer.Ran ran) =
     (t : TenantIs) → IsRunAnswer (trusted w.store) count (slice_index_or w'.tenants g t) (WhyHalted failures honest w w') ran
-    × AreSupplied (trusted w.store) (slice_index_or w'.tenants g t) ran
-IsAnswered trusted failures honest w w' (event.Input g item) (answer.Input done) =
+    × AreSupplied (trusted w.store) (slice_index_or w'.tenants g t) ran × IsGoing (slice_index_or w.tenants g t)
+IsAnswered trusted failures honest tax w w' (event.Input g item) (answer.Input done) =
     (t : TenantIs) → IsInputAnswer (trusted w.store) item (slice_index_or w.tenants g t) done
-IsAnswered trusted failures honest w w' (event.Probe g address count) (answer.Probed (Ok bytes)) =
+IsAnswered trusted failures honest tax w w' (event.Probe g address count) (answer.Probed (Ok bytes)) =
     (t : TenantIs) → trusted w.store → bytes_at (view_of (slice_index_or w.tenants g t).guest) address count ≡ Some bytes.items
-IsAnswered trusted failures honest w w' (event.Probe g address count) (answer.Probed (Err error)) =
+IsAnswered trusted failures honest tax w w' (event.Probe g address count) (answer.Probed (Err error)) =
     (t : TenantIs) → IsProbeRefusal (trusted w.store) address count (slice_index_or w.tenants g t) (WhyHalted failures honest w w') error
-IsAnswered trusted failures honest w w' (event.Write g address bytes) (answer.Written done) =
+IsAnswered trusted failures honest tax w w' (event.Write g address bytes) (answer.Written done) =
     (t : TenantIs) → IsWriteAnswer (trusted w.store) address bytes.items (slice_index_or w.tenants g t) (WhyHalted failures honest w w') done
-IsAnswered trusted failures honest w w' (event.Supply g p) (answer.Supplied done) =
+IsAnswered trusted failures honest tax w w' (event.Supply g p) (answer.Supplied done) =
     (t : TenantIs) → IsSupplyAnswer p (slice_index_or w'.tenants g t) w.pool (FailsOnce failures w w') (honest w.store → ⊥) done
-IsAnswered trusted failures honest w w' (event.Fault g) (answer.Faulted done) =
+IsAnswered trusted failures honest tax w w' (event.Fault g) (answer.Faulted done) =
     (t : TenantIs) → IsFaultAnswer (trusted w.store) (slice_index_or w.tenants g t) (slice_index_or w'.tenants g t)
     (WhyLacking w'.pool w'.slots (map stat_of w'.tenants) (FailsOnce failures w w') (honest w.store → ⊥)) done
-IsAnswered trusted failures honest w w' (event.Evict g p) (answer.Evicted done) =
+IsAnswered trusted failures honest tax w w' (event.Evict g p) (answer.Evicted done) =
     (t : TenantIs) → IsEvictAnswer p (slice_index_or w.tenants g t) (slice_index_or w'.tenants g t) w.slots (FailsOnce failures w w') done
-IsAnswered trusted failures honest w w' (event.Scan g p) (answer.Scanned scan) =
+IsAnswered trusted failures honest tax w w' (event.Scan g p) (answer.Scanned scan) =
     (t : TenantIs) → Answered w.shares (pages_in (slice_index_or w.tenants g t)) (record { guest = g; page = p }) scan
-IsAnswered trusted failures honest w w' event.Sample answer.Sampled = OnlySamplesChange w.tenants w'.tenants × SameAround w w'
-IsAnswered trusted failures honest w w' e answer.Nowhere = IsNowhere w.tenants e
-IsAnswered trusted failures honest w w' e a = ⊥
+IsAnswered trusted failures honest tax w w' event.Sample answer.Sampled = OnlySamplesChange w.tenants w'.tenants × SameAround w w'
+IsAnswered trusted failures honest tax w w' event.Level (answer.Turned (Ok turn)) = IsTurn tax (FailsOnce failures w w') w turn w'
+IsAnswered trusted failures honest tax w w' event.Level (answer.Turned (Err error)) = w' ≡ w
+IsAnswered trusted failures honest tax w w' (event.Step g) answer.Blocked = IsBlocked g w w'
+IsAnswered trusted failures honest tax w w' (event.Steps g count) answer.Blocked = IsBlocked g w w'
+IsAnswered trusted failures honest tax w w' (event.Run g count) answer.Blocked = IsBlocked g w w'
+IsAnswered trusted failures honest tax w w' e answer.Nowhere = IsNowhere w.tenants e
+IsAnswered trusted failures honest tax w w' e a = ⊥
 
 -- An event has happened: it is answered as `IsAnswered` has it, each log has the items more that the event adds to it, and the machines
 -- that the guests booted are as before.
-pub record Happens {Kept : Type 0} (trusted : Kept → Type 0) (failures : Kept → ℕ) (honest : Kept → Type 0) (w : WorldIs Kept) (e : Event) (a : Answer) (w' : WorldIs Kept) : Type 0 where
-  pub answered : IsAnswered trusted failures honest w w' e a
+pub record Happens {Kept : Type 0} (trusted : Kept → Type 0) (failures : Kept → ℕ) (honest : Kept → Type 0) (tax : ℕ) (w : WorldIs Kept) (e : Event) (a : Answer) (w' : WorldIs Kept) : Type 0 where
+  pub answered : IsAnswered trusted failures honest tax w w' e a
   pub logs : (h : ℕ) → log_at w'.tenants h ≡ log_at w.tenants h ++ own_items h e a
   pub boots : map boot_of w'.tenants ≡ map boot_of w.tenants
 
 -- events have happened one after another, each in the world that the one before it left
-abbrev pub AllHappen : {Kept : Type 0} → (trusted : Kept → Type 0) → (failures : Kept → ℕ) → (honest : Kept → Type 0) → WorldIs Kept → List Event → List Answer → WorldIs Kept → Type 0
-AllHappen trusted failures honest w [] [] w' = w' ≡ w
-AllHappen trusted failures honest w [] (a ∷ answers) w' = ⊥
-AllHappen trusted failures honest w (e ∷ events) [] w' = ⊥
-AllHappen {Kept} trusted failures honest w (e ∷ events) (a ∷ answers) w' =
-    (mid : WorldIs Kept) × Happens trusted failures honest w e a mid × AllHappen trusted failures honest mid events answers w'
+abbrev pub AllHappen : {Kept : Type 0} → (trusted : Kept → Type 0) → (failures : Kept → ℕ) → (honest : Kept → Type 0) → (tax : ℕ) → WorldIs Kept → List Event → List Answer → WorldIs Kept → Type 0
+AllHappen trusted failures honest tax w [] [] w' = w' ≡ w
+AllHappen trusted failures honest tax w [] (a ∷ answers) w' = ⊥
+AllHappen trusted failures honest tax w (e ∷ events) [] w' = ⊥
+AllHappen {Kept} trusted failures honest tax w (e ∷ events) (a ∷ answers) w' =
+    (mid : WorldIs Kept) × Happens trusted failures honest tax w e a mid × AllHappen trusted failures honest tax mid events answers w'

@@ -1,5 +1,5 @@
 -- The items that events add to the logs of guests.
-use Rattle.std.specs.Prelude.{◌≡◌, ℕ, ◌<◌, ◌≤◌, length, ◌==◌, if◌then◌else◌, false, Result, Ok, Err, List, [], ◌∷◌, ◌++◌, replicate, map, Contains, ◌≢◌}
+use Rattle.std.specs.Prelude.{◌≡◌, ℕ, ◌<◌, ◌≤◌, length, ◌==◌, if◌then◌else◌, false, Result, Ok, Err, List, [], ◌∷◌, ◌++◌, replicate, map, Contains, slice_index_or, ◌≢◌}
 use Rattle.frames.specs.FreeList.{FreeList}
 use Rattle.items.specs.declared.item.Item.{Item}
 use Rattle.items.specs.Entries.{step_by}
@@ -25,6 +25,9 @@ use Rattle.world.specs.declared.running.End.{End}
 use Rattle.world.specs.declared.running.End.TheVariants as end
 use Rattle.world.specs.declared.running.RunStop.{RunStop}
 use Rattle.world.specs.declared.running.RunStop.TheVariants as stop
+use Rattle.world.specs.declared.turns.Turn.{Turn}
+use Rattle.world.specs.Turns.{aim_items}
+use Rattle.tenant.specs.declared.turning.Aim.TheVariants as aim
 use Rattle.world.specs.Debugging.{written_items}
 use Rattle.tenant.specs.Tenants.{TenantIs, pages_in}
 use Rattle.world.specs.Victims.{WhyLacking}
@@ -43,6 +46,7 @@ IsProper (event.Fault g) = Unit {0}
 IsProper (event.Evict g p) = Unit {0}
 IsProper (event.Scan g p) = Unit {0}
 IsProper event.Sample = Unit {0}
+IsProper event.Level = Unit {0}
 
 -- a step that is made is an item of seat 0
 abbrev pub step_items : ℕ → ℕ → Result StepOut Stop → List Item
@@ -61,6 +65,8 @@ items_stepped h g (answer.Faulted done) = []
 items_stepped h g (answer.Evicted done) = []
 items_stepped h g (answer.Scanned scan) = []
 items_stepped h g answer.Sampled = []
+items_stepped h g (answer.Turned done) = []
+items_stepped h g answer.Blocked = []
 items_stepped h g answer.Nowhere = []
 
 -- so many steps by seat 0, where the guest is the one that made them
@@ -78,6 +84,8 @@ items_ran h g (answer.Faulted done) = []
 items_ran h g (answer.Evicted done) = []
 items_ran h g (answer.Scanned scan) = []
 items_ran h g answer.Sampled = []
+items_ran h g (answer.Turned done) = []
+items_ran h g answer.Blocked = []
 items_ran h g answer.Nowhere = []
 
 -- an item that is accepted
@@ -96,6 +104,8 @@ items_input h g item (answer.Faulted done) = []
 items_input h g item (answer.Evicted done) = []
 items_input h g item (answer.Scanned scan) = []
 items_input h g item answer.Sampled = []
+items_input h g item (answer.Turned done) = []
+items_input h g item answer.Blocked = []
 items_input h g item answer.Nowhere = []
 
 -- a write that is made is an item of seat 3
@@ -110,10 +120,32 @@ items_written h g address bytes (answer.Faulted done) = []
 items_written h g address bytes (answer.Evicted done) = []
 items_written h g address bytes (answer.Scanned scan) = []
 items_written h g address bytes answer.Sampled = []
+items_written h g address bytes (answer.Turned done) = []
+items_written h g address bytes answer.Blocked = []
 items_written h g address bytes answer.Nowhere = []
 
+-- a turn of the policy sets the target of a guest's balloon by an item of seat 2
+abbrev pub turn_items : {E : Type 0} → ℕ → Result Turn E → List Item
+turn_items h (Ok turn) = aim_items (slice_index_or turn.aims.items h aim.Kept)
+turn_items h (Err error) = []
+
+abbrev pub items_turned : ℕ → Answer → List Item
+items_turned h (answer.Turned done) = turn_items h done
+items_turned h (answer.Stepped stepped) = []
+items_turned h (answer.Ran ran) = []
+items_turned h (answer.Input done) = []
+items_turned h (answer.Probed done) = []
+items_turned h (answer.Written done) = []
+items_turned h (answer.Supplied done) = []
+items_turned h (answer.Faulted done) = []
+items_turned h (answer.Evicted done) = []
+items_turned h (answer.Scanned scan) = []
+items_turned h answer.Sampled = []
+items_turned h answer.Blocked = []
+items_turned h answer.Nowhere = []
+
 -- The items that an event adds to the log of guest h, by its answer: steps that are made, an item that is accepted, and a write that is
--- made, where the event was that guest's. No other event adds any.
+-- made, where the event was that guest's; and the target of its balloon that a turn of the policy has set. No other event adds any.
 abbrev pub own_items : ℕ → Event → Answer → List Item
 own_items h (event.Step g) a = items_stepped h g a
 own_items h (event.Steps g count) a = items_ran h g a
@@ -126,6 +158,7 @@ own_items h (event.Fault g) a = []
 own_items h (event.Evict g p) a = []
 own_items h (event.Scan g p) a = []
 own_items h event.Sample a = []
+own_items h event.Level a = items_turned h a
 
 -- the items that events add to the log of guest h, in order
 abbrev pub own : ℕ → List Event → List Answer → List Item

@@ -4,5 +4,6 @@ pub mod Debugging
 pub mod Events
 pub mod Evictions
 pub mod Samples
+pub mod Turns
 pub mod Victims
 pub mod Worlds

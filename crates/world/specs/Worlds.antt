@@ -5,6 +5,7 @@ use Rattle.frames.specs.FreeList.{FreeList}
 use Rattle.sharetab.specs.Entries.{EntriesAre}
 use Rattle.sharetab.specs.Shares.{SharesAre}
 use Rattle.mips_step.specs.Step.{Machine}
+use Rattle.reclaim.specs.declared.level.Level.{Level}
 use Rattle.paging.specs.Books.{Books}
 use Rattle.tenant.specs.Tenants.{TenantIs, pages_in, beside_pages, IsKept}
 
@@ -19,6 +20,8 @@ pub record WorldIs (Store : Type 0) : Type 0 where
   pub store : Store
   -- how many frames there are
   pub frames : ℕ
+  -- how scarce free frames were at the last turn of the policy
+  pub level : Level
 
 -- The books are exact: each frame is free, one page's, or an entry's whose count is how many pages name it, and each slot is free
 -- or one page's. And where the store is to be trusted, each guest is its run.
@@ -59,3 +62,4 @@ pub record SameAround {Store : Type 0} (w w' : WorldIs Store) : Type 0 where
   pub shares : w'.shares ≡ w.shares
   pub store : w'.store ≡ w.store
   pub frames : w'.frames ≡ w.frames
+  pub level : w'.level ≡ w.level

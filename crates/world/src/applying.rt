@@ -15,35 +15,41 @@ impl<S: SwapStore> World<S> {
     ghost use Rattle.items.specs.Items.{is_step};
     ghost use Rattle.world.specs.declared.events.Event.{Event};
     ghost use Rattle.world.specs.Answers.{IsAnswered, AllHappen};
-    ghost use Rattle.world.specs.Events.{IsProper, items_stepped, items_ran, items_input, items_written, own_items, own};
+    ghost use Rattle.world.specs.Events.{IsProper, items_stepped, items_ran, items_input, items_written, items_turned, own_items, own};
     ghost use Rattle.world.specs.Worlds.{boot_of, log_at};
 
     fn apply_step(&mut self, g: usize) -> Answer
         ensures logs { (h : ℕ) → log_at self.new.tenants h ≡ log_at self.old.tenants h ++ items_stepped h g result }
-        ensures answered { IsAnswered S.true_to_digests S.failed S.honest self.old self.new (Event.Step g) result }
+        ensures answered { (tax : ℕ) → IsAnswered S.true_to_digests S.failed S.honest tax self.old self.new (Event.Step g) result }
         ensures boots { map boot_of self.new.tenants ≡ map boot_of self.old.tenants }
         ensures store { self.new.store ≡ self.old.store }
         ensures frames { self.new.frames ≡ self.old.frames }
+        ensures level { self.new.level ≡ self.old.level }
     {
-        if g < self.count() {
-            Answer::Stepped(self.step(g))
-        } else {
-            Answer::Nowhere
+        if g >= self.count() {
+            return Answer::Nowhere;
         }
+        if self.guest(g).is_blocked() {
+            return Answer::Blocked;
+        }
+        Answer::Stepped(self.step(g))
     }
 
     fn apply_steps(&mut self, g: usize, count: u32) -> Answer
         ensures logs { (h : ℕ) → log_at self.new.tenants h ≡ log_at self.old.tenants h ++ items_ran h g result }
-        ensures answered { IsAnswered S.true_to_digests S.failed S.honest self.old self.new (Event.Steps g count) result }
+        ensures answered { (tax : ℕ) → IsAnswered S.true_to_digests S.failed S.honest tax self.old self.new (Event.Steps g count) result }
         ensures boots { map boot_of self.new.tenants ≡ map boot_of self.old.tenants }
         ensures store { self.new.store ≡ self.old.store }
         ensures frames { self.new.frames ≡ self.old.frames }
+        ensures level { self.new.level ≡ self.old.level }
     {
-        if g < self.count() {
-            Answer::Ran(self.steps(g, count))
-        } else {
-            Answer::Nowhere
+        if g >= self.count() {
+            return Answer::Nowhere;
         }
+        if self.guest(g).is_blocked() {
+            return Answer::Blocked;
+        }
+        Answer::Ran(self.steps(g, count))
     }
 
     fn apply_run<R: Rng>(
@@ -55,27 +61,31 @@ impl<S: SwapStore> World<S> {
         rng: &mut R,
     ) -> Answer
         ensures logs { (h : ℕ) → log_at self.new.tenants h ≡ log_at self.old.tenants h ++ items_ran h g result }
-        ensures answered { IsAnswered S.true_to_digests S.failed S.honest self.old self.new (Event.Run g count) result }
+        ensures answered { (tax : ℕ) → IsAnswered S.true_to_digests S.failed S.honest tax self.old self.new (Event.Run g count) result }
         ensures boots { map boot_of self.new.tenants ≡ map boot_of self.old.tenants }
         ensures frames { self.new.frames ≡ self.old.frames }
+        ensures level { self.new.level ≡ self.old.level }
         ensures slots { S.slots self.new.store ≡ S.slots self.old.store }
         ensures honest { S.honest self.new.store ↔ S.honest self.old.store }
         ensures true_to_digests { S.true_to_digests self.new.store ↔ S.true_to_digests self.old.store }
     {
-        if g < self.count() {
-            Answer::Ran(self.run_steps(alloc, g, count, tax, rng))
-        } else {
-            Answer::Nowhere
+        if g >= self.count() {
+            return Answer::Nowhere;
         }
+        if self.guest(g).is_blocked() {
+            return Answer::Blocked;
+        }
+        Answer::Ran(self.run_steps(alloc, g, count, tax, rng))
     }
 
     fn apply_input(&mut self, g: usize, item: Item) -> Answer
         requires { is_step item.what ≡ false }
         ensures logs { (h : ℕ) → log_at self.new.tenants h ≡ log_at self.old.tenants h ++ items_input h g item result }
-        ensures answered { IsAnswered S.true_to_digests S.failed S.honest self.old self.new (Event.Input g item) result }
+        ensures answered { (tax : ℕ) → IsAnswered S.true_to_digests S.failed S.honest tax self.old self.new (Event.Input g item) result }
         ensures boots { map boot_of self.new.tenants ≡ map boot_of self.old.tenants }
         ensures store { self.new.store ≡ self.old.store }
         ensures frames { self.new.frames ≡ self.old.frames }
+        ensures level { self.new.level ≡ self.old.level }
     {
         if g < self.count() {
             Answer::Input(self.input(g, item))
@@ -96,9 +106,10 @@ impl<S: SwapStore> World<S> {
         requires some { 0 < count }
         requires few { count ≤ 1024 }
         ensures logs { (h : ℕ) → log_at self.new.tenants h ≡ log_at self.old.tenants h ++ [] }
-        ensures answered { IsAnswered S.true_to_digests S.failed S.honest self.old self.new (Event.Probe g address count) result }
+        ensures answered { (tax : ℕ) → IsAnswered S.true_to_digests S.failed S.honest tax self.old self.new (Event.Probe g address count) result }
         ensures boots { map boot_of self.new.tenants ≡ map boot_of self.old.tenants }
         ensures frames { self.new.frames ≡ self.old.frames }
+        ensures level { self.new.level ≡ self.old.level }
         ensures slots { S.slots self.new.store ≡ S.slots self.old.store }
         ensures honest { S.honest self.new.store ↔ S.honest self.old.store }
         ensures true_to_digests { S.true_to_digests self.new.store ↔ S.true_to_digests self.old.store }
@@ -127,9 +138,10 @@ impl<S: SwapStore> World<S> {
         requires some { 0 < length bytes.items }
         requires few { length bytes.items ≤ 1024 }
         ensures logs { (h : ℕ) → log_at self.new.tenants h ≡ log_at self.old.tenants h ++ items_written h g address bytes.items result }
-        ensures answered { IsAnswered S.true_to_digests S.failed S.honest self.old self.new (Event.Write g address bytes) result }
+        ensures answered { (tax : ℕ) → IsAnswered S.true_to_digests S.failed S.honest tax self.old self.new (Event.Write g address bytes) result }
         ensures boots { map boot_of self.new.tenants ≡ map boot_of self.old.tenants }
         ensures frames { self.new.frames ≡ self.old.frames }
+        ensures level { self.new.level ≡ self.old.level }
         ensures slots { S.slots self.new.store ≡ S.slots self.old.store }
         ensures honest { S.honest self.new.store ↔ S.honest self.old.store }
         ensures true_to_digests { S.true_to_digests self.new.store ↔ S.true_to_digests self.old.store }
@@ -143,9 +155,10 @@ impl<S: SwapStore> World<S> {
 
     fn apply_supply(&mut self, alloc: Global, g: usize, p: Ppn) -> Answer
         ensures logs { (h : ℕ) → log_at self.new.tenants h ≡ log_at self.old.tenants h ++ [] }
-        ensures answered { IsAnswered S.true_to_digests S.failed S.honest self.old self.new (Event.Supply g p) result }
+        ensures answered { (tax : ℕ) → IsAnswered S.true_to_digests S.failed S.honest tax self.old self.new (Event.Supply g p) result }
         ensures boots { map boot_of self.new.tenants ≡ map boot_of self.old.tenants }
         ensures frames { self.new.frames ≡ self.old.frames }
+        ensures level { self.new.level ≡ self.old.level }
         ensures slots { S.slots self.new.store ≡ S.slots self.old.store }
         ensures honest { S.honest self.new.store ↔ S.honest self.old.store }
         ensures true_to_digests { S.true_to_digests self.new.store ↔ S.true_to_digests self.old.store }
@@ -161,9 +174,10 @@ impl<S: SwapStore> World<S> {
 
     fn apply_fault<R: Rng>(&mut self, alloc: Global, g: usize, tax: Tax, rng: &mut R) -> Answer
         ensures logs { (h : ℕ) → log_at self.new.tenants h ≡ log_at self.old.tenants h ++ [] }
-        ensures answered { IsAnswered S.true_to_digests S.failed S.honest self.old self.new (Event.Fault g) result }
+        ensures answered { (tax : ℕ) → IsAnswered S.true_to_digests S.failed S.honest tax self.old self.new (Event.Fault g) result }
         ensures boots { map boot_of self.new.tenants ≡ map boot_of self.old.tenants }
         ensures frames { self.new.frames ≡ self.old.frames }
+        ensures level { self.new.level ≡ self.old.level }
         ensures slots { S.slots self.new.store ≡ S.slots self.old.store }
         ensures honest { S.honest self.new.store ↔ S.honest self.old.store }
         ensures true_to_digests { S.true_to_digests self.new.store ↔ S.true_to_digests self.old.store }
@@ -177,9 +191,10 @@ impl<S: SwapStore> World<S> {
 
     fn apply_evict(&mut self, g: usize, p: Ppn) -> Answer
         ensures logs { (h : ℕ) → log_at self.new.tenants h ≡ log_at self.old.tenants h ++ [] }
-        ensures answered { IsAnswered S.true_to_digests S.failed S.honest self.old self.new (Event.Evict g p) result }
+        ensures answered { (tax : ℕ) → IsAnswered S.true_to_digests S.failed S.honest tax self.old self.new (Event.Evict g p) result }
         ensures boots { map boot_of self.new.tenants ≡ map boot_of self.old.tenants }
         ensures frames { self.new.frames ≡ self.old.frames }
+        ensures level { self.new.level ≡ self.old.level }
         ensures slots { S.slots self.new.store ≡ S.slots self.old.store }
         ensures honest { S.honest self.new.store ↔ S.honest self.old.store }
         ensures true_to_digests { S.true_to_digests self.new.store ↔ S.true_to_digests self.old.store }
@@ -193,10 +208,11 @@ impl<S: SwapStore> World<S> {
 
     fn apply_scan(&mut self, g: usize, p: Ppn) -> Answer
         ensures logs { (h : ℕ) → log_at self.new.tenants h ≡ log_at self.old.tenants h ++ [] }
-        ensures answered { IsAnswered S.true_to_digests S.failed S.honest self.old self.new (Event.Scan g p) result }
+        ensures answered { (tax : ℕ) → IsAnswered S.true_to_digests S.failed S.honest tax self.old self.new (Event.Scan g p) result }
         ensures boots { map boot_of self.new.tenants ≡ map boot_of self.old.tenants }
         ensures store { self.new.store ≡ self.old.store }
         ensures frames { self.new.frames ≡ self.old.frames }
+        ensures level { self.new.level ≡ self.old.level }
     {
         if g >= self.count() {
             return Answer::Nowhere;
@@ -209,23 +225,37 @@ impl<S: SwapStore> World<S> {
 
     fn apply_sample<R: Rng>(&mut self, rng: &mut R) -> Answer
         ensures logs { (h : ℕ) → log_at self.new.tenants h ≡ log_at self.old.tenants h ++ [] }
-        ensures answered { IsAnswered S.true_to_digests S.failed S.honest self.old self.new Event.Sample result }
+        ensures answered { (tax : ℕ) → IsAnswered S.true_to_digests S.failed S.honest tax self.old self.new Event.Sample result }
         ensures boots { map boot_of self.new.tenants ≡ map boot_of self.old.tenants }
         ensures store { self.new.store ≡ self.old.store }
         ensures frames { self.new.frames ≡ self.old.frames }
+        ensures level { self.new.level ≡ self.old.level }
     {
         self.sample(rng);
         Answer::Sampled
     }
 
-    /// One event. Its items are added to its guest's log, and no other log changes; the machines that the guests booted stay. What is
-    /// answered is what the guest's view has to say to it, or why it was refused (`IsAnswered`): each kind of event has the answers of
-    /// `step`, `steps`, `run_steps`, `input`, `debug_read`, `debug_write`, `supply`, `fault`, `evict`, `scan` and `sample`. The tax
-    /// and the generator are those of `evict_one`, which may be called where a page gets a frame, and of `sample`.
+    fn apply_level<R: Rng>(&mut self, alloc: Global, tax: Tax, rng: &mut R) -> Answer
+        ensures logs { (h : ℕ) → log_at self.new.tenants h ≡ log_at self.old.tenants h ++ items_turned h result }
+        ensures answered { IsAnswered S.true_to_digests S.failed S.honest tax.percent self.old self.new Event.Level result }
+        ensures boots { map boot_of self.new.tenants ≡ map boot_of self.old.tenants }
+        ensures frames { self.new.frames ≡ self.old.frames }
+        ensures slots { S.slots self.new.store ≡ S.slots self.old.store }
+        ensures honest { S.honest self.new.store ↔ S.honest self.old.store }
+        ensures true_to_digests { S.true_to_digests self.new.store ↔ S.true_to_digests self.old.store }
+    {
+        Answer::Turned(self.level_turn(alloc, tax, rng))
+    }
+
+    /// One event. Its items are added to its guest's log, and no other log changes, but that a turn of the policy may set the balloon
+    /// targets of all; the machines that the guests booted stay. What is answered is what the guest's view has to say to it, or why it was
+    /// refused (`IsAnswered`): each kind of event has the answers of `step`, `steps`, `run_steps`, `input`, `debug_read`, `debug_write`,
+    /// `supply`, `fault`, `evict`, `scan`, `sample` and `level_turn`, and a guest that is blocked makes no step. The tax and the
+    /// generator are those of `evict_one`, which may be called where a page gets a frame, of `sample` and of `level_turn`.
     pub fn apply<R: Rng>(&mut self, alloc: Global, event: Event, tax: Tax, rng: &mut R) -> Answer
         requires { IsProper event }
         ensures logs { (h : ℕ) → log_at self.new.tenants h ≡ log_at self.old.tenants h ++ own_items h event result }
-        ensures answered { IsAnswered S.true_to_digests S.failed S.honest self.old self.new event result }
+        ensures answered { IsAnswered S.true_to_digests S.failed S.honest tax.percent self.old self.new event result }
         ensures boots { map boot_of self.new.tenants ≡ map boot_of self.old.tenants }
         ensures frames { self.new.frames ≡ self.old.frames }
         ensures slots { S.slots self.new.store ≡ S.slots self.old.store }
@@ -248,6 +278,7 @@ impl<S: SwapStore> World<S> {
             Event::Evict(g, p) => self.apply_evict(g, p),
             Event::Scan(g, p) => self.apply_scan(g, p),
             Event::Sample => self.apply_sample(rng),
+            Event::Level => self.apply_level(alloc, tax, rng),
         }
     }
 
@@ -266,7 +297,7 @@ impl<S: SwapStore> World<S> {
     ) -> Result<Vec<Answer>, AllocError>
         requires { All IsProper events.items }
         ensures logs { IfOk result (λ answers. (h : ℕ) → log_at self.new.tenants h ≡ log_at self.old.tenants h ++ own h events.items answers.items) }
-        ensures happen { IfOk result (λ answers. AllHappen S.true_to_digests S.failed S.honest self.old events.items answers.items self.new) }
+        ensures happen { IfOk result (λ answers. AllHappen S.true_to_digests S.failed S.honest tax.percent self.old events.items answers.items self.new) }
         ensures count { IfOk result (λ answers. length answers.items ≡ length events.items) }
         ensures unchanged { OnErr result (self.new ≡ self.old) }
         ensures boots { map boot_of self.new.tenants ≡ map boot_of self.old.tenants }

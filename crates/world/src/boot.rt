@@ -40,6 +40,7 @@ impl<S: SwapStore> World<S> {
     ghost use Rattle.sharetab.specs.declared.guest_page.GuestPage.{GuestPage};
     ghost use Rattle.world.specs.Boots.{IsWithinLimits, AreWithinLimits, HoldsImage, AreAdmitted, AreBooted, WhyNotBooted};
     ghost use Rattle.tenant.specs.Loading.{IsOfLoading};
+    ghost use Rattle.reclaim.specs.declared.level.Level.{Level};
 
     // A world of no guest gets guests, in their order.
     fn with_guests(
@@ -54,6 +55,7 @@ impl<S: SwapStore> World<S> {
         ensures booted { IfOk result (λ w. AreBooted log_runs guests.items w.tenants) }
         ensures shares { IfOk result (λ w. w.shares ≡ self.shares) }
         ensures frames { IfOk result (λ w. w.frames ≡ self.frames) }
+        ensures level { IfOk result (λ w. w.level ≡ self.level) }
         ensures slots { IfOk result (λ w. S.slots w.store ≡ S.slots self.store) }
         ensures honest { IfOk result (λ w. S.honest w.store ↔ S.honest self.store) }
         ensures true_to_digests { IfOk result (λ w. S.true_to_digests w.store ↔ S.true_to_digests self.store) }
@@ -92,6 +94,7 @@ impl<S: SwapStore> World<S> {
         ensures booted { IfOk result (λ w. AreBooted config.log_runs guests.items w.tenants) }
         ensures hints { IfOk result (λ w. (page : GuestPage) → at_page w.shares.hints page ≡ None) }
         ensures frames { IfOk result (λ w. w.frames ≡ config.frames) }
+        ensures level { IfOk result (λ w. w.level ≡ Level.High) }
         ensures slots { IfOk result (λ w. S.slots w.store ≡ S.slots store) }
         ensures honest { IfOk result (λ w. S.honest w.store ↔ S.honest store) }
         ensures true_to_digests { IfOk result (λ w. S.true_to_digests w.store ↔ S.true_to_digests store) }

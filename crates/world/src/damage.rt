@@ -22,6 +22,7 @@ impl<S: Damage> World<S> {
         ensures slots { self.new.slots ≡ self.old.slots }
         ensures shares { self.new.shares ≡ self.old.shares }
         ensures frames { self.new.frames ≡ self.old.frames }
+        ensures level { self.new.level ≡ self.old.level }
     {
         self.store.damage(slot, byte);
     }

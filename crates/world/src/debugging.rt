@@ -84,6 +84,7 @@ impl<S: SwapStore> World<S> {
             ((before : ℕ) × (S.failed self.new.store ≡ one_more before)) (S.honest self.old.store → ⊥)) }
         ensures hints { self.new.shares.hints ≡ self.old.shares.hints }
         ensures frames { self.new.frames ≡ self.old.frames }
+        ensures level { self.new.level ≡ self.old.level }
         ensures slots { S.slots self.new.store ≡ S.slots self.old.store }
         ensures honest { S.honest self.new.store ↔ S.honest self.old.store }
         ensures true_to_digests { S.true_to_digests self.new.store ↔ S.true_to_digests self.old.store }
@@ -121,6 +122,7 @@ impl<S: SwapStore> World<S> {
             ((before : ℕ) × (S.failed self.new.store ≡ one_more before)) (S.honest self.old.store → ⊥)) }
         ensures hints { self.new.shares.hints ≡ self.old.shares.hints }
         ensures frames { self.new.frames ≡ self.old.frames }
+        ensures level { self.new.level ≡ self.old.level }
         ensures slots { S.slots self.new.store ≡ S.slots self.old.store }
         ensures honest { S.honest self.new.store ↔ S.honest self.old.store }
         ensures true_to_digests { S.true_to_digests self.new.store ↔ S.true_to_digests self.old.store }
@@ -160,6 +162,7 @@ impl<S: SwapStore> World<S> {
         ensures never_full { IsErrOf result (DebugError.Stop RunStop.LogFull) → ⊥ }
         ensures hints { self.new.shares.hints ≡ self.old.shares.hints }
         ensures frames { self.new.frames ≡ self.old.frames }
+        ensures level { self.new.level ≡ self.old.level }
         ensures slots { S.slots self.new.store ≡ S.slots self.old.store }
         ensures honest { S.honest self.new.store ↔ S.honest self.old.store }
         ensures true_to_digests { S.true_to_digests self.new.store ↔ S.true_to_digests self.old.store }
@@ -214,6 +217,7 @@ impl<S: SwapStore> World<S> {
         ensures never_full { IsErrOf result (DebugError.Stop RunStop.LogFull) → ⊥ }
         ensures hints { self.new.shares.hints ≡ self.old.shares.hints }
         ensures frames { self.new.frames ≡ self.old.frames }
+        ensures level { self.new.level ≡ self.old.level }
         ensures slots { S.slots self.new.store ≡ S.slots self.old.store }
         ensures honest { S.honest self.new.store ↔ S.honest self.old.store }
         ensures true_to_digests { S.true_to_digests self.new.store ↔ S.true_to_digests self.old.store }
@@ -262,6 +266,7 @@ impl<S: SwapStore> World<S> {
         ensures room { OnOk result ((t : TenantIs) → IsFull (slice_index_or self.old.tenants g t).guest.log → ⊥) }
         ensures hints { self.new.shares.hints ≡ self.old.shares.hints }
         ensures frames { self.new.frames ≡ self.old.frames }
+        ensures level { self.new.level ≡ self.old.level }
         ensures slots { S.slots self.new.store ≡ S.slots self.old.store }
         ensures honest { S.honest self.new.store ↔ S.honest self.old.store }
         ensures true_to_digests { S.true_to_digests self.new.store ↔ S.true_to_digests self.old.store }

@@ -1,10 +1,11 @@
 //! What may happen in a world, and what is answered.
-use crate::{DebugError, Evicted, FaultError, Ran};
+use crate::{DebugError, Evicted, FaultError, Ran, Turn};
 use flatvm::Reply;
 use guest::{Refused, Stop};
 use items::Item;
 use mips_step::StepOut;
 use paging::{Scan, SupplyError};
+use std::alloc::AllocError;
 use tenant::EvictError;
 use word32::Ppn;
 
@@ -33,6 +34,8 @@ pub enum Event {
     Scan(usize, Ppn),
     /// A period of the samples of all guests' pages is to end, and the next to begin.
     Sample,
+    /// The policy is to make a turn.
+    Level,
 }
 
 /// What is answered to an event.
@@ -58,6 +61,10 @@ pub enum Answer {
     Scanned(Scan),
     /// The guests' pages are sampled.
     Sampled,
+    /// What the turn of the policy did; or there was no memory to plan it, and nothing has happened.
+    Turned(Result<Turn, AllocError>),
+    /// The guest is blocked: it makes no step until a turn of the policy lets it go on. Nothing has happened.
+    Blocked,
     /// There is no such guest, or no such page to supply. Nothing has happened.
     Nowhere,
 }

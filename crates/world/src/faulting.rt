@@ -105,7 +105,7 @@ fn next_resident(tenant: &Tenant, spared: &Option<(Ppn, Ppn)>, start: u32) -> Pp
 }
 
 // A page of a guest's for the generator's next word, but for those that are spared.
-fn drawn_page<R: Rng>(tenant: &Tenant, spared: &Option<(Ppn, Ppn)>, rng: &mut R) -> Ppn
+pub(crate) fn drawn_page<R: Rng>(tenant: &Tenant, spared: &Option<(Ppn, Ppn)>, rng: &mut R) -> Ppn
     requires { tenant.now.minimum < resident_pages (pages_in tenant.now) }
     ensures page { IsNextResident spared.now (pages_in tenant.now) ((next_u32 (R.stream rng.old)).0 % length (pages_in tenant.now)) result }
     ensures rest { R.stream rng.new ≡ (next_u32 (R.stream rng.old)).1 }
@@ -117,7 +117,7 @@ fn drawn_page<R: Rng>(tenant: &Tenant, spared: &Option<(Ppn, Ppn)>, rng: &mut R)
 }
 
 // What the policy knows of each guest.
-fn stats_of(alloc: Global, tenants: &[Tenant]) -> Result<Vec<Stat>, AllocError>
+pub(crate) fn stats_of(alloc: Global, tenants: &[Tenant]) -> Result<Vec<Stat>, AllocError>
     ensures { IfOk result (λ stats. stats.items ≡ map stat_of tenants.now) }
 {
     let mut stats = Vec::with_capacity(alloc, tenants.len())?;
@@ -161,6 +161,7 @@ impl<S: SwapStore> World<S> {
         ensures no_failure { OnOk result (S.failed self.new.store ≡ S.failed self.old.store) }
         ensures hints { self.new.shares.hints ≡ self.old.shares.hints }
         ensures frames { self.new.frames ≡ self.old.frames }
+        ensures level { self.new.level ≡ self.old.level }
         ensures slots { S.slots self.new.store ≡ S.slots self.old.store }
         ensures honest { S.honest self.new.store ↔ S.honest self.old.store }
         ensures true_to_digests { S.true_to_digests self.new.store ↔ S.true_to_digests self.old.store }
@@ -186,6 +187,7 @@ impl<S: SwapStore> World<S> {
         ensures no_failure { OnOk result (S.failed self.new.store ≡ S.failed self.old.store) }
         ensures hints { self.new.shares.hints ≡ self.old.shares.hints }
         ensures frames { self.new.frames ≡ self.old.frames }
+        ensures level { self.new.level ≡ self.old.level }
         ensures slots { S.slots self.new.store ≡ S.slots self.old.store }
         ensures honest { S.honest self.new.store ↔ S.honest self.old.store }
         ensures true_to_digests { S.true_to_digests self.new.store ↔ S.true_to_digests self.old.store }
@@ -220,6 +222,7 @@ impl<S: SwapStore> World<S> {
         ensures no_failure { OnOk result (S.failed self.new.store ≡ S.failed self.old.store) }
         ensures hints { self.new.shares.hints ≡ self.old.shares.hints }
         ensures frames { self.new.frames ≡ self.old.frames }
+        ensures level { self.new.level ≡ self.old.level }
         ensures slots { S.slots self.new.store ≡ S.slots self.old.store }
         ensures honest { S.honest self.new.store ↔ S.honest self.old.store }
         ensures true_to_digests { S.true_to_digests self.new.store ↔ S.true_to_digests self.old.store }
@@ -250,6 +253,7 @@ impl<S: SwapStore> World<S> {
             (S.failed self.new.store ≡ one_more (S.failed self.old.store)) (S.honest self.old.store → ⊥)) }
         ensures hints { self.new.shares.hints ≡ self.old.shares.hints }
         ensures frames { self.new.frames ≡ self.old.frames }
+        ensures level { self.new.level ≡ self.old.level }
         ensures slots { S.slots self.new.store ≡ S.slots self.old.store }
         ensures honest { S.honest self.new.store ↔ S.honest self.old.store }
         ensures true_to_digests { S.true_to_digests self.new.store ↔ S.true_to_digests self.old.store }
@@ -291,6 +295,7 @@ impl<S: SwapStore> World<S> {
             (S.failed self.new.store ≡ one_more (S.failed self.old.store)) (S.honest self.old.store → ⊥)) }
         ensures hints { self.new.shares.hints ≡ self.old.shares.hints }
         ensures frames { self.new.frames ≡ self.old.frames }
+        ensures level { self.new.level ≡ self.old.level }
         ensures slots { S.slots self.new.store ≡ S.slots self.old.store }
         ensures honest { S.honest self.new.store ↔ S.honest self.old.store }
         ensures true_to_digests { S.true_to_digests self.new.store ↔ S.true_to_digests self.old.store }

@@ -19,6 +19,7 @@ pub mod faulting;
 mod limits;
 pub mod running;
 pub mod samples;
+pub mod turns;
 pub mod world;
 
 pub use books::BookCounts;
@@ -28,4 +29,5 @@ pub use events::{Answer, Event};
 pub use faulting::{FaultError, Spared};
 pub use limits::are_within_limits;
 pub use running::{End, Ran, RunStop};
+pub use turns::Turn;
 pub use world::{Evicted, World};

@@ -109,6 +109,7 @@ impl<S: SwapStore> World<S> {
         ensures hints { self.new.shares.hints ≡ self.old.shares.hints }
         ensures store { self.new.store ≡ self.old.store }
         ensures frames { self.new.frames ≡ self.old.frames }
+        ensures level { self.new.level ≡ self.old.level }
     {
         run_in(
             &mut self.tenants[g],
@@ -140,6 +141,7 @@ impl<S: SwapStore> World<S> {
         ensures hints { self.new.shares.hints ≡ self.old.shares.hints }
         ensures store { self.new.store ≡ self.old.store }
         ensures frames { self.new.frames ≡ self.old.frames }
+        ensures level { self.new.level ≡ self.old.level }
     {
         let (steps, needed) = match self.run_once(g, count) {
             Ok(ran) => ran,
@@ -175,6 +177,7 @@ impl<S: SwapStore> World<S> {
         ensures hints { self.new.shares.hints ≡ self.old.shares.hints }
         ensures store { self.new.store ≡ self.old.store }
         ensures frames { self.new.frames ≡ self.old.frames }
+        ensures level { self.new.level ≡ self.old.level }
     {
         let mut made = 0;
         while made < count {
@@ -218,6 +221,7 @@ impl<S: SwapStore> World<S> {
             ((before : ℕ) × (S.failed self.new.store ≡ one_more before)) (S.honest self.old.store → ⊥))) }
         ensures hints { self.new.shares.hints ≡ self.old.shares.hints }
         ensures frames { self.new.frames ≡ self.old.frames }
+        ensures level { self.new.level ≡ self.old.level }
         ensures slots { S.slots self.new.store ≡ S.slots self.old.store }
         ensures honest { S.honest self.new.store ↔ S.honest self.old.store }
         ensures true_to_digests { S.true_to_digests self.new.store ↔ S.true_to_digests self.old.store }
@@ -265,6 +269,7 @@ impl<S: SwapStore> World<S> {
             ((before : ℕ) × (S.failed self.new.store ≡ one_more before)) (S.honest self.old.store → ⊥)) }
         ensures hints { self.new.shares.hints ≡ self.old.shares.hints }
         ensures frames { self.new.frames ≡ self.old.frames }
+        ensures level { self.new.level ≡ self.old.level }
         ensures slots { S.slots self.new.store ≡ S.slots self.old.store }
         ensures honest { S.honest self.new.store ↔ S.honest self.old.store }
         ensures true_to_digests { S.true_to_digests self.new.store ↔ S.true_to_digests self.old.store }

@@ -9,6 +9,7 @@ use items::Item;
 use mips_step::StepOut;
 use paging::{Pages, Scan, SupplyError};
 use physmap::PageKind;
+use reclaim::Level;
 use sharetab::{GuestNo, Shares};
 use std::alloc::Global;
 use std::marker::Model;
@@ -36,6 +37,7 @@ pub struct World<S: SwapStore> {
     pub(crate) shares: Shares,
     pub(crate) store: S,
     pub(crate) frames: u32,
+    pub(crate) level: Level,
 }
 
 impl<S: SwapStore> Model for World<S> {
@@ -43,7 +45,7 @@ impl<S: SwapStore> Model for World<S> {
 
     ghost Value = { WorldIs S };
 
-    ghost view = { λ w. record { tenants = w.tenants.items; pool = w.pool; slots = w.slots; shares = w.shares; store = w.store; frames = w.frames } };
+    ghost view = { λ w. record { tenants = w.tenants.items; pool = w.pool; slots = w.slots; shares = w.shares; store = w.store; frames = w.frames; level = w.level } };
 
     ghost invariant = { λ w. Sound w.frames (S.slots w.store) (S.true_to_digests w.store) (S.held w.store) w.tenants.items w.pool w.slots w.shares.entries };
 }
@@ -87,14 +89,16 @@ impl<S: SwapStore> World<S> {
     ghost use Rattle.tenant.specs.Lent.{WhyStays};
     ghost use Rattle.tenant.specs.Loading.{FramesFirst, IsOfLoading};
     ghost use Rattle.tenant.specs.Tenants.{TenantIs, pages_in, IsBooted, Stays, Adds, NothingHappens};
+    ghost use Rattle.reclaim.specs.declared.level.Level.{Level};
     ghost use Rattle.world.specs.Worlds.{WorldIs, Sound, Changes, PagesMove, SameAround};
 
-    /// A world of no guest, with this many frames, all free, and the slots of a store, all free. The store comes back where a
+    /// A world of no guest, with this many frames, all free, and the slots of a store, all free, at the level high. The store comes back where a
     /// request for memory was refused.
     pub fn new(alloc: Global, frames: u32, store: S) -> Result<World<S>, S>
         ensures tenants { IfOk result (λ w. w.tenants ≡ []) }
         ensures store { IfOk result (λ w. w.store ≡ store) }
         ensures frames { IfOk result (λ w. w.frames ≡ frames) }
+        ensures level { IfOk result (λ w. w.level ≡ Level.High) }
         ensures free { IfOk result (λ w. length w.pool.free ≡ frames) }
         ensures free_slots { IfOk result (λ w. length w.slots.free ≡ S.slots store) }
         ensures entries { IfOk result (λ w. w.shares.entries ≡ replicate frames None) }
@@ -120,6 +124,7 @@ impl<S: SwapStore> World<S> {
             shares,
             store,
             frames,
+            level: Level::High,
         })
     }
 
@@ -149,6 +154,7 @@ impl<S: SwapStore> World<S> {
         ensures frames_first { IfOk result (λ w. (t : TenantIs) → FramesFirst w.pool (pages_in (slice_index_or w.tenants (length self.tenants) t))) }
         ensures shares { IfOk result (λ w. w.shares ≡ self.shares) }
         ensures frames { IfOk result (λ w. w.frames ≡ self.frames) }
+        ensures level { IfOk result (λ w. w.level ≡ self.level) }
         ensures slots { IfOk result (λ w. S.slots w.store ≡ S.slots self.store) }
         ensures honest { IfOk result (λ w. S.honest w.store ↔ S.honest self.store) }
         ensures true_to_digests { IfOk result (λ w. S.true_to_digests w.store ↔ S.true_to_digests self.store) }
@@ -163,6 +169,7 @@ impl<S: SwapStore> World<S> {
             shares: table,
             mut store,
             frames,
+            level,
         } = self;
         match loaded(
             alloc, image, pages, shares, minimum, log_runs, &mut pool, &mut slots, &mut store,
@@ -175,6 +182,7 @@ impl<S: SwapStore> World<S> {
                     shares: table,
                     store,
                     frames,
+                    level,
                 }),
                 Err(failed) => {
                     failed.value.close();
@@ -200,6 +208,7 @@ impl<S: SwapStore> World<S> {
             shares,
             store,
             frames: _,
+            level: _,
         } = self;
         close_parts(tenants, pool, slots, shares);
         store
@@ -236,6 +245,13 @@ impl<S: SwapStore> World<S> {
         ensures { result ≡ length self.now.pool.free }
     {
         self.pool.free()
+    }
+
+    /// How scarce free frames were at the last turn of the policy; high where there was none.
+    pub fn level(&self) -> Level
+        ensures { result ≡ self.now.level }
+    {
+        self.level
     }
 
     /// How many slots are used.
@@ -292,6 +308,7 @@ impl<S: SwapStore> World<S> {
         ensures hints { self.new.shares.hints ≡ self.old.shares.hints }
         ensures store { self.new.store ≡ self.old.store }
         ensures frames { self.new.frames ≡ self.old.frames }
+        ensures level { self.new.level ≡ self.old.level }
     {
         step_in(
             &mut self.tenants[g],
@@ -347,6 +364,7 @@ impl<S: SwapStore> World<S> {
         ensures shares_unchanged { OnErr result (self.new.shares ≡ self.old.shares) }
         ensures hints { self.new.shares.hints ≡ self.old.shares.hints }
         ensures frames { self.new.frames ≡ self.old.frames }
+        ensures level { self.new.level ≡ self.old.level }
         ensures slots { S.slots self.new.store ≡ S.slots self.old.store }
         ensures honest { S.honest self.new.store ↔ S.honest self.old.store }
         ensures true_to_digests { S.true_to_digests self.new.store ↔ S.true_to_digests self.old.store }
@@ -378,6 +396,7 @@ impl<S: SwapStore> World<S> {
         ensures shares_unchanged { OnErr result (self.new.shares ≡ self.old.shares) }
         ensures hints { self.new.shares.hints ≡ self.old.shares.hints }
         ensures frames { self.new.frames ≡ self.old.frames }
+        ensures level { self.new.level ≡ self.old.level }
         ensures slots { S.slots self.new.store ≡ S.slots self.old.store }
         ensures honest { S.honest self.new.store ↔ S.honest self.old.store }
         ensures true_to_digests { S.true_to_digests self.new.store ↔ S.true_to_digests self.old.store }
@@ -409,6 +428,7 @@ impl<S: SwapStore> World<S> {
         ensures shares_unchanged { OnErr result (self.new.shares ≡ self.old.shares) }
         ensures hints { self.new.shares.hints ≡ self.old.shares.hints }
         ensures frames { self.new.frames ≡ self.old.frames }
+        ensures level { self.new.level ≡ self.old.level }
         ensures slots { S.slots self.new.store ≡ S.slots self.old.store }
         ensures honest { S.honest self.new.store ↔ S.honest self.old.store }
         ensures true_to_digests { S.true_to_digests self.new.store ↔ S.true_to_digests self.old.store }
@@ -440,6 +460,7 @@ impl<S: SwapStore> World<S> {
         ensures slots { self.new.slots ≡ self.old.slots }
         ensures store { self.new.store ≡ self.old.store }
         ensures frames { self.new.frames ≡ self.old.frames }
+        ensures level { self.new.level ≡ self.old.level }
     {
         scan_page(
             &mut self.tenants[g],

@@ -540,6 +540,8 @@ fn word(answer: &Answer) -> &'static str {
         Answer::Evicted(_) => "evicted",
         Answer::Scanned(_) => "scanned",
         Answer::Sampled => "sampled",
+        Answer::Turned(_) => "turned",
+        Answer::Blocked => "blocked",
         Answer::Nowhere => "nowhere",
     }
 }

@@ -13,3 +13,5 @@ mod event_tests;
 mod running_tests;
 #[cfg(test)]
 mod sampling_tests;
+#[cfg(test)]
+mod turn_tests;

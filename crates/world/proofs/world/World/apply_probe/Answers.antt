@@ -19,7 +19,7 @@ pub returns-in-Err-clause-boots : goal.returns-in-Err-clause-boots
 returns-in-Err-clause-boots g c = fault_boots c.args.self.now.tenants c.debug_read.new.self.tenants c.debug_read.ensures.moves
 
 pub returns-in-Ok-debug_read-clause-answered : goal.returns-in-Ok-debug_read-clause-answered
-returns-in-Ok-debug_read-clause-answered g c = λ t trust.
+returns-in-Ok-debug_read-clause-answered g c = λ tax t trust.
     let m = view_of (get_or c.args.self.now.tenants c.args.g t).guest in
     let bytes = c.debug_read.new.bytes in
     let rest = drop (length bytes) c.in-Ok.bytes.items in

@@ -1,9 +1,11 @@
+use Rattle.std.proofs.Common.{◌≡◌, false, ◌∙◌, ap, sym}
+use Rattle.tenant.specs.Tenants.{TenantIs}
 use Rattle.world.proofs.world.World.apply_run.Goals as goal
 
-pub returns-then-g-count-clause-answered : goal.returns-then-g-count-clause-answered
-returns-then-g-count-clause-answered g c =
+pub returns-clause-answered : goal.returns-clause-answered
+returns-clause-answered g c =
     let e = c.run_steps.ensures in
-    λ t. (
+    λ tax t. (
       record {
         most = e.most;
         done = e.done;
@@ -13,4 +15,5 @@ returns-then-g-count-clause-answered g c =
         stop = e.stop;
       },
       λ trust p w is. e.supplied trust p w is t,
+      sym (ap (λ (u : TenantIs). u.blocked) (c.guest.ensures t)) ∙ sym c.is_blocked.ensures ∙ c.if-is_blocked.false,
     )

@@ -27,8 +27,8 @@ loop-event-preserved g c =
       logs = λ h. subst (λ (l : List Answer). log_at c.apply-answer.new.self.tenants h ≡ log_at c.args.self.now.tenants h ++ own h (at.yielded ++ e ∷ []) l) (sym items)
           (logs_more h at.yielded at.answers.items e a (log_at c.args.self.now.tenants h) (log_at at.self.tenants h) (log_at c.apply-answer.new.self.tenants h)
           (sym at.invariant.count) (at.invariant.logs h) (c.apply-answer.ensures.logs h));
-      happen = subst (λ (l : List Answer). AllHappen store.true_to_digests store.failed store.honest c.args.self.now (at.yielded ++ e ∷ []) l c.apply-answer.new.self) (sym items)
-          (all_more store.true_to_digests store.failed store.honest c.args.self.now at.self c.apply-answer.new.self at.yielded at.answers.items e a at.invariant.happen
+      happen = subst (λ (l : List Answer). AllHappen store.true_to_digests store.failed store.honest c.args.tax.percent c.args.self.now (at.yielded ++ e ∷ []) l c.apply-answer.new.self) (sym items)
+          (all_more store.true_to_digests store.failed store.honest c.args.tax.percent c.args.self.now at.self c.apply-answer.new.self at.yielded at.answers.items e a at.invariant.happen
           (record { answered = c.apply-answer.ensures.answered; logs = c.apply-answer.ensures.logs; boots = c.apply-answer.ensures.boots }));
       count = omega (arith, ap length items, longer, length-append at.yielded (e ∷ []), at.invariant.count);
       len = omega (arith, c.push_reserved.ensures.len, ap length items, longer, at.invariant.len);

@@ -18,7 +18,7 @@ run_in-requires-clause-lent g c =
     let held = g.S.SwapStore.held store in
     let ts = w.tenants.items in
     let t = c.index_mut.result.now in
-    let inside = guest_inside ts c.args.self.now.tenants c.args.g (tenants_of (record { tenants = c.self.inside.tenants.items; pool = c.self.inside.pool; slots = c.self.inside.slots; shares = c.self.inside.shares; store = c.self.inside.store; frames = c.self.inside.frames }) c.args.self.now c.self.view_is) c.requires.guest in
+    let inside = guest_inside ts c.args.self.now.tenants c.args.g (tenants_of (record { tenants = c.self.inside.tenants.items; pool = c.self.inside.pool; slots = c.self.inside.slots; shares = c.self.inside.shares; store = c.self.inside.store; frames = c.self.inside.frames; level = c.self.inside.level }) c.args.self.now c.self.view_is) c.requires.guest in
     (slots, lent_of w.frames slots trusted held ts c.args.g t w.pool w.slots w.shares.entries inside c.index_mut.ensures.value c.self.invariant)
 
 pub invariant_of-self : goal.invariant_of-self
@@ -30,7 +30,7 @@ invariant_of-self g c =
     let held = g.S.SwapStore.held store in
     let ts = w.tenants.items in
     let t = c.index_mut.result.now in
-    let inside = guest_inside ts c.args.self.now.tenants c.args.g (tenants_of (record { tenants = c.self.inside.tenants.items; pool = c.self.inside.pool; slots = c.self.inside.slots; shares = c.self.inside.shares; store = c.self.inside.store; frames = c.self.inside.frames }) c.args.self.now c.self.view_is) c.requires.guest in
+    let inside = guest_inside ts c.args.self.now.tenants c.args.g (tenants_of (record { tenants = c.self.inside.tenants.items; pool = c.self.inside.pool; slots = c.self.inside.slots; shares = c.self.inside.shares; store = c.self.inside.store; frames = c.self.inside.frames; level = c.self.inside.level }) c.args.self.now c.self.view_is) c.requires.guest in
     sound_after w.frames slots trusted trusted held held ts c.args.g t c.run_in.new.tenant w.pool w.slots c.run_in.new.pool c.run_in.new.slots w.shares.entries c.run_in.new.shares.entries
     inside c.index_mut.ensures.value c.run_in.ensures.conserves c.run_in.ensures.reads (λ trust. trust) (λ trust k. c.run_in.ensures.kept held k) (λ trust slot none. refl) c.self.invariant
 
@@ -43,7 +43,7 @@ returns-clause-need g c = λ trust d.
     let held = g.S.SwapStore.held store in
     let ts = w.tenants.items in
     let t = c.index_mut.result.now in
-    let inside = guest_inside ts c.args.self.now.tenants c.args.g (tenants_of (record { tenants = c.self.inside.tenants.items; pool = c.self.inside.pool; slots = c.self.inside.slots; shares = c.self.inside.shares; store = c.self.inside.store; frames = c.self.inside.frames }) c.args.self.now c.self.view_is) c.requires.guest in
+    let inside = guest_inside ts c.args.self.now.tenants c.args.g (tenants_of (record { tenants = c.self.inside.tenants.items; pool = c.self.inside.pool; slots = c.self.inside.slots; shares = c.self.inside.shares; store = c.self.inside.store; frames = c.self.inside.frames; level = c.self.inside.level }) c.args.self.now c.self.view_is) c.requires.guest in
     let now = subst (λ (x : WorldIs _). g.S.SwapStore.true_to_digests x.store) (sym c.self.view_is) trust in
     let kept = kept_of w.frames slots trusted held ts c.args.g t w.pool w.slots w.shares.entries inside c.index_mut.ensures.value now c.self.invariant in
     subst (λ (u : TenantIs). IfOk c.run_in.result (λ made. (p : ℕ) (why : Why) → made.1 ≡ Some (p, why) → first_lack (lacks_in (pages_in u)) (accesses (view_of u.guest)) ≡ Some (p, why)))

@@ -19,6 +19,7 @@ loop-steps-preserved g c =
       boots = e.boots ∙ at.invariant.boots;
       hints = e.hints ∙ at.invariant.hints;
       frames = e.frames ∙ at.invariant.frames;
+      level = e.level ∙ at.invariant.level;
       slots = e.slots ∙ at.invariant.slots;
       honest = (λ now. at.invariant.honest.0 (e.honest.0 now), λ before. e.honest.1 (at.invariant.honest.1 before));
       trust = (λ now. at.invariant.trust.0 (e.true_to_digests.0 now), λ before. e.true_to_digests.1 (at.invariant.trust.1 before));

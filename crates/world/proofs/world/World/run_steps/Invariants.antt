@@ -12,6 +12,7 @@ invariant-loop-steps g l = record {
   boots : map boot_of l.self.tenants ≡ map boot_of l.fn.self.tenants;
   hints : l.self.shares.hints ≡ l.fn.self.shares.hints;
   frames : l.self.frames ≡ l.fn.self.frames;
+  level : l.self.level ≡ l.fn.self.level;
   slots : g.S.SwapStore.slots l.self.store ≡ g.S.SwapStore.slots l.fn.self.store;
   honest : g.S.SwapStore.honest l.self.store ↔ g.S.SwapStore.honest l.fn.self.store;
   trust : g.S.SwapStore.true_to_digests l.self.store ↔ g.S.SwapStore.true_to_digests l.fn.self.store;

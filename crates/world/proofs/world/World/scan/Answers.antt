@@ -16,7 +16,7 @@ scan_page-requires-clause-covered g c =
     let held = g.S.SwapStore.held store in
     let ts = w.tenants.items in
     let t = c.index_mut.result.now in
-    let inside = guest_inside ts c.args.self.now.tenants c.args.g (tenants_of (record { tenants = c.self.inside.tenants.items; pool = c.self.inside.pool; slots = c.self.inside.slots; shares = c.self.inside.shares; store = c.self.inside.store; frames = c.self.inside.frames }) c.args.self.now c.self.view_is) c.requires.guest in
+    let inside = guest_inside ts c.args.self.now.tenants c.args.g (tenants_of (record { tenants = c.self.inside.tenants.items; pool = c.self.inside.pool; slots = c.self.inside.slots; shares = c.self.inside.shares; store = c.self.inside.store; frames = c.self.inside.frames; level = c.self.inside.level }) c.args.self.now c.self.view_is) c.requires.guest in
     (lent_of w.frames slots trusted held ts c.args.g t w.pool w.slots w.shares.entries inside c.index_mut.ensures.value c.self.invariant).covered
 
 pub scan_page-requires-clause-own_once : goal.scan_page-requires-clause-own_once
@@ -28,7 +28,7 @@ scan_page-requires-clause-own_once g c =
     let held = g.S.SwapStore.held store in
     let ts = w.tenants.items in
     let t = c.index_mut.result.now in
-    let inside = guest_inside ts c.args.self.now.tenants c.args.g (tenants_of (record { tenants = c.self.inside.tenants.items; pool = c.self.inside.pool; slots = c.self.inside.slots; shares = c.self.inside.shares; store = c.self.inside.store; frames = c.self.inside.frames }) c.args.self.now c.self.view_is) c.requires.guest in
+    let inside = guest_inside ts c.args.self.now.tenants c.args.g (tenants_of (record { tenants = c.self.inside.tenants.items; pool = c.self.inside.pool; slots = c.self.inside.slots; shares = c.self.inside.shares; store = c.self.inside.store; frames = c.self.inside.frames; level = c.self.inside.level }) c.args.self.now c.self.view_is) c.requires.guest in
     (lent_of w.frames slots trusted held ts c.args.g t w.pool w.slots w.shares.entries inside c.index_mut.ensures.value c.self.invariant).own_once
 
 pub scan_page-requires-clause-frame_out : goal.scan_page-requires-clause-frame_out
@@ -40,7 +40,7 @@ scan_page-requires-clause-frame_out g c =
     let held = g.S.SwapStore.held store in
     let ts = w.tenants.items in
     let t = c.index_mut.result.now in
-    let inside = guest_inside ts c.args.self.now.tenants c.args.g (tenants_of (record { tenants = c.self.inside.tenants.items; pool = c.self.inside.pool; slots = c.self.inside.slots; shares = c.self.inside.shares; store = c.self.inside.store; frames = c.self.inside.frames }) c.args.self.now c.self.view_is) c.requires.guest in
+    let inside = guest_inside ts c.args.self.now.tenants c.args.g (tenants_of (record { tenants = c.self.inside.tenants.items; pool = c.self.inside.pool; slots = c.self.inside.slots; shares = c.self.inside.shares; store = c.self.inside.store; frames = c.self.inside.frames; level = c.self.inside.level }) c.args.self.now c.self.view_is) c.requires.guest in
     (lent_of w.frames slots trusted held ts c.args.g t w.pool w.slots w.shares.entries inside c.index_mut.ensures.value c.self.invariant).frame_out
 
 pub invariant_of-self : goal.invariant_of-self
@@ -52,7 +52,7 @@ invariant_of-self g c =
     let held = g.S.SwapStore.held store in
     let ts = w.tenants.items in
     let t = c.index_mut.result.now in
-    let inside = guest_inside ts c.args.self.now.tenants c.args.g (tenants_of (record { tenants = c.self.inside.tenants.items; pool = c.self.inside.pool; slots = c.self.inside.slots; shares = c.self.inside.shares; store = c.self.inside.store; frames = c.self.inside.frames }) c.args.self.now c.self.view_is) c.requires.guest in
+    let inside = guest_inside ts c.args.self.now.tenants c.args.g (tenants_of (record { tenants = c.self.inside.tenants.items; pool = c.self.inside.pool; slots = c.self.inside.slots; shares = c.self.inside.shares; store = c.self.inside.store; frames = c.self.inside.frames; level = c.self.inside.level }) c.args.self.now c.self.view_is) c.requires.guest in
     let new = c.scan_page.new in
     let e = c.scan_page.ensures in
     sound_after w.frames slots trusted trusted held held ts c.args.g t new.pages w.pool w.slots new.pool w.slots w.shares.entries new.shares.entries
@@ -61,9 +61,9 @@ invariant_of-self g c =
 pub returns-clause-answer : goal.returns-clause-answer
 returns-clause-answer g c = λ t.
     let ts = c.self.inside.tenants.items in
-    let same = tenants_of (record { tenants = c.self.inside.tenants.items; pool = c.self.inside.pool; slots = c.self.inside.slots; shares = c.self.inside.shares; store = c.self.inside.store; frames = c.self.inside.frames }) c.args.self.now c.self.view_is in
+    let same = tenants_of (record { tenants = c.self.inside.tenants.items; pool = c.self.inside.pool; slots = c.self.inside.slots; shares = c.self.inside.shares; store = c.self.inside.store; frames = c.self.inside.frames; level = c.self.inside.level }) c.args.self.now c.self.view_is in
     let at = guest_at ts c.args.self.now.tenants c.args.g c.index_mut.result.now t same (guest_inside ts c.args.self.now.tenants c.args.g same c.requires.guest) c.index_mut.ensures.value in
-    let shares = shares_of (record { tenants = c.self.inside.tenants.items; pool = c.self.inside.pool; slots = c.self.inside.slots; shares = c.self.inside.shares; store = c.self.inside.store; frames = c.self.inside.frames }) c.args.self.now c.self.view_is in
+    let shares = shares_of (record { tenants = c.self.inside.tenants.items; pool = c.self.inside.pool; slots = c.self.inside.slots; shares = c.self.inside.shares; store = c.self.inside.store; frames = c.self.inside.frames; level = c.self.inside.level }) c.args.self.now c.self.view_is in
     let p = c.args.p in
     subst (λ (u : TenantIs). Answered c.args.self.now.shares (pages_in u) (record { guest = c.args.g; page = p }) c.scan_page.result) at
     (subst (λ (s : SharesAre). Answered s (pages_in c.index_mut.result.now) (record { guest = c.args.g; page = p }) c.scan_page.result) shares
@@ -72,11 +72,11 @@ returns-clause-answer g c = λ t.
 pub returns-clause-comes : goal.returns-clause-comes
 returns-clause-comes g c = λ t.
     let ts = c.self.inside.tenants.items in
-    let same = tenants_of (record { tenants = c.self.inside.tenants.items; pool = c.self.inside.pool; slots = c.self.inside.slots; shares = c.self.inside.shares; store = c.self.inside.store; frames = c.self.inside.frames }) c.args.self.now c.self.view_is in
+    let same = tenants_of (record { tenants = c.self.inside.tenants.items; pool = c.self.inside.pool; slots = c.self.inside.slots; shares = c.self.inside.shares; store = c.self.inside.store; frames = c.self.inside.frames; level = c.self.inside.level }) c.args.self.now c.self.view_is in
     let inside = guest_inside ts c.args.self.now.tenants c.args.g same c.requires.guest in
     let old = c.index_mut.result.now in
     let at = guest_at ts c.args.self.now.tenants c.args.g old t same inside c.index_mut.ensures.value in
-    let shares = shares_of (record { tenants = c.self.inside.tenants.items; pool = c.self.inside.pool; slots = c.self.inside.slots; shares = c.self.inside.shares; store = c.self.inside.store; frames = c.self.inside.frames }) c.args.self.now c.self.view_is in
+    let shares = shares_of (record { tenants = c.self.inside.tenants.items; pool = c.self.inside.pool; slots = c.self.inside.slots; shares = c.self.inside.shares; store = c.self.inside.store; frames = c.self.inside.frames; level = c.self.inside.level }) c.args.self.now c.self.view_is in
     let new = c.scan_page.new in
     let came = c.scan_page.ensures.comes in (
       came.0,

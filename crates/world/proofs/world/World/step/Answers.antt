@@ -17,7 +17,7 @@ step_in-requires g c =
     let held = g.S.SwapStore.held store in
     let ts = w.tenants.items in
     let t = c.index_mut.result.now in
-    let inside = guest_inside ts c.args.self.now.tenants c.args.g (tenants_of (record { tenants = c.self.inside.tenants.items; pool = c.self.inside.pool; slots = c.self.inside.slots; shares = c.self.inside.shares; store = c.self.inside.store; frames = c.self.inside.frames }) c.args.self.now c.self.view_is) c.requires in
+    let inside = guest_inside ts c.args.self.now.tenants c.args.g (tenants_of (record { tenants = c.self.inside.tenants.items; pool = c.self.inside.pool; slots = c.self.inside.slots; shares = c.self.inside.shares; store = c.self.inside.store; frames = c.self.inside.frames; level = c.self.inside.level }) c.args.self.now c.self.view_is) c.requires in
     (slots, lent_of w.frames slots trusted held ts c.args.g t w.pool w.slots w.shares.entries inside c.index_mut.ensures.value c.self.invariant)
 
 pub invariant_of-self : goal.invariant_of-self
@@ -29,7 +29,7 @@ invariant_of-self g c =
     let held = g.S.SwapStore.held store in
     let ts = w.tenants.items in
     let t = c.index_mut.result.now in
-    let inside = guest_inside ts c.args.self.now.tenants c.args.g (tenants_of (record { tenants = c.self.inside.tenants.items; pool = c.self.inside.pool; slots = c.self.inside.slots; shares = c.self.inside.shares; store = c.self.inside.store; frames = c.self.inside.frames }) c.args.self.now c.self.view_is) c.requires in
+    let inside = guest_inside ts c.args.self.now.tenants c.args.g (tenants_of (record { tenants = c.self.inside.tenants.items; pool = c.self.inside.pool; slots = c.self.inside.slots; shares = c.self.inside.shares; store = c.self.inside.store; frames = c.self.inside.frames; level = c.self.inside.level }) c.args.self.now c.self.view_is) c.requires in
     sound_after w.frames slots trusted trusted held held ts c.args.g t c.step_in.new.tenant w.pool w.slots c.step_in.new.pool c.step_in.new.slots w.shares.entries c.step_in.new.shares.entries
     inside c.index_mut.ensures.value c.step_in.ensures.conserves c.step_in.ensures.reads (λ trust. trust) (λ trust k. c.step_in.ensures.kept held k) (λ trust slot none. refl) c.self.invariant
 
@@ -42,8 +42,8 @@ returns-clause-need g c = λ trust d.
     let held = g.S.SwapStore.held store in
     let ts = w.tenants.items in
     let t = c.index_mut.result.now in
-    let inside = guest_inside ts c.args.self.now.tenants c.args.g (tenants_of (record { tenants = c.self.inside.tenants.items; pool = c.self.inside.pool; slots = c.self.inside.slots; shares = c.self.inside.shares; store = c.self.inside.store; frames = c.self.inside.frames }) c.args.self.now c.self.view_is) c.requires in
+    let inside = guest_inside ts c.args.self.now.tenants c.args.g (tenants_of (record { tenants = c.self.inside.tenants.items; pool = c.self.inside.pool; slots = c.self.inside.slots; shares = c.self.inside.shares; store = c.self.inside.store; frames = c.self.inside.frames; level = c.self.inside.level }) c.args.self.now c.self.view_is) c.requires in
     let now = subst (λ (x : WorldIs _). g.S.SwapStore.true_to_digests x.store) (sym c.self.view_is) trust in
     let kept = kept_of w.frames slots trusted held ts c.args.g t w.pool w.slots w.shares.entries inside c.index_mut.ensures.value now c.self.invariant in
-    let at = guest_at ts c.args.self.now.tenants c.args.g t d (tenants_of (record { tenants = c.self.inside.tenants.items; pool = c.self.inside.pool; slots = c.self.inside.slots; shares = c.self.inside.shares; store = c.self.inside.store; frames = c.self.inside.frames }) c.args.self.now c.self.view_is) inside c.index_mut.ensures.value in
+    let at = guest_at ts c.args.self.now.tenants c.args.g t d (tenants_of (record { tenants = c.self.inside.tenants.items; pool = c.self.inside.pool; slots = c.self.inside.slots; shares = c.self.inside.shares; store = c.self.inside.store; frames = c.self.inside.frames; level = c.self.inside.level }) c.args.self.now c.self.view_is) inside c.index_mut.ensures.value in
     subst (λ (u : TenantIs). IfOk c.step_in.result (λ s. need_of s ≡ first_lack (lacks_in (pages_in u)) (accesses (view_of u.guest)))) at (c.step_in.ensures.need held kept)

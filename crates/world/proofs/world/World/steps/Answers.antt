@@ -32,4 +32,5 @@ loop-made-preserved g c =
       hints = c.some_steps.ensures.hints ∙ at.invariant.hints;
       store = c.some_steps.ensures.store ∙ at.invariant.store;
       frames = c.some_steps.ensures.frames ∙ at.invariant.frames;
+      level = c.some_steps.ensures.level ∙ at.invariant.level;
     }

@@ -16,6 +16,7 @@ invariant-loop-made g l = record {
   hints : l.self.shares.hints ≡ l.fn.self.shares.hints;
   store : l.self.store ≡ l.fn.self.store;
   frames : l.self.frames ≡ l.fn.self.frames;
+  level : l.self.level ≡ l.fn.self.level;
 }
 
 -- each turn makes a step or is the last

@@ -31,6 +31,7 @@ loop-preserved g c =
       boots = boots ∙ at.invariant.boots;
       hints = c.fault.ensures.hints ∙ c.some_steps.ensures.hints ∙ at.invariant.hints;
       frames = c.fault.ensures.frames ∙ c.some_steps.ensures.frames ∙ at.invariant.frames;
+      level = c.fault.ensures.level ∙ c.some_steps.ensures.level ∙ at.invariant.level;
       slots = c.fault.ensures.slots ∙ ap g.S.SwapStore.slots store ∙ at.invariant.slots;
       honest = (
         λ now. at.invariant.honest.0 (subst g.S.SwapStore.honest store (c.fault.ensures.honest.0 now)),

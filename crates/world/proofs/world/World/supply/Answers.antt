@@ -19,7 +19,7 @@ supply_page-requires-clause-lent g c =
     let held = g.S.SwapStore.held store in
     let ts = w.tenants.items in
     let t = c.index_mut.result.now in
-    let inside = guest_inside ts c.args.self.now.tenants c.args.g (tenants_of (record { tenants = c.self.inside.tenants.items; pool = c.self.inside.pool; slots = c.self.inside.slots; shares = c.self.inside.shares; store = c.self.inside.store; frames = c.self.inside.frames }) c.args.self.now c.self.view_is) c.requires.guest in
+    let inside = guest_inside ts c.args.self.now.tenants c.args.g (tenants_of (record { tenants = c.self.inside.tenants.items; pool = c.self.inside.pool; slots = c.self.inside.slots; shares = c.self.inside.shares; store = c.self.inside.store; frames = c.self.inside.frames; level = c.self.inside.level }) c.args.self.now c.self.view_is) c.requires.guest in
     lent_of w.frames slots trusted held ts c.args.g t w.pool w.slots w.shares.entries inside c.index_mut.ensures.value c.self.invariant
 
 pub invariant_of-self : goal.invariant_of-self
@@ -31,7 +31,7 @@ invariant_of-self g c =
     let held = g.S.SwapStore.held store in
     let ts = w.tenants.items in
     let t = c.index_mut.result.now in
-    let inside = guest_inside ts c.args.self.now.tenants c.args.g (tenants_of (record { tenants = c.self.inside.tenants.items; pool = c.self.inside.pool; slots = c.self.inside.slots; shares = c.self.inside.shares; store = c.self.inside.store; frames = c.self.inside.frames }) c.args.self.now c.self.view_is) c.requires.guest in
+    let inside = guest_inside ts c.args.self.now.tenants c.args.g (tenants_of (record { tenants = c.self.inside.tenants.items; pool = c.self.inside.pool; slots = c.self.inside.slots; shares = c.self.inside.shares; store = c.self.inside.store; frames = c.self.inside.frames; level = c.self.inside.level }) c.args.self.now c.self.view_is) c.requires.guest in
     let new = c.supply_page.new in
     let e = c.supply_page.ensures in
     let held' = g.S.SwapStore.held new.store in
@@ -48,7 +48,7 @@ returns-clause-err g c =
     let held = g.S.SwapStore.held store in
     let ts = w.tenants.items in
     let t = c.index_mut.result.now in
-    let inside = guest_inside ts c.args.self.now.tenants c.args.g (tenants_of (record { tenants = c.self.inside.tenants.items; pool = c.self.inside.pool; slots = c.self.inside.slots; shares = c.self.inside.shares; store = c.self.inside.store; frames = c.self.inside.frames }) c.args.self.now c.self.view_is) c.requires.guest in
+    let inside = guest_inside ts c.args.self.now.tenants c.args.g (tenants_of (record { tenants = c.self.inside.tenants.items; pool = c.self.inside.pool; slots = c.self.inside.slots; shares = c.self.inside.shares; store = c.self.inside.store; frames = c.self.inside.frames; level = c.self.inside.level }) c.args.self.now c.self.view_is) c.requires.guest in
     let e = c.supply_page.ensures in
     let no : c.supply_page.result ≡ Err SwapDamaged → g.S.SwapStore.honest store → ⊥ = λ is honest.
     let kept = kept_of w.frames slots trusted held ts c.args.g t w.pool w.slots w.shares.entries inside c.index_mut.ensures.value (g.met.S.SwapStore.honest_is_true store honest) c.self.invariant in
@@ -65,5 +65,5 @@ returns-clause-unchanged g c =
     let held = g.S.SwapStore.held store in
     let ts = w.tenants.items in
     let t = c.index_mut.result.now in
-    let inside = guest_inside ts c.args.self.now.tenants c.args.g (tenants_of (record { tenants = c.self.inside.tenants.items; pool = c.self.inside.pool; slots = c.self.inside.slots; shares = c.self.inside.shares; store = c.self.inside.store; frames = c.self.inside.frames }) c.args.self.now c.self.view_is) c.requires.guest in
-    on_err_weaker c.supply_page.result (λ same. same_guests ts c.args.g t c.supply_page.new.pages inside c.index_mut.ensures.value c.supply_page.ensures.rest same ∙ tenants_of (record { tenants = c.self.inside.tenants.items; pool = c.self.inside.pool; slots = c.self.inside.slots; shares = c.self.inside.shares; store = c.self.inside.store; frames = c.self.inside.frames }) c.args.self.now c.self.view_is) c.supply_page.ensures.unchanged
+    let inside = guest_inside ts c.args.self.now.tenants c.args.g (tenants_of (record { tenants = c.self.inside.tenants.items; pool = c.self.inside.pool; slots = c.self.inside.slots; shares = c.self.inside.shares; store = c.self.inside.store; frames = c.self.inside.frames; level = c.self.inside.level }) c.args.self.now c.self.view_is) c.requires.guest in
+    on_err_weaker c.supply_page.result (λ same. same_guests ts c.args.g t c.supply_page.new.pages inside c.index_mut.ensures.value c.supply_page.ensures.rest same ∙ tenants_of (record { tenants = c.self.inside.tenants.items; pool = c.self.inside.pool; slots = c.self.inside.slots; shares = c.self.inside.shares; store = c.self.inside.store; frames = c.self.inside.frames; level = c.self.inside.level }) c.args.self.now c.self.view_is) c.supply_page.ensures.unchanged

@@ -24,6 +24,7 @@ loop-guest-preserved g c =
       booted = one_booted c.args.log_runs at.yielded guest at.world.tenants world.tenants e.count e.tenants e.booted at.invariant.booted;
       shares = e.shares ∙ at.invariant.shares;
       frames = e.frames ∙ at.invariant.frames;
+      level = e.level ∙ at.invariant.level;
       slots = e.slots ∙ at.invariant.slots;
       honest = (λ now. at.invariant.honest.0 (e.honest.0 now), λ before. e.honest.1 (at.invariant.honest.1 before));
       trust = (λ now. at.invariant.trust.0 (e.true_to_digests.0 now), λ before. e.true_to_digests.1 (at.invariant.trust.1 before));

@@ -13,6 +13,7 @@ invariant-loop-guest g l = record {
   booted : AreBooted l.log_runs l.yielded l.world.tenants;
   shares : l.world.shares ≡ l.fn.self.shares;
   frames : l.world.frames ≡ l.fn.self.frames;
+  level : l.world.level ≡ l.fn.self.level;
   slots : g.S.SwapStore.slots l.world.store ≡ g.S.SwapStore.slots l.fn.self.store;
   honest : g.S.SwapStore.honest l.world.store ↔ g.S.SwapStore.honest l.fn.self.store;
   trust : g.S.SwapStore.true_to_digests l.world.store ↔ g.S.SwapStore.true_to_digests l.fn.self.store;

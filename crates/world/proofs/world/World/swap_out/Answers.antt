@@ -1,0 +1,13 @@
+use Rattle.std.proofs.Common.{◌<◌, sym, subst}
+use Rattle.physmap.specs.Holdings.{resident_pages}
+use Rattle.tenant.specs.Tenants.{TenantIs, pages_in}
+use Rattle.world.proofs.Turning.{still_err}
+use Rattle.world.proofs.world.World.swap_out.Goals as goal
+
+pub drawn_page-p-requires : goal.drawn_page-p-requires
+drawn_page-p-requires g c =
+    let t = c.guest.result.now in
+    subst (λ (u : TenantIs). u.minimum < resident_pages (pages_in u)) (sym (c.guest.ensures t)) (c.requires.more t)
+
+pub returns-clause-err : goal.returns-clause-err
+returns-clause-err g c = still_err c.evict_of.result c.args.self.now.slots c.evict_of.new.self.slots _ c.evict_of.ensures.slots_unchanged c.evict_of.ensures.err

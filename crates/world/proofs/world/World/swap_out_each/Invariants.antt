@@ -1,0 +1,20 @@
+use Rattle.std.proofs.Common.{◌≡◌, ◌↔◌, length}
+use Rattle.world.specs.Turns.{AreFewer, SameFrom}
+use Rattle.world.specs.Victims.{OnlyPagesMove}
+use Rattle.world.proofs.world.World.swap_out_each.Given as goal
+
+-- the guests so far have lost their pages, the others are as they were, and no call of the store has failed
+abbrev pub invariant-loop-g : goal.invariant-loop-g
+invariant-loop-g w l = record {
+  count : length l.self.tenants ≡ length l.fn.self.tenants;
+  moves : OnlyPagesMove l.fn.self.tenants l.self.tenants;
+  fewer : AreFewer l.actions l.g l.fn.self.tenants l.self.tenants;
+  others : SameFrom l.g l.fn.self.tenants l.self.tenants;
+  failed : w.S.SwapStore.failed l.self.store ≡ w.S.SwapStore.failed l.fn.self.store;
+  hints : l.self.shares.hints ≡ l.fn.self.shares.hints;
+  frames : l.self.frames ≡ l.fn.self.frames;
+  level : l.self.level ≡ l.fn.self.level;
+  slots : w.S.SwapStore.slots l.self.store ≡ w.S.SwapStore.slots l.fn.self.store;
+  honest : w.S.SwapStore.honest l.self.store ↔ w.S.SwapStore.honest l.fn.self.store;
+  trust : w.S.SwapStore.true_to_digests l.self.store ↔ w.S.SwapStore.true_to_digests l.fn.self.store;
+}

@@ -1,0 +1,23 @@
+use Rattle.std.proofs.Common.{◌∙◌, get_or, length-set, ap, length, arith}
+use Rattle.world.proofs.Turning.{one_loses_more}
+use Rattle.world.proofs.Victims.{some_tenant}
+use Rattle.world.proofs.world.World.swap_out_pages.Goals as goal
+
+pub loop-preserved : goal.loop-preserved
+loop-preserved g c =
+    let at = c.loop in
+    let mid = at.self.tenants in
+    let ts' = c.swap_out.new.self.tenants in
+    let d = some_tenant mid c.args.g at.invariant.inside in
+    let e = c.swap_out.ensures in
+    record {
+      inside = omega (arith, at.invariant.inside, ap length (c.in_ok-swap_out.ensures.loses.one d), length-set mid c.args.g (get_or ts' c.args.g d));
+      loses = one_loses_more at.counter 1 c.args.g c.args.self.now.tenants mid ts' at.invariant.loses c.in_ok-swap_out.ensures.loses;
+      failed = c.in_ok-swap_out.ensures.no_failure ∙ at.invariant.failed;
+      hints = e.hints ∙ at.invariant.hints;
+      frames = e.frames ∙ at.invariant.frames;
+      level = e.level ∙ at.invariant.level;
+      slots = e.slots ∙ at.invariant.slots;
+      honest = (λ now. at.invariant.honest.0 (e.honest.0 now), λ before. e.honest.1 (at.invariant.honest.1 before));
+      trust = (λ now. at.invariant.trust.0 (e.true_to_digests.0 now), λ before. e.true_to_digests.1 (at.invariant.trust.1 before));
+    }

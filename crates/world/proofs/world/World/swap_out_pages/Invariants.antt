@@ -1,0 +1,18 @@
+use Rattle.std.proofs.Common.{◌≡◌, ◌<◌, ◌↔◌, length}
+use Rattle.world.specs.Turns.{LosesPages}
+use Rattle.world.specs.Worlds.{Changes}
+use Rattle.world.proofs.world.World.swap_out_pages.Given as goal
+
+-- one page has left its frame in each turn so far, and no call of the store has failed
+abbrev pub invariant-loop : goal.invariant-loop
+invariant-loop g l = record {
+  inside : l.g < length l.self.tenants;
+  loses : Changes (LosesPages l.counter) l.g l.fn.self.tenants l.self.tenants;
+  failed : g.S.SwapStore.failed l.self.store ≡ g.S.SwapStore.failed l.fn.self.store;
+  hints : l.self.shares.hints ≡ l.fn.self.shares.hints;
+  frames : l.self.frames ≡ l.fn.self.frames;
+  level : l.self.level ≡ l.fn.self.level;
+  slots : g.S.SwapStore.slots l.self.store ≡ g.S.SwapStore.slots l.fn.self.store;
+  honest : g.S.SwapStore.honest l.self.store ↔ g.S.SwapStore.honest l.fn.self.store;
+  trust : g.S.SwapStore.true_to_digests l.self.store ↔ g.S.SwapStore.true_to_digests l.fn.self.store;
+}

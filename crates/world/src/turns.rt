@@ -1,0 +1,179 @@
+//! Turns of the policy: the level of free memory, and what is asked of each guest for it.
+ghost use Rattle.std.specs.Prelude.{◌≡◌, count_by};
+ghost use Rattle.tenant.specs.Turns.{is_left_out};
+
+use crate::World;
+use crate::faulting::{drawn_page, stats_of};
+use rand_core::Rng;
+use reclaim::{Action, Level, plan};
+use std::alloc::{AllocError, Global};
+use swapstore::SwapStore;
+use taxpolicy::Tax;
+use tenant::{Aim, EvictError};
+
+/// What became of a turn of the policy.
+#[derive(Debug, Drop)]
+pub struct Turn {
+    /// The level in this turn.
+    pub level: Level,
+    /// What became of each guest's balloon target, in the order of the guests.
+    pub aims: Vec<Aim>,
+    /// Why a page that was to be swapped out stayed in its frame, where one did: none was swapped out after it.
+    pub refused: Option<EvictError>,
+}
+
+impl Turn {
+    /// How many guests keep their balloon targets though others were wanted.
+    pub fn left_out(&self) -> usize
+        ensures { result ≡ count_by is_left_out self.now.aims.items }
+    {
+        self.aims.iter().filter(|aim| aim.is_left_out()).count()
+    }
+}
+
+impl<S: SwapStore> World<S> {
+    ghost use Rattle.std.specs.Prelude.{◌≡◌, ◌+◌, ◌<◌, ◌↔◌, ℕ, None, Some, IfOk, IfErr, OnOk, OnErr, length, slice_index_or};
+    ghost use Rattle.rand_core.specs.Stream.{next_u32};
+    ghost use Rattle.physmap.specs.Holdings.{resident_pages};
+    ghost use Rattle.swapstore.specs.Failures.{one_more};
+    ghost use Rattle.paging.specs.Moves.{SameNumbers};
+    ghost use Rattle.reclaim.specs.declared.turn.Action.{Action};
+    ghost use Rattle.tenant.specs.Lent.{WhyStays};
+    ghost use Rattle.tenant.specs.Tenants.{TenantIs, pages_in};
+    ghost use Rattle.world.specs.Turns.{IsTurned, AreTurned, LosesPages, MayLose, AreFewer, AreCutShort, IsTurn};
+    ghost use Rattle.world.specs.Victims.{OnlyPagesMove};
+    ghost use Rattle.world.specs.Worlds.{Changes, SameAround};
+
+    // What a turn does to a guest beside swapping out.
+    fn turn_guest(&mut self, g: usize, action: Action) -> Aim
+        requires { g < length self.old.tenants }
+        ensures turned { Changes (λ t t'. IsTurned action t result t') g self.old.tenants self.new.tenants }
+        ensures around { SameAround self.old self.new }
+    {
+        self.tenants[g].turn(action)
+    }
+
+    // What a turn does to each guest beside swapping out.
+    fn turn_each(&mut self, alloc: Global, actions: &[Action]) -> Result<Vec<Aim>, AllocError>
+        requires { length actions.now ≡ length self.old.tenants }
+        ensures turned { IfOk result (λ aims. AreTurned actions.now self.old.tenants aims.items self.new.tenants) }
+        ensures around { SameAround self.old self.new }
+        ensures unchanged { OnErr result (self.new ≡ self.old) }
+    {
+        let mut aims = Vec::with_capacity(alloc, actions.len())?;
+        for g in 0..actions.len() {
+            let aim = self.turn_guest(g, actions[g]);
+            aims.push_reserved(aim);
+        }
+        Ok(aims)
+    }
+
+    // A page of a guest leaves its frame for a slot: the one that the generator's next word draws.
+    fn swap_out<R: Rng>(&mut self, g: usize, rng: &mut R) -> Result<(), EvictError>
+        requires guest { g < length self.old.tenants }
+        requires more { (t : TenantIs) → (slice_index_or self.old.tenants g t).minimum < resident_pages (pages_in (slice_index_or self.old.tenants g t)) }
+        ensures loses { OnOk result (Changes (LosesPages 1) g self.old.tenants self.new.tenants) }
+        ensures unchanged { OnErr result (self.new.tenants ≡ self.old.tenants) }
+        ensures err { IfErr result (WhyStays self.new.slots (S.failed self.new.store ≡ one_more (S.failed self.old.store))) }
+        ensures no_failure { OnOk result (S.failed self.new.store ≡ S.failed self.old.store) }
+        ensures rest { R.stream rng.new ≡ (next_u32 (R.stream rng.old)).1 }
+        ensures hints { self.new.shares.hints ≡ self.old.shares.hints }
+        ensures frames { self.new.frames ≡ self.old.frames }
+        ensures level { self.new.level ≡ self.old.level }
+        ensures slots { S.slots self.new.store ≡ S.slots self.old.store }
+        ensures honest { S.honest self.new.store ↔ S.honest self.old.store }
+        ensures true_to_digests { S.true_to_digests self.new.store ↔ S.true_to_digests self.old.store }
+    {
+        let p = drawn_page(self.guest(g), &None, rng);
+        self.evict_of(g, p)
+    }
+
+    // So many pages of a guest leave their frames, one after another, or up to the first one that stays.
+    fn swap_out_pages<R: Rng>(
+        &mut self,
+        g: usize,
+        count: u32,
+        rng: &mut R,
+    ) -> Result<(), EvictError>
+        requires guest { g < length self.old.tenants }
+        requires more { (t : TenantIs) → MayLose count (slice_index_or self.old.tenants g t) }
+        ensures loses { OnOk result (Changes (LosesPages count) g self.old.tenants self.new.tenants) }
+        ensures fewer { OnErr result ((lost : ℕ) × (lost < count) × Changes (LosesPages lost) g self.old.tenants self.new.tenants) }
+        ensures err { IfErr result (WhyStays self.new.slots (S.failed self.new.store ≡ one_more (S.failed self.old.store))) }
+        ensures no_failure { OnOk result (S.failed self.new.store ≡ S.failed self.old.store) }
+        ensures hints { self.new.shares.hints ≡ self.old.shares.hints }
+        ensures frames { self.new.frames ≡ self.old.frames }
+        ensures level { self.new.level ≡ self.old.level }
+        ensures slots { S.slots self.new.store ≡ S.slots self.old.store }
+        ensures honest { S.honest self.new.store ↔ S.honest self.old.store }
+        ensures true_to_digests { S.true_to_digests self.new.store ↔ S.true_to_digests self.old.store }
+    {
+        for _ in 0..count {
+            self.swap_out(g, rng)?;
+        }
+        Ok(())
+    }
+
+    // The pages that the actions swap out leave their frames, guest after guest, or up to the first one that stays.
+    fn swap_out_each<R: Rng>(&mut self, actions: &[Action], rng: &mut R) -> Result<(), EvictError>
+        requires count { length actions.now ≡ length self.old.tenants }
+        requires more { (g : ℕ) (t : TenantIs) (a : Action) → g < length self.old.tenants →
+            MayLose (slice_index_or actions.now g a).swap_out (slice_index_or self.old.tenants g t) }
+        ensures moves { OnlyPagesMove self.old.tenants self.new.tenants }
+        ensures all { OnOk result (AreFewer actions.now (length self.old.tenants) self.old.tenants self.new.tenants) }
+        ensures short { OnErr result (AreCutShort actions.now self.old.tenants self.new.tenants) }
+        ensures err { IfErr result (WhyStays self.new.slots (S.failed self.new.store ≡ one_more (S.failed self.old.store))) }
+        ensures hints { self.new.shares.hints ≡ self.old.shares.hints }
+        ensures frames { self.new.frames ≡ self.old.frames }
+        ensures level { self.new.level ≡ self.old.level }
+        ensures slots { S.slots self.new.store ≡ S.slots self.old.store }
+        ensures honest { S.honest self.new.store ↔ S.honest self.old.store }
+        ensures true_to_digests { S.true_to_digests self.new.store ↔ S.true_to_digests self.old.store }
+    {
+        for g in 0..actions.len() {
+            self.swap_out_pages(g, actions[g].swap_out, rng)?;
+        }
+        Ok(())
+    }
+
+    // The level is another. All else stays.
+    fn set_level(&mut self, level: Level)
+        ensures { self.new ≡ record self.old { level = level } }
+    {
+        self.level = level;
+    }
+
+    /// A turn of the policy (`reclaim::plan`): from how many frames are free comes the level, and from the level and what the policy knows
+    /// of the guests what is asked of each. First each guest is blocked or goes on, and its balloon's target is set where the plan has
+    /// another one, by an item of seat 2; a guest whose log has no room for the item keeps its target. Then, guest after guest in the
+    /// order of their numbers, as many pages leave their frames for slots as the plan has, each the first resident one at or after the
+    /// generator's next word modulo the guest's pages, going round; the first one that stays, because no slot is free or the store
+    /// failed to write it, is the last that is tried.
+    ///
+    /// `AllocError` where there is no memory for the plan: nothing has changed then.
+    pub fn level_turn<R: Rng>(
+        &mut self,
+        alloc: Global,
+        tax: Tax,
+        rng: &mut R,
+    ) -> Result<Turn, AllocError>
+        ensures turn { IfOk result (λ turn. IsTurn tax.percent (S.failed self.new.store ≡ one_more (S.failed self.old.store)) self.old turn self.new) }
+        ensures unchanged { OnErr result (self.new ≡ self.old) }
+        ensures hints { self.new.shares.hints ≡ self.old.shares.hints }
+        ensures frames { self.new.frames ≡ self.old.frames }
+        ensures slots { S.slots self.new.store ≡ S.slots self.old.store }
+        ensures honest { S.honest self.new.store ↔ S.honest self.old.store }
+        ensures true_to_digests { S.true_to_digests self.new.store ↔ S.true_to_digests self.old.store }
+    {
+        let stats = stats_of(alloc, self.tenants())?;
+        let plan = plan(alloc, self.level, &stats, self.free(), self.frames, tax)?;
+        let aims = self.turn_each(alloc, &plan.actions)?;
+        self.set_level(plan.level);
+        let refused = self.swap_out_each(&plan.actions, rng).err();
+        Ok(Turn {
+            level: plan.level,
+            aims,
+            refused,
+        })
+    }
+}

@@ -1,0 +1,431 @@
+//! Turns of the policy in worlds of two guests of 60 pages and equal shares, over 100 frames. Six of the frames are to stay free, so where
+//! the guests fill 94 or more, each with at least 47, the targets are 47 pages each.
+use crate::event_tests::{TAX, expect};
+use elf32::Image;
+use guest::Stop;
+use items::{Item, SeatNo, What};
+use physmap::PageKind;
+use rand_core::{Rng, SeedableRng};
+use rand_pcg::Pcg32;
+use reclaim::Level;
+use std::alloc::Global;
+use std::process::Abort;
+use std::sync::Arc;
+use swapstore::{FaultStore, MemStore, Op};
+use tenant::{Aim, EvictError};
+use word32::Ppn;
+use world::{Answer, Config, Event, NewGuest, Turn, World};
+
+/// How many pages each guest has.
+const PAGES: usize = 60;
+
+/// A number of a write that is never made.
+const NEVER: u64 = 1_000_000;
+
+type Worlds = World<FaultStore<MemStore>>;
+
+/// A guest whose image is one page of zeros.
+fn guest(rt: &impl Abort, alloc: Global) -> NewGuest {
+    let mut bytes = Vec::new(alloc);
+    if bytes.push(0).is_err() {
+        panic!(rt; "no memory for the byte");
+    }
+    if bytes.len() > 4096 {
+        panic!(rt; "too many bytes");
+    }
+    let Ok(image) = Image::raw(alloc, bytes) else {
+        panic!(rt; "no memory for the image");
+    };
+    let Ok(image) = Arc::new(alloc, image) else {
+        panic!(rt; "no memory for the image");
+    };
+    NewGuest {
+        image,
+        pages: PAGES as u32,
+        shares: 100,
+        minimum: 2,
+    }
+}
+
+/// Two guests with just page 0 in a frame, whose logs may have 16 runs, over this many slots, of which the k-th write fails.
+fn booted(rt: &impl Abort, alloc: Global, slots: u32, k: u64) -> Worlds {
+    let mut guests = Vec::new(alloc);
+    for _ in 0..2 {
+        if guests.push(guest(rt, alloc)).is_err() {
+            panic!(rt; "no memory for the guests");
+        }
+    }
+    let Ok(store) = MemStore::new(alloc, slots) else {
+        panic!(rt; "no memory for the store");
+    };
+    let config = Config {
+        frames: 100,
+        log_runs: 16,
+        admit: false,
+    };
+    match World::boot(
+        alloc,
+        config,
+        guests,
+        FaultStore::new(store, Op::Write, k.max(1)),
+    ) {
+        Ok(world) => world,
+        Err((error, _store)) => panic!(rt; "no world: {error:?}"),
+    }
+}
+
+/// What an event is answered for which no word is drawn, and which is proper.
+fn supply(rt: &impl Abort, alloc: Global, world: &mut Worlds, g: usize, p: usize) {
+    if p >= PAGES {
+        panic!(rt; "there is no page {p}");
+    }
+    let event = Event::Supply(g, Ppn::new(p as u32));
+    match world.apply(alloc, event, TAX, &mut Pcg32::seed_from_u64(1)) {
+        Answer::Supplied(Ok(())) => {}
+        _ => panic!(rt; "page {p} of guest {g} gets no frame"),
+    }
+}
+
+/// The first pages of both guests get frames, this many of each.
+fn fill(rt: &impl Abort, alloc: Global, world: &mut Worlds, counts: [usize; 2]) {
+    for g in 0..2 {
+        for p in 0..counts[g] {
+            supply(rt, alloc, world, g, p);
+        }
+    }
+}
+
+/// Two guests with this many of their first pages in frames.
+fn filled(rt: &impl Abort, alloc: Global, slots: u32, k: u64, counts: [usize; 2]) -> Worlds {
+    let mut world = booted(rt, alloc, slots, k);
+    fill(rt, alloc, &mut world, counts);
+    world
+}
+
+/// A turn of the policy.
+fn turn(rt: &impl Abort, alloc: Global, world: &mut Worlds, rng: &mut Pcg32) -> Turn {
+    match world.apply(alloc, Event::Level, TAX, rng) {
+        Answer::Turned(Ok(turn)) => turn,
+        _ => panic!(rt; "no turn"),
+    }
+}
+
+/// How many pages of the guests are in frames.
+fn residents(rt: &impl Abort, world: &Worlds) -> (u32, u32) {
+    if world.count() != 2 {
+        panic!(rt; "not two guests");
+    }
+    (world.guest(0).resident(), world.guest(1).resident())
+}
+
+/// Whether the guests are blocked.
+fn blocked(rt: &impl Abort, world: &Worlds) -> (bool, bool) {
+    if world.count() != 2 {
+        panic!(rt; "not two guests");
+    }
+    (world.guest(0).is_blocked(), world.guest(1).is_blocked())
+}
+
+/// Checks a turn: its level, what became of the balloon targets, why it ended early, and how many pages are in frames after it.
+fn check(
+    rt: &impl Abort,
+    alloc: Global,
+    world: &mut Worlds,
+    level: Level,
+    aims: [Aim; 2],
+    refused: Option<EvictError>,
+    after: (u32, u32),
+) {
+    let made = turn(rt, alloc, world, &mut Pcg32::seed_from_u64(7));
+    expect(rt, "the level", made.level, level);
+    expect(rt, "the world's level", world.level(), level);
+    assert!(rt;
+        made.aims.as_slice() == aims.as_slice(),
+        "targets: {:?}",
+        made.aims
+    );
+    expect(rt, "the end", made.refused, refused);
+    expect(rt, "resident pages", residents(rt, world), after);
+}
+
+#[test]
+fn balloons_inflate_and_deflate(rt: HostRuntime) {
+    let alloc = rt.alloc();
+    let mut world = filled(&rt, alloc, 20, NEVER, [49, 47]);
+    // 4 of 100 are free
+    check(
+        &rt,
+        alloc,
+        &mut world,
+        Level::High,
+        [Aim::Kept, Aim::Kept],
+        None,
+        (49, 47),
+    );
+    supply(&rt, alloc, &mut world, 0, 49);
+    check(
+        &rt,
+        alloc,
+        &mut world,
+        Level::Soft,
+        [Aim::Set(3), Aim::Kept],
+        None,
+        (50, 47),
+    );
+    // the same target once more makes no item
+    check(
+        &rt,
+        alloc,
+        &mut world,
+        Level::Soft,
+        [Aim::Kept, Aim::Kept],
+        None,
+        (50, 47),
+    );
+    supply(&rt, alloc, &mut world, 0, 50);
+    check(
+        &rt,
+        alloc,
+        &mut world,
+        Level::Soft,
+        [Aim::Set(4), Aim::Kept],
+        None,
+        (51, 47),
+    );
+    supply(&rt, alloc, &mut world, 0, 51);
+    // one is free: five pages are swapped out, and balloons stay
+    check(
+        &rt,
+        alloc,
+        &mut world,
+        Level::Hard,
+        [Aim::Kept, Aim::Kept],
+        None,
+        (47, 47),
+    );
+    check(
+        &rt,
+        alloc,
+        &mut world,
+        Level::High,
+        [Aim::Set(0), Aim::Kept],
+        None,
+        (47, 47),
+    );
+    expect(&rt, "slots", world.slots_used(), 5);
+    let _store = world.close();
+}
+
+/// What a guest's step is answered.
+fn step(alloc: Global, world: &mut Worlds, event: Event) -> &'static str {
+    match world.apply(alloc, event, TAX, &mut Pcg32::seed_from_u64(1)) {
+        Answer::Blocked => "blocked",
+        Answer::Stepped(_) => "stepped",
+        Answer::Ran(_) => "ran",
+        _ => "neither",
+    }
+}
+
+#[test]
+fn a_guest_above_its_target_is_blocked_at_low(rt: HostRuntime) {
+    let alloc = rt.alloc();
+    let mut world = filled(&rt, alloc, 20, NEVER, [53, 47]);
+    expect(&rt, "nobody yet", blocked(&rt, &world), (false, false));
+    check(
+        &rt,
+        alloc,
+        &mut world,
+        Level::Low,
+        [Aim::Kept, Aim::Kept],
+        None,
+        (47, 47),
+    );
+    expect(&rt, "guest 0", blocked(&rt, &world), (true, false));
+    expect(
+        &rt,
+        "a step",
+        step(alloc, &mut world, Event::Step(0)),
+        "blocked",
+    );
+    expect(
+        &rt,
+        "no step",
+        step(alloc, &mut world, Event::Steps(0, 0)),
+        "blocked",
+    );
+    expect(
+        &rt,
+        "steps",
+        step(alloc, &mut world, Event::Run(0, 5)),
+        "blocked",
+    );
+    expect(
+        &rt,
+        "another's",
+        step(alloc, &mut world, Event::Step(1)),
+        "stepped",
+    );
+    expect(
+        &rt,
+        "others'",
+        step(alloc, &mut world, Event::Steps(1, 0)),
+        "ran",
+    );
+    // six are free
+    check(
+        &rt,
+        alloc,
+        &mut world,
+        Level::High,
+        [Aim::Kept, Aim::Kept],
+        None,
+        (47, 47),
+    );
+    expect(&rt, "nobody", blocked(&rt, &world), (false, false));
+    expect(
+        &rt,
+        "a step",
+        step(alloc, &mut world, Event::Step(0)),
+        "stepped",
+    );
+    let _store = world.close();
+}
+
+#[test]
+fn swapping_out_ends_where_a_page_stays(rt: HostRuntime) {
+    let alloc = rt.alloc();
+    for k in 0..6 {
+        let mut world = filled(&rt, alloc, 20, k + 1, [53, 47]);
+        let left = 53 - k as u32;
+        let why = Some(EvictError::SwapWrite);
+        check(
+            &rt,
+            alloc,
+            &mut world,
+            Level::Low,
+            [Aim::Kept, Aim::Kept],
+            why,
+            (left, 47),
+        );
+        expect(&rt, "blocked", blocked(&rt, &world), (true, false));
+        let _store = world.close();
+    }
+    for slots in 0..6 {
+        let mut world = filled(&rt, alloc, slots, NEVER, [53, 47]);
+        let left = 53 - slots;
+        let why = Some(EvictError::NoSwap);
+        check(
+            &rt,
+            alloc,
+            &mut world,
+            Level::Low,
+            [Aim::Kept, Aim::Kept],
+            why,
+            (left, 47),
+        );
+        let _store = world.close();
+    }
+}
+
+#[test]
+fn guests_lose_pages_one_after_another(rt: HostRuntime) {
+    let alloc = rt.alloc();
+    // three of each leave; of four slots, guest 0's pages take three
+    let mut world = filled(&rt, alloc, 4, NEVER, [50, 50]);
+    let why = Some(EvictError::NoSwap);
+    check(
+        &rt,
+        alloc,
+        &mut world,
+        Level::Low,
+        [Aim::Kept, Aim::Kept],
+        why,
+        (47, 49),
+    );
+    expect(&rt, "both", blocked(&rt, &world), (true, true));
+    let _store = world.close();
+}
+
+/// A byte of input, which is a run of its own after a target.
+fn input(alloc: Global, world: &mut Worlds, what: What) {
+    let item = Item {
+        seat: SeatNo::new(1),
+        what,
+    };
+    let _answer = world.apply(
+        alloc,
+        Event::Input(0, item),
+        TAX,
+        &mut Pcg32::seed_from_u64(1),
+    );
+}
+
+#[test]
+fn a_guest_whose_log_is_full_is_left_out(rt: HostRuntime) {
+    let alloc = rt.alloc();
+    let mut world = filled(&rt, alloc, 20, NEVER, [50, 47]);
+    for _ in 0..8 {
+        input(alloc, &mut world, What::Drain);
+        input(alloc, &mut world, What::Target(5));
+    }
+    let made = turn(&rt, alloc, &mut world, &mut Pcg32::seed_from_u64(7));
+    expect(&rt, "the level", made.level, Level::Soft);
+    expect(&rt, "left out", made.left_out(), 1);
+    if made.aims.len() != 2 {
+        panic!(&rt; "not two guests");
+    }
+    expect(&rt, "guest 0", made.aims[0], Aim::LeftOut(Stop::LogFull));
+    expect(&rt, "guest 1", made.aims[1], Aim::Kept);
+    expect(
+        &rt,
+        "its target",
+        world.guest(0).guest().view().devices.target(),
+        5,
+    );
+    let _store = world.close();
+}
+
+/// Which pages of guest 0 are in frames, as a place in `resident` for each.
+fn in_frames(rt: &impl Abort, world: &Worlds) -> [bool; PAGES] {
+    if world.count() != 2 {
+        panic!(rt; "not two guests");
+    }
+    let mut resident = [false; PAGES];
+    for p in 0..PAGES {
+        resident[p] = world.kind(0, Ppn::new(p as u32)) == Some(PageKind::Private);
+    }
+    resident
+}
+
+/// The first page at or after one that is in a frame, going round.
+fn next_resident(resident: &[bool; PAGES], start: usize) -> usize {
+    for k in 0..PAGES {
+        let p = (start % PAGES + k) % PAGES;
+        if resident[p] {
+            return p;
+        }
+    }
+    0
+}
+
+#[test]
+fn pages_are_drawn_by_the_words_of_the_generator(rt: HostRuntime) {
+    let alloc = rt.alloc();
+    for seed in 0..20 {
+        let mut world = filled(&rt, alloc, 20, NEVER, [53, 47]);
+        let mut rng = Pcg32::seed_from_u64(seed);
+        let mut twin = Pcg32::seed_from_u64(seed);
+        let mut wanted = in_frames(&rt, &world);
+        for _ in 0..6 {
+            let word = twin.next_u32() as usize;
+            let p = next_resident(&wanted, word % PAGES);
+            wanted[p] = false;
+        }
+        let made = turn(&rt, alloc, &mut world, &mut rng);
+        expect(&rt, "the level", made.level, Level::Low);
+        let found = in_frames(&rt, &world);
+        assert!(&rt; found == wanted, "seed {seed}");
+        expect(&rt, "no word more", rng.next_u32(), twin.next_u32());
+        let _store = world.close();
+    }
+}
