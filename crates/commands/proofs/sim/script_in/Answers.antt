@@ -6,8 +6,7 @@ use Rattle.commands.proofs.sim.script_in.Goals as goal
 pub returns-then-is_known-clause-events : goal.returns-then-is_known-clause-events
 returns-then-is_known-clause-events c =
     let script = c.in-Ok.script in
-    let known = c.is_known.ensures.0 c.if-is_known.true in
-    all_for script.header.guests.items script.header.slots script.events.items c.in-Ok.ensures.allowed known.events
+    all_for script.header.guests.items script.header.slots script.events.items c.in-Ok.ensures.allowed
 
 pub returns-in-Ok-clause-faults : goal.returns-in-Ok-clause-faults
 returns-in-Ok-clause-faults c = refused c.args.text.now (script_view c.in-Ok.script) c.in-Ok.ensures.script (λ known. not_both c.is_known.result (c.is_known.ensures.1 known) c.if-is_known.false)
