@@ -170,6 +170,7 @@ pub fn supply_page<P: Pages, S: SwapStore>(
         (S.honest store.old → IsDamaged (S.held store.old (slot_of (page_at (P.pages pages.old) p))) (digest_of (page_at (P.pages pages.old) p)))) }
     ensures undamaged { IsErrOf result SupplyError.SwapDamaged → S.honest store.old → (view : ℕ → List ℕ) →
         Kept (S.held store.old) view (P.pages pages.old) → ⊥ }
+    ensures no_failure { OnOk result (S.failed store.new ≡ S.failed store.old) }
     ensures unchanged { OnErr result (P.pages pages.new ≡ P.pages pages.old) }
     ensures shares_unchanged { OnErr result (shares.new ≡ shares.old) }
     ensures pool_unchanged { OnErr result (SameNumbers pool.old pool.new) }

@@ -1,13 +1,16 @@
 -- One guest more is booted, and why a world is not.
-use Rattle.std.proofs.Common.{All, ℕ, ◌≡◌, ◌+◌, inl, inr, List, [], ◌∷◌, ◌++◌, length, get_or, sym, ap, subst, ◌∙◌, arith, length-append}
+use Rattle.std.proofs.Common.{All, ℕ, suc, ◌≡◌, ◌+◌, ◌-◌, ◌≤◌, sum_by, refl, inl, inr, List, [], ◌∷◌, ◌++◌, length, get_or, sym, ap, subst, ◌∙◌, arith, length-append}
 use Rattle.std.proofs.lemmas.Bool.{cases_lt}
 use Rattle.std.proofs.lemmas.List.{get_or_append_left}
+use Rattle.std.proofs.lemmas.List.Elements.{All-head, All-tail}
+use Rattle.std.proofs.lemmas.List.Sums.{sum_by-cons}
 use Rattle.world.specs.declared.boot.Config.{Config}
 use Rattle.world.specs.declared.boot.NewGuest.{NewGuest}
 use Rattle.tenant.specs.declared.loading.BootError.{BootError}
 use Rattle.tenant.specs.declared.loading.BootError.TheVariants as error
-use Rattle.tenant.specs.Tenants.{TenantIs, IsBooted}
-use Rattle.world.specs.Boots.{AreWithinLimits, HoldsImage, AreAdmitted, AreBooted, WhyNotBooted}
+use Rattle.tenant.specs.Tenants.{TenantIs, pages_in, IsBooted}
+use Rattle.world.specs.Admission.{IsAdmitted}
+use Rattle.world.specs.Boots.{IsWithinLimits, AreWithinLimits, HoldsImage, HasFramesFor, HasSlotsFor, AreAdmitted, AreBooted, WhyNotBooted}
 use Rattle.tenant.specs.Loading.{IsOfLoading}
 use Rattle.world.proofs.Worlds.{get_last}
 
@@ -44,3 +47,46 @@ why_of_loading config slots guests error.AdmitSlots is i = absurd i
 why_of_loading config slots guests error.Room is i = is
 why_of_loading config slots guests error.Store is i = is
 why_of_loading config slots guests error.Memory is i = is
+
+-- ---- guests that are admitted
+
+one_fewer : (runs : ℕ) (guest : NewGuest) (guests : List NewGuest) (t : TenantIs) (ts : List TenantIs) → AreBooted runs (guest ∷ guests) (t ∷ ts) → AreBooted runs guests ts
+one_fewer runs guest guests t ts b = record { count = omega (arith, b.count); each = λ g other u inside. b.each (suc g) other u (omega (arith, inside)) }
+
+frames_wanted : (runs : ℕ) (guests : List NewGuest) (ts : List TenantIs) → AreBooted runs guests ts → sum_by (λ (t : TenantIs). t.minimum + 1) ts ≡ sum_by (λ (g : NewGuest). g.minimum + 1) guests
+frames_wanted runs [] [] b = refl
+frames_wanted runs [] (t ∷ ts) b = absurd (omega (arith, b.count))
+frames_wanted runs (guest ∷ guests) [] b = absurd (omega (arith, b.count))
+frames_wanted runs (guest ∷ guests) (t ∷ ts) b =
+    omega (
+      arith,
+      sum_by-cons (λ (u : TenantIs). u.minimum + 1) t ts,
+      sum_by-cons (λ (g : NewGuest). g.minimum + 1) guest guests,
+      (b.each 0 guest t (omega arith)).minimum_is,
+      frames_wanted runs guests ts (one_fewer runs guest guests t ts b),
+    )
+
+slots_wanted : (runs : ℕ) (guests : List NewGuest) (ts : List TenantIs) → All IsWithinLimits guests → AreBooted runs guests ts
+    → sum_by (λ t. length (pages_in t)) ts ≡ sum_by (λ (g : NewGuest). g.pages - g.minimum) guests + sum_by (λ (t : TenantIs). t.minimum) ts
+slots_wanted runs [] [] within b = refl
+slots_wanted runs [] (t ∷ ts) within b = absurd (omega (arith, b.count))
+slots_wanted runs (guest ∷ guests) [] within b = absurd (omega (arith, b.count))
+slots_wanted runs (guest ∷ guests) (t ∷ ts) within b =
+    omega (
+      arith,
+      sum_by-cons (λ (u : TenantIs). length (pages_in u)) t ts,
+      sum_by-cons (λ (u : TenantIs). u.minimum) t ts,
+      sum_by-cons (λ (g : NewGuest). g.pages - g.minimum) guest guests,
+      (b.each 0 guest t (omega arith)).minimum_is,
+      (b.each 0 guest t (omega arith)).size,
+      (All-head IsWithinLimits guest guests within).minimum.1,
+      slots_wanted runs guests ts (All-tail IsWithinLimits guest guests within) (one_fewer runs guest guests t ts b),
+    )
+
+pub booted_admitted : (runs frames slots : ℕ) (guests : List NewGuest) (ts : List TenantIs) → AreBooted runs guests ts → All IsWithinLimits guests → 1 ≤ length guests
+    → HasFramesFor guests frames → HasSlotsFor guests slots → IsAdmitted frames slots ts
+booted_admitted runs frames slots guests ts b within some enough room = record {
+  some = omega (arith, some, b.count);
+  frames_for = omega (arith, frames_wanted runs guests ts b, enough);
+  slots_for = omega (arith, slots_wanted runs guests ts within b, room);
+}

@@ -1,3 +1,4 @@
+pub mod Admitting
 pub mod BootedGuests
 pub mod Reached
 pub mod Runs

@@ -1,6 +1,6 @@
 -- Guests whose pages are sampled.
-use Rattle.std.proofs.Common.{◌≡◌, ℕ, ◌+◌, ◌*◌, ◌<◌, ◌≤◌, zero, suc, inl, inr, List, [], ◌∷◌, All, length, map, set, get_or, Option, refl, sym, ap, subst, ◌∙◌, arith, length-set}
-use Rattle.std.proofs.lemmas.Bool.{cases_eq, cases_lt}
+use Rattle.std.proofs.Common.{◌≡◌, ℕ, ◌+◌, ◌*◌, ◌<◌, ◌≤◌, zero, suc, inl, inr, List, [], ◌∷◌, All, length, map, set, get_or, Option, refl, sym, ap, subst, ◌∙◌, arith}
+use Rattle.std.proofs.lemmas.Bool.{cases_eq}
 use Rattle.std.proofs.lemmas.List.{get_or-set_same, get_or-set_other}
 use Rattle.std.proofs.lemmas.List.Elements.{All-head, All-tail, All-nil, All-cons}
 use Rattle.rand_core.specs.Stream.{Stream, next_u32}
@@ -10,7 +10,6 @@ use Rattle.sharetab.specs.Entries.{EntriesAre}
 use Rattle.physmap.specs.declared.page.Page.{Page}
 use Rattle.paging.specs.Books.{Books}
 use Rattle.items.specs.declared.item.Item.{Item}
-use Rattle.mips_step.specs.Step.{Machine}
 use Rattle.tenant.specs.Tenants.{TenantIs, pages_in, IsKept, IsSampled}
 use Rattle.world.specs.Samples.{AreSampled, OnlySamplesChange, without_sample}
 use Rattle.world.specs.Worlds.{Sound, items_of, boot_of, log_at}

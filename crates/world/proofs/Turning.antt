@@ -1,14 +1,12 @@
 -- Turns of the policy.
 use Rattle.std.proofs.Common.{ℕ, zero, suc, ◌≡◌, ◌+◌, ◌<◌, ◌≤◌, inl, inr, List, [], ◌∷◌, ◌++◌, length, get_or, set, map, min, Option, Some, None, Result, Ok, Err, IfOk, IfErr, OnOk, OnErr, IfSome, false, refl, sym, ap, subst, ◌∙◌, arith, length-set, append-nil}
-use Rattle.std.proofs.Math.Nat.{min-eq_left, min-eq_right, min-le_left, min-le_right}
+use Rattle.std.proofs.Math.Nat.{min-eq_left, min-eq_right, min-le_right}
 use Rattle.std.proofs.lemmas.Bool.{cases_eq, cases_lt}
-use Rattle.std.proofs.lemmas.List.{get_or-set_same, get_or-set_other, get_or_past, get_or_append_left, length-map, length-append}
+use Rattle.std.proofs.lemmas.List.{get_or-set_other, get_or_past, get_or_append_left, length-map}
 use Rattle.std.specs.List.{AllZip}
 use Rattle.std.specs.Result.{result_err}
-use Rattle.frames.specs.Counts.{count_of}
 use Rattle.frames.specs.FreeList.{FreeList}
 use Rattle.items.specs.declared.item.Item.{Item}
-use Rattle.mips_step.specs.Step.{Machine}
 use Rattle.physmap.specs.declared.page.Page.{Page}
 use Rattle.physmap.specs.Holdings.{private_pages, shared_pages, resident_pages}
 use Rattle.physmap.specs.Outline.{outline}
@@ -22,7 +20,7 @@ use Rattle.reclaim.specs.declared.turn.Action.{Action}
 use Rattle.reclaim.specs.Levels.{next_level_of}
 use Rattle.reclaim.specs.Plans.{action_of, actions_by, actions_of}
 use Rattle.tenant.specs.Lent.{WhyStays}
-use Rattle.tenant.specs.Tenants.{TenantIs, pages_in, beside_pages, stat_of}
+use Rattle.tenant.specs.Tenants.{TenantIs, pages_in, stat_of}
 use Rattle.tenant.specs.Turns.{IsAimed}
 use Rattle.tenant.specs.declared.moves.EvictError.{EvictError}
 use Rattle.tenant.specs.declared.moves.EvictError.TheVariants.{NoSwap, SwapWrite}
@@ -34,8 +32,8 @@ use Rattle.world.specs.Turns.{IsTurned, AreTurned, LosesPages, MayLose, AreFewer
 use Rattle.world.specs.Victims.{OnlyPagesMove}
 use Rattle.world.specs.declared.turns.Turn.{Turn}
 use Rattle.world.specs.Worlds.{WorldIs, Changes, PagesMove, items_of, boot_of, log_at}
-use Rattle.world.proofs.Worlds.{any_default, get_last, its_log}
-use Rattle.world.proofs.Victims.{one_less, none_free, only_pages, pages_then, stays_beside, stat_at, map_at, same_count}
+use Rattle.world.proofs.Worlds.{get_last, its_log}
+use Rattle.world.proofs.Victims.{one_less, none_free, only_pages, pages_then, stays_beside, map_at}
 
 -- ---- why a page stays
 
@@ -303,7 +301,7 @@ pub turn_log : (actions : List Action) (made : List Aim) (ts mid ts' : List Tena
 turn_log actions made ts mid ts' d turned moves h =
     ap (λ (logs : List (List Item)). get_or logs h []) (stays_beside items_of (λ t. refl) mid ts' moves) ∙ turned_log actions made ts mid d turned h
 
-same_map : {Y : Type 0} (f : TenantIs → Y) (old new : List TenantIs) → length new ≡ length old → ((g : ℕ) (t : TenantIs) → g < length old → f (get_or new g t) ≡ f (get_or old g t)) → map f new ≡ map f old
+pub same_map : {Y : Type 0} (f : TenantIs → Y) (old new : List TenantIs) → length new ≡ length old → ((g : ℕ) (t : TenantIs) → g < length old → f (get_or new g t) ≡ f (get_or old g t)) → map f new ≡ map f old
 same_map f [] [] size same = refl
 same_map f [] (u ∷ new) size same = absurd (omega (arith, size))
 same_map f (t ∷ old) [] size same = absurd (omega (arith, size))

@@ -351,10 +351,10 @@ logs_more h es answers e a old now after same so_far more =
     more ∙ ap (λ (xs : List Item). xs ++ own_items h e a) so_far ∙ append_assoc old (own h es answers) (own_items h e a)
     ∙ ap (λ (xs : List Item). old ++ xs) (sym (own_more h es answers e a same))
 
-pub all_more : {Kept : Type 0} (trusted : Kept → Type 0) (failures : Kept → ℕ) (honest : Kept → Type 0) (tax : ℕ) (w mid w' : WorldIs Kept) (es : List Event) (answers : List Answer) (e : Event) (a : Answer)
-    → AllHappen trusted failures honest tax w es answers mid → Happens trusted failures honest tax mid e a w' → AllHappen trusted failures honest tax w (es ++ e ∷ []) (answers ++ a ∷ []) w'
-all_more {Kept} trusted failures honest tax w mid w' [] [] e a same one = (w', subst (λ (v : WorldIs Kept). Happens trusted failures honest tax v e a w') same one, refl)
-all_more trusted failures honest tax w mid w' [] (b ∷ answers) e a before one = absurd before
-all_more trusted failures honest tax w mid w' (d ∷ es) [] e a before one = absurd before
-all_more trusted failures honest tax w mid w' (d ∷ es) (b ∷ answers) e a before one =
-    (before.0, before.1, all_more trusted failures honest tax before.0 mid w' es answers e a before.2 one)
+pub all_more : {Kept : Type 0} (trusted : Kept → Type 0) (failures : Kept → ℕ) (honest : Kept → Type 0) (slots : Kept → ℕ) (tax : ℕ) (w mid w' : WorldIs Kept) (es : List Event) (answers : List Answer) (e : Event) (a : Answer)
+    → AllHappen trusted failures honest slots tax w es answers mid → Happens trusted failures honest slots tax mid e a w' → AllHappen trusted failures honest slots tax w (es ++ e ∷ []) (answers ++ a ∷ []) w'
+all_more {Kept} trusted failures honest slots tax w mid w' [] [] e a same one = (w', subst (λ (v : WorldIs Kept). Happens trusted failures honest slots tax v e a w') same one, refl)
+all_more trusted failures honest slots tax w mid w' [] (b ∷ answers) e a before one = absurd before
+all_more trusted failures honest slots tax w mid w' (d ∷ es) [] e a before one = absurd before
+all_more trusted failures honest slots tax w mid w' (d ∷ es) (b ∷ answers) e a before one =
+    (before.0, before.1, all_more trusted failures honest slots tax before.0 mid w' es answers e a before.2 one)

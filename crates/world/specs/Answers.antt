@@ -44,6 +44,7 @@ use Rattle.world.specs.declared.world.Evicted.{Evicted}
 use Rattle.world.specs.Debugging.{IfStopped}
 use Rattle.world.specs.Events.{own_items, IfStop, IsForRoom, IsSupplied, WhyStopped}
 use Rattle.world.specs.Evictions.{Became}
+use Rattle.world.specs.Admission.{IsAdmitted, LimitsStay, BlockedStay, NotTurned, FindsRoom}
 use Rattle.world.specs.Samples.{OnlySamplesChange}
 use Rattle.world.specs.Turns.{IsTurn}
 use Rattle.world.specs.Victims.{WhyLacking}
@@ -133,7 +134,7 @@ FailsOnce failures w w' = failures w'.store ≡ one_more (failures w.store)
 -- reason that `WhyStopped` has
 abbrev pub WhyHalted : {Kept : Type 0} → (Kept → ℕ) → (Kept → Type 0) → WorldIs Kept → WorldIs Kept → RunStop → Type 0
 WhyHalted failures honest w w' =
-    WhyStopped w'.pool w'.slots (map stat_of w'.tenants) ((before : ℕ) × (failures w'.store ≡ one_more before)) (honest w.store → ⊥)
+    WhyStopped w'.pool w'.slots (map stat_of w'.tenants) (FailsOnce failures w w') (honest w.store → ⊥)
 
 -- a guest is there that is to make no step, and nothing has happened
 pub record IsBlocked {Kept : Type 0} (g : ℕ) (w w' : WorldIs Kept) : Type 0 where
@@ -182,16 +183,22 @@ IsAnswered trusted failures honest tax w w' e answer.Nowhere = IsNowhere w.tenan
 IsAnswered trusted failures honest tax w w' e a = ⊥
 
 -- An event has happened: it is answered as `IsAnswered` has it, each log has the items more that the event adds to it, and the machines
--- that the guests booted are as before.
-pub record Happens {Kept : Type 0} (trusted : Kept → Type 0) (failures : Kept → ℕ) (honest : Kept → Type 0) (tax : ℕ) (w : WorldIs Kept) (e : Event) (a : Answer) (w' : WorldIs Kept) : Type 0 where
+-- that the guests booted, their limits, and how many frames and slots there are, are as before; only a turn of the policy changes who is
+-- blocked; and where guests are admitted by their minimums each page that it needs found room.
+pub record Happens {Kept : Type 0} (trusted : Kept → Type 0) (failures : Kept → ℕ) (honest : Kept → Type 0) (slots : Kept → ℕ) (tax : ℕ) (w : WorldIs Kept) (e : Event) (a : Answer) (w' : WorldIs Kept) : Type 0 where
   pub answered : IsAnswered trusted failures honest tax w w' e a
   pub logs : (h : ℕ) → log_at w'.tenants h ≡ log_at w.tenants h ++ own_items h e a
   pub boots : map boot_of w'.tenants ≡ map boot_of w.tenants
+  pub limits : LimitsStay w.tenants w'.tenants
+  pub blocked : NotTurned a → BlockedStay w.tenants w'.tenants
+  pub frames : w'.frames ≡ w.frames
+  pub slots_stay : slots w'.store ≡ slots w.store
+  pub room : IsAdmitted w.frames (slots w.store) w.tenants → FindsRoom (FailsOnce failures w w') a
 
 -- events have happened one after another, each in the world that the one before it left
-abbrev pub AllHappen : {Kept : Type 0} → (trusted : Kept → Type 0) → (failures : Kept → ℕ) → (honest : Kept → Type 0) → (tax : ℕ) → WorldIs Kept → List Event → List Answer → WorldIs Kept → Type 0
-AllHappen trusted failures honest tax w [] [] w' = w' ≡ w
-AllHappen trusted failures honest tax w [] (a ∷ answers) w' = ⊥
-AllHappen trusted failures honest tax w (e ∷ events) [] w' = ⊥
-AllHappen {Kept} trusted failures honest tax w (e ∷ events) (a ∷ answers) w' =
-    (mid : WorldIs Kept) × Happens trusted failures honest tax w e a mid × AllHappen trusted failures honest tax mid events answers w'
+abbrev pub AllHappen : {Kept : Type 0} → (trusted : Kept → Type 0) → (failures : Kept → ℕ) → (honest : Kept → Type 0) → (slots : Kept → ℕ) → (tax : ℕ) → WorldIs Kept → List Event → List Answer → WorldIs Kept → Type 0
+AllHappen trusted failures honest slots tax w [] [] w' = w' ≡ w
+AllHappen trusted failures honest slots tax w [] (a ∷ answers) w' = ⊥
+AllHappen trusted failures honest slots tax w (e ∷ events) [] w' = ⊥
+AllHappen {Kept} trusted failures honest slots tax w (e ∷ events) (a ∷ answers) w' =
+    (mid : WorldIs Kept) × Happens trusted failures honest slots tax w e a mid × AllHappen trusted failures honest slots tax mid events answers w'

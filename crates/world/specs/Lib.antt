@@ -1,3 +1,4 @@
+pub mod Admission
 pub mod Answers
 pub mod Boots
 pub mod Debugging

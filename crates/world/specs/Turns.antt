@@ -1,7 +1,6 @@
 -- What a turn of the policy does in a world.
 use Rattle.std.specs.Prelude.{◌≡◌, ℕ, ◌+◌, ◌<◌, ◌≤◌, min, List, [], ◌∷◌, Option, Some, None, IfSome, length, map, slice_index_or}
 use Rattle.items.specs.declared.item.Item.{Item}
-use Rattle.frames.specs.FreeList.{FreeList}
 use Rattle.physmap.specs.Holdings.{resident_pages}
 use Rattle.physmap.specs.Outline.{outline}
 use Rattle.reclaim.specs.Levels.{next_level_of}

@@ -14,6 +14,8 @@ impl<S: SwapStore> World<S> {
     ghost use Rattle.items.specs.declared.item.Item.{Item};
     ghost use Rattle.items.specs.Items.{is_step};
     ghost use Rattle.world.specs.declared.events.Event.{Event};
+    ghost use Rattle.swapstore.specs.Failures.{one_more};
+    ghost use Rattle.world.specs.Admission.{IsAdmitted, LimitsStay, BlockedStay, NotTurned, FindsRoom};
     ghost use Rattle.world.specs.Answers.{IsAnswered, AllHappen};
     ghost use Rattle.world.specs.Events.{IsProper, items_stepped, items_ran, items_input, items_written, items_turned, own_items, own};
     ghost use Rattle.world.specs.Worlds.{boot_of, log_at};
@@ -22,6 +24,8 @@ impl<S: SwapStore> World<S> {
         ensures logs { (h : ℕ) → log_at self.new.tenants h ≡ log_at self.old.tenants h ++ items_stepped h g result }
         ensures answered { (tax : ℕ) → IsAnswered S.true_to_digests S.failed S.honest tax self.old self.new (Event.Step g) result }
         ensures boots { map boot_of self.new.tenants ≡ map boot_of self.old.tenants }
+        ensures limits { LimitsStay self.old.tenants self.new.tenants }
+        ensures blocked { BlockedStay self.old.tenants self.new.tenants }
         ensures store { self.new.store ≡ self.old.store }
         ensures frames { self.new.frames ≡ self.old.frames }
         ensures level { self.new.level ≡ self.old.level }
@@ -39,6 +43,8 @@ impl<S: SwapStore> World<S> {
         ensures logs { (h : ℕ) → log_at self.new.tenants h ≡ log_at self.old.tenants h ++ items_ran h g result }
         ensures answered { (tax : ℕ) → IsAnswered S.true_to_digests S.failed S.honest tax self.old self.new (Event.Steps g count) result }
         ensures boots { map boot_of self.new.tenants ≡ map boot_of self.old.tenants }
+        ensures limits { LimitsStay self.old.tenants self.new.tenants }
+        ensures blocked { BlockedStay self.old.tenants self.new.tenants }
         ensures store { self.new.store ≡ self.old.store }
         ensures frames { self.new.frames ≡ self.old.frames }
         ensures level { self.new.level ≡ self.old.level }
@@ -63,6 +69,8 @@ impl<S: SwapStore> World<S> {
         ensures logs { (h : ℕ) → log_at self.new.tenants h ≡ log_at self.old.tenants h ++ items_ran h g result }
         ensures answered { (tax : ℕ) → IsAnswered S.true_to_digests S.failed S.honest tax self.old self.new (Event.Run g count) result }
         ensures boots { map boot_of self.new.tenants ≡ map boot_of self.old.tenants }
+        ensures limits { LimitsStay self.old.tenants self.new.tenants }
+        ensures blocked { BlockedStay self.old.tenants self.new.tenants }
         ensures frames { self.new.frames ≡ self.old.frames }
         ensures level { self.new.level ≡ self.old.level }
         ensures slots { S.slots self.new.store ≡ S.slots self.old.store }
@@ -83,6 +91,8 @@ impl<S: SwapStore> World<S> {
         ensures logs { (h : ℕ) → log_at self.new.tenants h ≡ log_at self.old.tenants h ++ items_input h g item result }
         ensures answered { (tax : ℕ) → IsAnswered S.true_to_digests S.failed S.honest tax self.old self.new (Event.Input g item) result }
         ensures boots { map boot_of self.new.tenants ≡ map boot_of self.old.tenants }
+        ensures limits { LimitsStay self.old.tenants self.new.tenants }
+        ensures blocked { BlockedStay self.old.tenants self.new.tenants }
         ensures store { self.new.store ≡ self.old.store }
         ensures frames { self.new.frames ≡ self.old.frames }
         ensures level { self.new.level ≡ self.old.level }
@@ -108,6 +118,8 @@ impl<S: SwapStore> World<S> {
         ensures logs { (h : ℕ) → log_at self.new.tenants h ≡ log_at self.old.tenants h ++ [] }
         ensures answered { (tax : ℕ) → IsAnswered S.true_to_digests S.failed S.honest tax self.old self.new (Event.Probe g address count) result }
         ensures boots { map boot_of self.new.tenants ≡ map boot_of self.old.tenants }
+        ensures limits { LimitsStay self.old.tenants self.new.tenants }
+        ensures blocked { BlockedStay self.old.tenants self.new.tenants }
         ensures frames { self.new.frames ≡ self.old.frames }
         ensures level { self.new.level ≡ self.old.level }
         ensures slots { S.slots self.new.store ≡ S.slots self.old.store }
@@ -140,6 +152,8 @@ impl<S: SwapStore> World<S> {
         ensures logs { (h : ℕ) → log_at self.new.tenants h ≡ log_at self.old.tenants h ++ items_written h g address bytes.items result }
         ensures answered { (tax : ℕ) → IsAnswered S.true_to_digests S.failed S.honest tax self.old self.new (Event.Write g address bytes) result }
         ensures boots { map boot_of self.new.tenants ≡ map boot_of self.old.tenants }
+        ensures limits { LimitsStay self.old.tenants self.new.tenants }
+        ensures blocked { BlockedStay self.old.tenants self.new.tenants }
         ensures frames { self.new.frames ≡ self.old.frames }
         ensures level { self.new.level ≡ self.old.level }
         ensures slots { S.slots self.new.store ≡ S.slots self.old.store }
@@ -157,6 +171,8 @@ impl<S: SwapStore> World<S> {
         ensures logs { (h : ℕ) → log_at self.new.tenants h ≡ log_at self.old.tenants h ++ [] }
         ensures answered { (tax : ℕ) → IsAnswered S.true_to_digests S.failed S.honest tax self.old self.new (Event.Supply g p) result }
         ensures boots { map boot_of self.new.tenants ≡ map boot_of self.old.tenants }
+        ensures limits { LimitsStay self.old.tenants self.new.tenants }
+        ensures blocked { BlockedStay self.old.tenants self.new.tenants }
         ensures frames { self.new.frames ≡ self.old.frames }
         ensures level { self.new.level ≡ self.old.level }
         ensures slots { S.slots self.new.store ≡ S.slots self.old.store }
@@ -176,6 +192,8 @@ impl<S: SwapStore> World<S> {
         ensures logs { (h : ℕ) → log_at self.new.tenants h ≡ log_at self.old.tenants h ++ [] }
         ensures answered { (tax : ℕ) → IsAnswered S.true_to_digests S.failed S.honest tax self.old self.new (Event.Fault g) result }
         ensures boots { map boot_of self.new.tenants ≡ map boot_of self.old.tenants }
+        ensures limits { LimitsStay self.old.tenants self.new.tenants }
+        ensures blocked { BlockedStay self.old.tenants self.new.tenants }
         ensures frames { self.new.frames ≡ self.old.frames }
         ensures level { self.new.level ≡ self.old.level }
         ensures slots { S.slots self.new.store ≡ S.slots self.old.store }
@@ -193,6 +211,8 @@ impl<S: SwapStore> World<S> {
         ensures logs { (h : ℕ) → log_at self.new.tenants h ≡ log_at self.old.tenants h ++ [] }
         ensures answered { (tax : ℕ) → IsAnswered S.true_to_digests S.failed S.honest tax self.old self.new (Event.Evict g p) result }
         ensures boots { map boot_of self.new.tenants ≡ map boot_of self.old.tenants }
+        ensures limits { LimitsStay self.old.tenants self.new.tenants }
+        ensures blocked { BlockedStay self.old.tenants self.new.tenants }
         ensures frames { self.new.frames ≡ self.old.frames }
         ensures level { self.new.level ≡ self.old.level }
         ensures slots { S.slots self.new.store ≡ S.slots self.old.store }
@@ -210,6 +230,8 @@ impl<S: SwapStore> World<S> {
         ensures logs { (h : ℕ) → log_at self.new.tenants h ≡ log_at self.old.tenants h ++ [] }
         ensures answered { (tax : ℕ) → IsAnswered S.true_to_digests S.failed S.honest tax self.old self.new (Event.Scan g p) result }
         ensures boots { map boot_of self.new.tenants ≡ map boot_of self.old.tenants }
+        ensures limits { LimitsStay self.old.tenants self.new.tenants }
+        ensures blocked { BlockedStay self.old.tenants self.new.tenants }
         ensures store { self.new.store ≡ self.old.store }
         ensures frames { self.new.frames ≡ self.old.frames }
         ensures level { self.new.level ≡ self.old.level }
@@ -227,6 +249,8 @@ impl<S: SwapStore> World<S> {
         ensures logs { (h : ℕ) → log_at self.new.tenants h ≡ log_at self.old.tenants h ++ [] }
         ensures answered { (tax : ℕ) → IsAnswered S.true_to_digests S.failed S.honest tax self.old self.new Event.Sample result }
         ensures boots { map boot_of self.new.tenants ≡ map boot_of self.old.tenants }
+        ensures limits { LimitsStay self.old.tenants self.new.tenants }
+        ensures blocked { BlockedStay self.old.tenants self.new.tenants }
         ensures store { self.new.store ≡ self.old.store }
         ensures frames { self.new.frames ≡ self.old.frames }
         ensures level { self.new.level ≡ self.old.level }
@@ -239,6 +263,7 @@ impl<S: SwapStore> World<S> {
         ensures logs { (h : ℕ) → log_at self.new.tenants h ≡ log_at self.old.tenants h ++ items_turned h result }
         ensures answered { IsAnswered S.true_to_digests S.failed S.honest tax.percent self.old self.new Event.Level result }
         ensures boots { map boot_of self.new.tenants ≡ map boot_of self.old.tenants }
+        ensures limits { LimitsStay self.old.tenants self.new.tenants }
         ensures frames { self.new.frames ≡ self.old.frames }
         ensures slots { S.slots self.new.store ≡ S.slots self.old.store }
         ensures honest { S.honest self.new.store ↔ S.honest self.old.store }
@@ -247,16 +272,14 @@ impl<S: SwapStore> World<S> {
         Answer::Turned(self.level_turn(alloc, tax, rng))
     }
 
-    /// One event. Its items are added to its guest's log, and no other log changes, but that a turn of the policy may set the balloon
-    /// targets of all; the machines that the guests booted stay. What is answered is what the guest's view has to say to it, or why it was
-    /// refused (`IsAnswered`): each kind of event has the answers of `step`, `steps`, `run_steps`, `input`, `debug_read`, `debug_write`,
-    /// `supply`, `fault`, `evict`, `scan`, `sample` and `level_turn`, and a guest that is blocked makes no step. The tax and the
-    /// generator are those of `evict_one`, which may be called where a page gets a frame, of `sample` and of `level_turn`.
-    pub fn apply<R: Rng>(&mut self, alloc: Global, event: Event, tax: Tax, rng: &mut R) -> Answer
+    // One event, as `apply` has it.
+    fn apply_event<R: Rng>(&mut self, alloc: Global, event: Event, tax: Tax, rng: &mut R) -> Answer
         requires { IsProper event }
         ensures logs { (h : ℕ) → log_at self.new.tenants h ≡ log_at self.old.tenants h ++ own_items h event result }
         ensures answered { IsAnswered S.true_to_digests S.failed S.honest tax.percent self.old self.new event result }
         ensures boots { map boot_of self.new.tenants ≡ map boot_of self.old.tenants }
+        ensures limits { LimitsStay self.old.tenants self.new.tenants }
+        ensures blocked { NotTurned result → BlockedStay self.old.tenants self.new.tenants }
         ensures frames { self.new.frames ≡ self.old.frames }
         ensures slots { S.slots self.new.store ≡ S.slots self.old.store }
         ensures honest { S.honest self.new.store ↔ S.honest self.old.store }
@@ -282,6 +305,35 @@ impl<S: SwapStore> World<S> {
         }
     }
 
+    /// One event. Its items are added to its guest's log, and no other log changes, but that a turn of the policy may set the balloon
+    /// targets of all; the machines that the guests booted stay. What is answered is what the guest's view has to say to it, or why it was
+    /// refused (`IsAnswered`): each kind of event has the answers of `step`, `steps`, `run_steps`, `input`, `debug_read`, `debug_write`,
+    /// `supply`, `fault`, `evict`, `scan`, `sample` and `level_turn`, and a guest that is blocked makes no step. The tax and the
+    /// generator are those of `evict_one`, which may be called where a page gets a frame, of `sample` and of `level_turn`.
+    ///
+    /// No event changes how many pages, shares and which minimum a guest has, and just a turn of the policy who is blocked. Where the guests
+    /// are admitted by their minimums, each page that a fault, a run, or a debugger's read or write needs gets a frame, if need be another
+    /// page's, unless a request for memory is refused, the store fails or a slot of it is damaged (`FindsRoom`).
+    pub fn apply<R: Rng>(&mut self, alloc: Global, event: Event, tax: Tax, rng: &mut R) -> Answer
+        requires { IsProper event }
+        ensures logs { (h : ℕ) → log_at self.new.tenants h ≡ log_at self.old.tenants h ++ own_items h event result }
+        ensures answered { IsAnswered S.true_to_digests S.failed S.honest tax.percent self.old self.new event result }
+        ensures boots { map boot_of self.new.tenants ≡ map boot_of self.old.tenants }
+        ensures limits { LimitsStay self.old.tenants self.new.tenants }
+        ensures blocked { NotTurned result → BlockedStay self.old.tenants self.new.tenants }
+        ensures room { IsAdmitted self.old.frames (S.slots self.old.store) self.old.tenants →
+            FindsRoom (S.failed self.new.store ≡ one_more (S.failed self.old.store)) result }
+        ensures frames { self.new.frames ≡ self.old.frames }
+        ensures slots { S.slots self.new.store ≡ S.slots self.old.store }
+        ensures honest { S.honest self.new.store ↔ S.honest self.old.store }
+        ensures true_to_digests { S.true_to_digests self.new.store ↔ S.true_to_digests self.old.store }
+    {
+        let answer = self.apply_event(alloc, event, tax, rng);
+        self.is_sound();
+        self.shared_frames_are_named();
+        answer
+    }
+
     /// Events, one after another, and what each was answered. After them the log of each guest is the one before with the items of
     /// its own events that were done: its steps and writes that were made, and its items that were accepted. So whatever else happens in the
     /// world, each guest's view is the run of its own items; and the books are exact (`is_sound`). Each event is answered as by `apply`, in
@@ -297,10 +349,11 @@ impl<S: SwapStore> World<S> {
     ) -> Result<Vec<Answer>, AllocError>
         requires { All IsProper events.items }
         ensures logs { IfOk result (λ answers. (h : ℕ) → log_at self.new.tenants h ≡ log_at self.old.tenants h ++ own h events.items answers.items) }
-        ensures happen { IfOk result (λ answers. AllHappen S.true_to_digests S.failed S.honest tax.percent self.old events.items answers.items self.new) }
+        ensures happen { IfOk result (λ answers. AllHappen S.true_to_digests S.failed S.honest S.slots tax.percent self.old events.items answers.items self.new) }
         ensures count { IfOk result (λ answers. length answers.items ≡ length events.items) }
         ensures unchanged { OnErr result (self.new ≡ self.old) }
         ensures boots { map boot_of self.new.tenants ≡ map boot_of self.old.tenants }
+        ensures limits { LimitsStay self.old.tenants self.new.tenants }
         ensures frames { self.new.frames ≡ self.old.frames }
         ensures slots { S.slots self.new.store ≡ S.slots self.old.store }
         ensures honest { S.honest self.new.store ↔ S.honest self.old.store }

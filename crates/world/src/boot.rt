@@ -35,9 +35,10 @@ pub struct NewGuest {
 }
 
 impl<S: SwapStore> World<S> {
-    ghost use Rattle.std.specs.Prelude.{◌≡◌, ◌↔◌, All, IfOk, IfErr, None, [], length};
+    ghost use Rattle.std.specs.Prelude.{◌≡◌, ◌↔◌, true, All, IfOk, IfErr, None, [], length};
     ghost use Rattle.sharetab.specs.Maps.{at_page};
     ghost use Rattle.sharetab.specs.declared.guest_page.GuestPage.{GuestPage};
+    ghost use Rattle.world.specs.Admission.{IsAdmitted};
     ghost use Rattle.world.specs.Boots.{IsWithinLimits, AreWithinLimits, HoldsImage, AreAdmitted, AreBooted, WhyNotBooted};
     ghost use Rattle.tenant.specs.Loading.{IsOfLoading};
     ghost use Rattle.reclaim.specs.declared.level.Level.{Level};
@@ -99,6 +100,7 @@ impl<S: SwapStore> World<S> {
         ensures honest { IfOk result (λ w. S.honest w.store ↔ S.honest store) }
         ensures true_to_digests { IfOk result (λ w. S.true_to_digests w.store ↔ S.true_to_digests store) }
         ensures within { IfOk result (λ w. AreWithinLimits config (S.slots store) guests.items × All HoldsImage guests.items × AreAdmitted config (S.slots store) guests.items) }
+        ensures admitted { IfOk result (λ w. config.admit ≡ true → IsAdmitted config.frames (S.slots store) w.tenants) }
         ensures err { IfErr result (λ refused. WhyNotBooted config (S.slots store) guests.items refused.0) }
         ensures back { IfErr result (λ refused. (S.slots refused.1 ≡ S.slots store) × (S.honest refused.1 ↔ S.honest store) ×
             (S.true_to_digests refused.1 ↔ S.true_to_digests store)) }

@@ -58,6 +58,7 @@ impl<S: SwapStore> World<S> {
     ghost use Rattle.tenant.specs.Tenants.{TenantIs, pages_in, NothingHappens};
     ghost use Rattle.world.specs.Victims.{OnlyPagesMove, WhyLacking};
     ghost use Rattle.tenant.specs.Tenants.{stat_of};
+    ghost use Rattle.world.specs.Admission.{LimitsStay, BlockedStay};
     ghost use Rattle.world.specs.Worlds.{Changes, SameAround, boot_of, log_at};
 
     // One of two pages that a debugger reaches gets a frame of its own, where it is wanted, and no eviction takes either of them.
@@ -81,7 +82,8 @@ impl<S: SwapStore> World<S> {
         ensures others { (t : TenantIs) (q : ℕ) → q ≢ p → ((q ≡ reached.now.0) ⊎ (q ≡ reached.now.1)) →
             page_at (pages_in (slice_index_or self.new.tenants g t)) q ≡ page_at (pages_in (slice_index_or self.old.tenants g t)) q }
         ensures err { IfErr result (WhyLacking self.new.pool self.new.slots (map stat_of self.new.tenants)
-            ((before : ℕ) × (S.failed self.new.store ≡ one_more before)) (S.honest self.old.store → ⊥)) }
+            (S.failed self.new.store ≡ one_more (S.failed self.old.store)) (S.honest self.old.store → ⊥)) }
+        ensures no_failure { OnOk result (S.failed self.new.store ≡ S.failed self.old.store) }
         ensures hints { self.new.shares.hints ≡ self.old.shares.hints }
         ensures frames { self.new.frames ≡ self.old.frames }
         ensures level { self.new.level ≡ self.old.level }
@@ -119,7 +121,8 @@ impl<S: SwapStore> World<S> {
             is_wanted access (kind_at (pages_in (slice_index_or self.old.tenants g t)) q) ≡ false →
             page_at (pages_in (slice_index_or self.new.tenants g t)) q ≡ page_at (pages_in (slice_index_or self.old.tenants g t)) q }
         ensures err { IfErr result (WhyLacking self.new.pool self.new.slots (map stat_of self.new.tenants)
-            ((before : ℕ) × (S.failed self.new.store ≡ one_more before)) (S.honest self.old.store → ⊥)) }
+            (S.failed self.new.store ≡ one_more (S.failed self.old.store)) (S.honest self.old.store → ⊥)) }
+        ensures no_failure { OnOk result (S.failed self.new.store ≡ S.failed self.old.store) }
         ensures hints { self.new.shares.hints ≡ self.old.shares.hints }
         ensures frames { self.new.frames ≡ self.old.frames }
         ensures level { self.new.level ≡ self.old.level }
@@ -158,7 +161,7 @@ impl<S: SwapStore> World<S> {
             is_wanted access (kind_at (pages_in (slice_index_or self.old.tenants g t)) q) ≡ false →
             page_at (pages_in (slice_index_or self.new.tenants g t)) q ≡ page_at (pages_in (slice_index_or self.old.tenants g t)) q }
         ensures stop { IfErr result (λ error. IfStopped error (WhyStopped self.new.pool self.new.slots (map stat_of self.new.tenants)
-            ((before : ℕ) × (S.failed self.new.store ≡ one_more before)) (S.honest self.old.store → ⊥))) }
+            (S.failed self.new.store ≡ one_more (S.failed self.old.store)) (S.honest self.old.store → ⊥))) }
         ensures never_full { IsErrOf result (DebugError.Stop RunStop.LogFull) → ⊥ }
         ensures hints { self.new.shares.hints ≡ self.old.shares.hints }
         ensures frames { self.new.frames ≡ self.old.frames }
@@ -213,7 +216,7 @@ impl<S: SwapStore> World<S> {
             kind_at (pages_in (slice_index_or self.old.tenants g t)) q ≢ PageKind.Swapped →
             page_at (pages_in (slice_index_or self.new.tenants g t)) q ≡ page_at (pages_in (slice_index_or self.old.tenants g t)) q }
         ensures stop { IfErr result (λ error. IfStopped error (WhyStopped self.new.pool self.new.slots (map stat_of self.new.tenants)
-            ((before : ℕ) × (S.failed self.new.store ≡ one_more before)) (S.honest self.old.store → ⊥))) }
+            (S.failed self.new.store ≡ one_more (S.failed self.old.store)) (S.honest self.old.store → ⊥))) }
         ensures never_full { IsErrOf result (DebugError.Stop RunStop.LogFull) → ⊥ }
         ensures hints { self.new.shares.hints ≡ self.old.shares.hints }
         ensures frames { self.new.frames ≡ self.old.frames }
@@ -254,6 +257,8 @@ impl<S: SwapStore> World<S> {
         requires few { length bytes.items ≤ 1024 }
         ensures logs { (h : ℕ) → log_at self.new.tenants h ≡ log_at self.old.tenants h ++ written_items h g address bytes.items result }
         ensures boots { map boot_of self.new.tenants ≡ map boot_of self.old.tenants }
+        ensures limits { LimitsStay self.old.tenants self.new.tenants }
+        ensures blocked { BlockedStay self.old.tenants self.new.tenants }
         ensures accepted { OnOk result (S.true_to_digests self.old.store → (t : TenantIs) →
             accepts (What.Write address bytes.items) (view_of (slice_index_or self.old.tenants g t).guest) ≡ true) }
         ensures no_place { S.true_to_digests self.old.store → (t : TenantIs) → (IsErrOf result DebugError.NoPlace
@@ -261,7 +266,7 @@ impl<S: SwapStore> World<S> {
         ensures nothing { IsErrOf result DebugError.NoPlace → self.new ≡ self.old }
         ensures unchanged { OnErr result (OnlyPagesAndRoom g self.old.tenants self.new.tenants) }
         ensures stop { IfErr result (λ error. IfStopped error (WhyStopped self.new.pool self.new.slots (map stat_of self.new.tenants)
-            ((before : ℕ) × (S.failed self.new.store ≡ one_more before)) (S.honest self.old.store → ⊥))) }
+            (S.failed self.new.store ≡ one_more (S.failed self.old.store)) (S.honest self.old.store → ⊥))) }
         ensures full { IsErrOf result (DebugError.Stop RunStop.LogFull) → (t : TenantIs) → IsFull (slice_index_or self.old.tenants g t).guest.log }
         ensures room { OnOk result ((t : TenantIs) → IsFull (slice_index_or self.old.tenants g t).guest.log → ⊥) }
         ensures hints { self.new.shares.hints ≡ self.old.shares.hints }
@@ -287,6 +292,8 @@ impl<S: SwapStore> World<S> {
             is_wanted Access.Write (kind_at (pages_in (slice_index_or self.old.tenants g t)) q) ≡ false }
         ensures logs { (h : ℕ) → log_at self.new.tenants h ≡ log_at self.old.tenants h ++ written_items h g address bytes.items result }
         ensures boots { map boot_of self.new.tenants ≡ map boot_of self.old.tenants }
+        ensures limits { LimitsStay self.old.tenants self.new.tenants }
+        ensures blocked { BlockedStay self.old.tenants self.new.tenants }
         ensures accepted { OnOk result (S.true_to_digests self.old.store → (t : TenantIs) →
             accepts (What.Write address bytes.items) (view_of (slice_index_or self.old.tenants g t).guest) ≡ true) }
         ensures placed { IsErrOf result DebugError.NoPlace → ⊥ }

@@ -137,6 +137,7 @@ impl<S: SwapStore> World<S> {
     ghost use Rattle.physmap.specs.Pages.{kind_at};
     ghost use Rattle.swapstore.specs.Failures.{one_more};
     ghost use Rattle.tenant.specs.Tenants.{TenantIs, pages_in};
+    ghost use Rattle.world.specs.Admission.{IsAdmitted, IsNoRoom};
     ghost use Rattle.world.specs.Victims.{IsPolicys, OnlyPagesMove, SparedStay, OtherSparedStay, WhyLacking, all_resident};
     ghost use Rattle.tenant.specs.Tenants.{stat_of};
 
@@ -251,6 +252,7 @@ impl<S: SwapStore> World<S> {
         ensures others { OtherSparedStay g p spared.now self.old.tenants self.new.tenants }
         ensures err { IfErr result (WhyLacking self.new.pool self.new.slots (map stat_of self.new.tenants)
             (S.failed self.new.store ≡ one_more (S.failed self.old.store)) (S.honest self.old.store → ⊥)) }
+        ensures no_failure { OnOk result (S.failed self.new.store ≡ S.failed self.old.store) }
         ensures hints { self.new.shares.hints ≡ self.old.shares.hints }
         ensures frames { self.new.frames ≡ self.old.frames }
         ensures level { self.new.level ≡ self.old.level }
@@ -274,7 +276,8 @@ impl<S: SwapStore> World<S> {
     /// `NoFrame` where none is free and the store failed to write a victim's page or nobody has more resident pages than its minimum;
     /// `NoSwap` where neither frame nor slot is free; `SwapRead` where the store failed to read the page's slot; `SwapDamaged` where
     /// what was read has another SHA-256 than the page, which an honest store never does; `Memory` where a request for memory was
-    /// refused. Pages of victims that have left their frames before that stay in their slots.
+    /// refused. Pages of victims that have left their frames before that stay in their slots. Where the guests are admitted by their
+    /// minimums, it is never `NoSwap`, and `NoFrame` only where the store failed.
     pub fn fault<R: Rng>(
         &mut self,
         alloc: Global,
@@ -293,6 +296,9 @@ impl<S: SwapStore> World<S> {
             self.new ≡ self.old }
         ensures err { IfErr result (WhyLacking self.new.pool self.new.slots (map stat_of self.new.tenants)
             (S.failed self.new.store ≡ one_more (S.failed self.old.store)) (S.honest self.old.store → ⊥)) }
+        ensures no_failure { OnOk result (S.failed self.new.store ≡ S.failed self.old.store) }
+        ensures room { IsAdmitted self.old.frames (S.slots self.old.store) self.old.tenants →
+            IfErr result (IsNoRoom (S.failed self.new.store ≡ one_more (S.failed self.old.store))) }
         ensures hints { self.new.shares.hints ≡ self.old.shares.hints }
         ensures frames { self.new.frames ≡ self.old.frames }
         ensures level { self.new.level ≡ self.old.level }
@@ -304,6 +310,9 @@ impl<S: SwapStore> World<S> {
         let Some(needed) = self.guest(g).need() else {
             return Ok(());
         };
-        self.supply_sparing(alloc, g, needed.0, &None, tax, rng)
+        let answer = self.supply_sparing(alloc, g, needed.0, &None, tax, rng);
+        self.is_sound();
+        self.shared_frames_are_named();
+        answer
     }
 }

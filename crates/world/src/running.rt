@@ -76,7 +76,7 @@ fn for_room(stop: Stop) -> RunStop
 }
 
 impl<S: SwapStore> World<S> {
-    ghost use Rattle.std.specs.Prelude.{◌≡◌, ◌≢◌, ◌<◌, ◌≤◌, ◌↔◌, ◌++◌, ℕ, Some, None, IsSome, IfOk, IfErr, OnErr, IsErrOf, length, map, slice_index_or};
+    ghost use Rattle.std.specs.Prelude.{◌≡◌, ◌≢◌, ◌<◌, ◌≤◌, ◌↔◌, ◌++◌, ℕ, Some, None, IsSome, IfOk, IfErr, OnOk, OnErr, IsErrOf, length, map, slice_index_or};
     ghost use Rattle.guest_log.specs.Logs.{IsFull};
     ghost use Rattle.mips_step.specs.Accesses.{accesses, first_lack};
     ghost use Rattle.mips_step.specs.declared.access.Why.{Why};
@@ -87,6 +87,7 @@ impl<S: SwapStore> World<S> {
     ghost use Rattle.guest_log.specs.declared.stop.Stop.{Stop};
     ghost use Rattle.tenant.specs.Tenants.{TenantIs, pages_in, Stays, AddsSteps, NothingHappens};
     ghost use Rattle.tenant.specs.Tenants.{stat_of};
+    ghost use Rattle.world.specs.Admission.{LimitsStay, BlockedStay};
     ghost use Rattle.world.specs.Worlds.{Changes, SameAround, boot_of, log_at};
 
     // At most `count` steps of a guest, up to one that needs a page or gave one to the balloon (`stepping::run_in`).
@@ -209,6 +210,8 @@ impl<S: SwapStore> World<S> {
         ensures logs { IfOk result (λ steps. (h : ℕ) → log_at self.new.tenants h ≡ log_at self.old.tenants h ++ steps_for h g steps) }
         ensures not_made { OnErr result ((h : ℕ) → log_at self.new.tenants h ≡ log_at self.old.tenants h) }
         ensures boots { map boot_of self.new.tenants ≡ map boot_of self.old.tenants }
+        ensures limits { LimitsStay self.old.tenants self.new.tenants }
+        ensures blocked { BlockedStay self.old.tenants self.new.tenants }
         ensures early { IsErrOf result End.Done → ⊥ }
         ensures need { S.true_to_digests self.old.store → (p : ℕ) (why : Why) → IsErrOf result (End.Need p why) → (t : TenantIs) →
             first_lack (lacks_in (pages_in (slice_index_or self.new.tenants g t)))
@@ -218,7 +221,8 @@ impl<S: SwapStore> World<S> {
         ensures full { IsErrOf result (End.Stop RunStop.LogFull) → (t : TenantIs) → IsFull (slice_index_or self.new.tenants g t).guest.log }
         ensures room { IfErr result (λ end. end ≢ End.Stop RunStop.LogFull → (t : TenantIs) → IsFull (slice_index_or self.new.tenants g t).guest.log → ⊥) }
         ensures stop { IfErr result (λ end. IfStop end (WhyStopped self.new.pool self.new.slots (map stat_of self.new.tenants)
-            ((before : ℕ) × (S.failed self.new.store ≡ one_more before)) (S.honest self.old.store → ⊥))) }
+            (S.failed self.new.store ≡ one_more (S.failed self.old.store)) (S.honest self.old.store → ⊥))) }
+        ensures no_failure { OnOk result (S.failed self.new.store ≡ S.failed self.old.store) }
         ensures hints { self.new.shares.hints ≡ self.old.shares.hints }
         ensures frames { self.new.frames ≡ self.old.frames }
         ensures level { self.new.level ≡ self.old.level }
@@ -255,6 +259,8 @@ impl<S: SwapStore> World<S> {
         requires { g < length self.old.tenants }
         ensures logs { (h : ℕ) → log_at self.new.tenants h ≡ log_at self.old.tenants h ++ steps_for h g result.steps }
         ensures boots { map boot_of self.new.tenants ≡ map boot_of self.old.tenants }
+        ensures limits { LimitsStay self.old.tenants self.new.tenants }
+        ensures blocked { BlockedStay self.old.tenants self.new.tenants }
         ensures most { result.steps ≤ count }
         ensures done { result.end ≡ End.Done ↔ result.steps ≡ count }
         ensures need { S.true_to_digests self.old.store → (p : ℕ) (why : Why) → result.end ≡ End.Need p why → (t : TenantIs) →
@@ -266,7 +272,7 @@ impl<S: SwapStore> World<S> {
         ensures room { result.end ≢ End.Done → result.end ≢ End.Stop RunStop.LogFull → (t : TenantIs) →
             IsFull (slice_index_or self.new.tenants g t).guest.log → ⊥ }
         ensures stop { IfStop result.end (WhyStopped self.new.pool self.new.slots (map stat_of self.new.tenants)
-            ((before : ℕ) × (S.failed self.new.store ≡ one_more before)) (S.honest self.old.store → ⊥)) }
+            (S.failed self.new.store ≡ one_more (S.failed self.old.store)) (S.honest self.old.store → ⊥)) }
         ensures hints { self.new.shares.hints ≡ self.old.shares.hints }
         ensures frames { self.new.frames ≡ self.old.frames }
         ensures level { self.new.level ≡ self.old.level }

@@ -358,6 +358,7 @@ impl<S: SwapStore> World<S> {
         ensures others { (t : TenantIs) (other : ℕ) → (other ≡ p → ⊥) →
             page_at (pages_in (slice_index_or self.new.tenants g t)) other ≡ page_at (pages_in (slice_index_or self.old.tenants g t)) other }
         ensures err { IfErr result (WhyAway self.old.pool (S.failed self.new.store ≡ one_more (S.failed self.old.store)) (S.honest self.old.store → ⊥)) }
+        ensures no_failure { OnOk result (S.failed self.new.store ≡ S.failed self.old.store) }
         ensures unchanged { OnErr result (self.new.tenants ≡ self.old.tenants) }
         ensures pool_unchanged { OnErr result (SameNumbers self.old.pool self.new.pool) }
         ensures slots_unchanged { OnErr result (self.new.slots ≡ self.old.slots) }

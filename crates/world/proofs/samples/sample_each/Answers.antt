@@ -1,4 +1,4 @@
-use Rattle.std.proofs.Common.{ℕ, ◌*◌, ◌+◌, ◌<◌, ◌≡◌, length, get_or, set, refl, subst, sym, ◌∙◌, arith, length-set}
+use Rattle.std.proofs.Common.{◌<◌, length, set, refl, subst, arith, length-set}
 use Rattle.taxpolicy.specs.Sample.{after_words}
 use Rattle.tenant.specs.Tenants.{TenantIs, IsSampled}
 use Rattle.world.proofs.Worlds.{any_default}

@@ -1,59 +1,11 @@
-use Rattle.std.proofs.Common.{sym, subst}
-use Rattle.world.specs.declared.events.Event.{Event}
-use Rattle.world.specs.Answers.{IsAnswered}
+use Rattle.world.proofs.Admitting.{still_admitted, room_of}
 use Rattle.world.proofs.world.World.apply.Goals as goal
 
-pub returns-in-Step-clause-answered : goal.returns-in-Step-clause-answered
-returns-in-Step-clause-answered g c =
+pub returns-clause-room : goal.returns-clause-room
+returns-clause-room g c = λ admitted.
     let s = g.S.SwapStore in
-    subst (λ (e : Event). IsAnswered s.true_to_digests s.failed s.honest c.args.tax.percent c.args.self.now c.apply_step.new.self e c.apply_step.result) (sym c.in-Step.is) (c.apply_step.ensures.answered c.args.tax.percent)
-
-pub returns-in-Steps-clause-answered : goal.returns-in-Steps-clause-answered
-returns-in-Steps-clause-answered g c =
-    let s = g.S.SwapStore in
-    subst (λ (e : Event). IsAnswered s.true_to_digests s.failed s.honest c.args.tax.percent c.args.self.now c.apply_steps.new.self e c.apply_steps.result) (sym c.in-Steps.is) (c.apply_steps.ensures.answered c.args.tax.percent)
-
-pub returns-in-Run-clause-answered : goal.returns-in-Run-clause-answered
-returns-in-Run-clause-answered g c =
-    let s = g.S.SwapStore in
-    subst (λ (e : Event). IsAnswered s.true_to_digests s.failed s.honest c.args.tax.percent c.args.self.now c.apply_run.new.self e c.apply_run.result) (sym c.in-Run.is) (c.apply_run.ensures.answered c.args.tax.percent)
-
-pub returns-in-Input-clause-answered : goal.returns-in-Input-clause-answered
-returns-in-Input-clause-answered g c =
-    let s = g.S.SwapStore in
-    subst (λ (e : Event). IsAnswered s.true_to_digests s.failed s.honest c.args.tax.percent c.args.self.now c.apply_input.new.self e c.apply_input.result) (sym c.in-Input.is) (c.apply_input.ensures.answered c.args.tax.percent)
-
-pub returns-in-Probe-clause-answered : goal.returns-in-Probe-clause-answered
-returns-in-Probe-clause-answered g c =
-    let s = g.S.SwapStore in
-    subst (λ (e : Event). IsAnswered s.true_to_digests s.failed s.honest c.args.tax.percent c.args.self.now c.apply_probe.new.self e c.apply_probe.result) (sym c.in-Probe.is) (c.apply_probe.ensures.answered c.args.tax.percent)
-
-pub returns-in-Write-clause-answered : goal.returns-in-Write-clause-answered
-returns-in-Write-clause-answered g c =
-    let s = g.S.SwapStore in
-    subst (λ (e : Event). IsAnswered s.true_to_digests s.failed s.honest c.args.tax.percent c.args.self.now c.apply_write.new.self e c.apply_write.result) (sym c.in-Write.is) (c.apply_write.ensures.answered c.args.tax.percent)
-
-pub returns-in-Supply-clause-answered : goal.returns-in-Supply-clause-answered
-returns-in-Supply-clause-answered g c =
-    let s = g.S.SwapStore in
-    subst (λ (e : Event). IsAnswered s.true_to_digests s.failed s.honest c.args.tax.percent c.args.self.now c.apply_supply.new.self e c.apply_supply.result) (sym c.in-Supply.is) (c.apply_supply.ensures.answered c.args.tax.percent)
-
-pub returns-in-Fault-clause-answered : goal.returns-in-Fault-clause-answered
-returns-in-Fault-clause-answered g c =
-    let s = g.S.SwapStore in
-    subst (λ (e : Event). IsAnswered s.true_to_digests s.failed s.honest c.args.tax.percent c.args.self.now c.apply_fault.new.self e c.apply_fault.result) (sym c.in-Fault.is) (c.apply_fault.ensures.answered c.args.tax.percent)
-
-pub returns-in-Evict-clause-answered : goal.returns-in-Evict-clause-answered
-returns-in-Evict-clause-answered g c =
-    let s = g.S.SwapStore in
-    subst (λ (e : Event). IsAnswered s.true_to_digests s.failed s.honest c.args.tax.percent c.args.self.now c.apply_evict.new.self e c.apply_evict.result) (sym c.in-Evict.is) (c.apply_evict.ensures.answered c.args.tax.percent)
-
-pub returns-in-Scan-clause-answered : goal.returns-in-Scan-clause-answered
-returns-in-Scan-clause-answered g c =
-    let s = g.S.SwapStore in
-    subst (λ (e : Event). IsAnswered s.true_to_digests s.failed s.honest c.args.tax.percent c.args.self.now c.apply_scan.new.self e c.apply_scan.result) (sym c.in-Scan.is) (c.apply_scan.ensures.answered c.args.tax.percent)
-
-pub returns-in-Sample-clause-answered : goal.returns-in-Sample-clause-answered
-returns-in-Sample-clause-answered g c =
-    let s = g.S.SwapStore in
-    subst (λ (e : Event). IsAnswered s.true_to_digests s.failed s.honest c.args.tax.percent c.args.self.now c.apply_sample.new.self e c.apply_sample.result) (sym c.in-Sample.is) (c.apply_sample.ensures.answered c.args.tax.percent)
+    let w = c.args.self.now in
+    let w' = c.apply_event-answer.new.self in
+    let e = c.apply_event-answer.ensures in
+    room_of s.true_to_digests s.failed s.honest s.slots s.held c.args.tax.percent w w' c.args.event c.apply_event-answer.result e.answered c.is_sound.ensures c.shared_frames_are_named.ensures
+    (still_admitted w.frames (s.slots w.store) w'.frames (s.slots w'.store) w.tenants w'.tenants e.frames e.slots e.limits admitted)

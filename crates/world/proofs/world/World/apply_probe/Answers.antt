@@ -1,3 +1,4 @@
+use Rattle.world.proofs.Admitting.{limits_move, blocked_move}
 use Rattle.std.proofs.Common.{ℕ, ◌≡◌, Some, get_or, drop, length, sym, ap, subst, ◌∙◌}
 use Rattle.std.proofs.lemmas.List.{take_at}
 use Rattle.flatvm.specs.Replies.{bytes_at}
@@ -27,3 +28,15 @@ returns-in-Ok-debug_read-clause-answered g c = λ tax t trust.
     let given : bytes_at m c.args.address c.args.count ≡ Some bytes = subst (λ (n : ℕ). bytes_at m c.args.address n ≡ Some bytes) count (c.in-Ok-debug_read.ensures.read trust t) in
     let long : length bytes ≡ c.in-Ok.bytes.len = read_length m c.args.address c.args.count bytes given ∙ sym c.in-Ok.ensures.len in
     given ∙ ap Some (sym (take_at bytes rest c.in-Ok.bytes.len long))
+
+pub returns-in-Ok-debug_read-clause-limits : goal.returns-in-Ok-debug_read-clause-limits
+returns-in-Ok-debug_read-clause-limits g c = limits_move c.args.self.now.tenants c.debug_read.new.self.tenants c.debug_read.ensures.moves
+
+pub returns-in-Ok-debug_read-clause-blocked : goal.returns-in-Ok-debug_read-clause-blocked
+returns-in-Ok-debug_read-clause-blocked g c = blocked_move c.args.self.now.tenants c.debug_read.new.self.tenants c.debug_read.ensures.moves
+
+pub returns-in-Err-clause-limits : goal.returns-in-Err-clause-limits
+returns-in-Err-clause-limits g c = limits_move c.args.self.now.tenants c.debug_read.new.self.tenants c.debug_read.ensures.moves
+
+pub returns-in-Err-clause-blocked : goal.returns-in-Err-clause-blocked
+returns-in-Err-clause-blocked g c = blocked_move c.args.self.now.tenants c.debug_read.new.self.tenants c.debug_read.ensures.moves

@@ -1,4 +1,4 @@
-use Rattle.std.proofs.Common.{◌≡◌, false, ◌∙◌, ap, sym}
+use Rattle.std.proofs.Common.{◌∙◌, ap, sym}
 use Rattle.tenant.specs.Tenants.{TenantIs}
 use Rattle.world.proofs.world.World.apply_run.Goals as goal
 

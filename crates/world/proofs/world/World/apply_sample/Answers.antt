@@ -1,3 +1,4 @@
+use Rattle.world.proofs.Admitting.{limits_sampled, blocked_sampled}
 use Rattle.std.proofs.Common.{sym, ◌∙◌, append-nil}
 use Rattle.world.specs.Worlds.{log_at}
 use Rattle.world.proofs.Sampling.{sampled_logs, sampled_boots}
@@ -8,3 +9,9 @@ returns-clause-logs g c = λ h. sampled_logs c.args.self.now.tenants c.sample.ne
 
 pub returns-clause-boots : goal.returns-clause-boots
 returns-clause-boots g c = sampled_boots c.args.self.now.tenants c.sample.new.self.tenants c.sample.ensures.beside
+
+pub returns-clause-limits : goal.returns-clause-limits
+returns-clause-limits g c = limits_sampled c.args.self.now.tenants c.sample.new.self.tenants c.sample.ensures.beside
+
+pub returns-clause-blocked : goal.returns-clause-blocked
+returns-clause-blocked g c = blocked_sampled c.args.self.now.tenants c.sample.new.self.tenants c.sample.ensures.beside

@@ -1,3 +1,4 @@
+use Rattle.world.proofs.Admitting.{limits_then, limits_move, blocked_move}
 use Rattle.std.proofs.Common.{ℕ, ◌≡◌, ◌++◌, List, get_or, length, refl, sym, ap, subst, ◌∙◌, arith}
 use Rattle.std.proofs.lemmas.Result.{on_ok_weaker}
 use Rattle.items.specs.declared.item.Item.{Item}
@@ -43,3 +44,16 @@ returns-in-Ok-clause-room g c =
     let none = ok_not c.write.result (Stop LogFull) ((t : TenantIs) × IsFull (get_or ts c.args.g t).guest.log) (λ full.
     (c.write.ensures.full full.0).1 (subst IsFull (sym (moved_same (λ u. u.guest.log) (λ u. refl) ts mid c.args.g full.0 c.requires.guest c.reach.ensures.moves)) full.1)) in
     on_ok_weaker c.write.result (λ f t full. f (t, full)) none
+
+pub returns-in-Err-clause-limits : goal.returns-in-Err-clause-limits
+returns-in-Err-clause-limits g c = limits_move c.args.self.now.tenants c.reach.new.self.tenants c.reach.ensures.moves
+
+pub returns-in-Err-clause-blocked : goal.returns-in-Err-clause-blocked
+returns-in-Err-clause-blocked g c = blocked_move c.args.self.now.tenants c.reach.new.self.tenants c.reach.ensures.moves
+
+pub returns-in-Ok-clause-limits : goal.returns-in-Ok-clause-limits
+returns-in-Ok-clause-limits g c =
+    limits_then c.args.self.now.tenants c.reach.new.self.tenants c.write.new.self.tenants (limits_move c.args.self.now.tenants c.reach.new.self.tenants c.reach.ensures.moves) c.write.ensures.limits
+
+pub returns-in-Ok-clause-blocked : goal.returns-in-Ok-clause-blocked
+returns-in-Ok-clause-blocked g c = c.write.ensures.blocked ∙ blocked_move c.args.self.now.tenants c.reach.new.self.tenants c.reach.ensures.moves

@@ -5,6 +5,7 @@ use Rattle.world.specs.declared.events.Answer.{Answer}
 use Rattle.world.specs.Answers.{AllHappen}
 use Rattle.world.specs.Events.{IsProper, own}
 use Rattle.world.specs.Worlds.{log_at}
+use Rattle.world.proofs.Admitting.{limits_then}
 use Rattle.world.proofs.Worlds.{logs_more, all_more}
 use Rattle.world.proofs.world.World.run.Goals as goal
 
@@ -27,13 +28,14 @@ loop-event-preserved g c =
       logs = λ h. subst (λ (l : List Answer). log_at c.apply-answer.new.self.tenants h ≡ log_at c.args.self.now.tenants h ++ own h (at.yielded ++ e ∷ []) l) (sym items)
           (logs_more h at.yielded at.answers.items e a (log_at c.args.self.now.tenants h) (log_at at.self.tenants h) (log_at c.apply-answer.new.self.tenants h)
           (sym at.invariant.count) (at.invariant.logs h) (c.apply-answer.ensures.logs h));
-      happen = subst (λ (l : List Answer). AllHappen store.true_to_digests store.failed store.honest c.args.tax.percent c.args.self.now (at.yielded ++ e ∷ []) l c.apply-answer.new.self) (sym items)
-          (all_more store.true_to_digests store.failed store.honest c.args.tax.percent c.args.self.now at.self c.apply-answer.new.self at.yielded at.answers.items e a at.invariant.happen
-          (record { answered = c.apply-answer.ensures.answered; logs = c.apply-answer.ensures.logs; boots = c.apply-answer.ensures.boots }));
+      happen = subst (λ (l : List Answer). AllHappen store.true_to_digests store.failed store.honest store.slots c.args.tax.percent c.args.self.now (at.yielded ++ e ∷ []) l c.apply-answer.new.self) (sym items)
+          (all_more store.true_to_digests store.failed store.honest store.slots c.args.tax.percent c.args.self.now at.self c.apply-answer.new.self at.yielded at.answers.items e a at.invariant.happen
+          (record { answered = c.apply-answer.ensures.answered; logs = c.apply-answer.ensures.logs; boots = c.apply-answer.ensures.boots; limits = c.apply-answer.ensures.limits; blocked = c.apply-answer.ensures.blocked; frames = c.apply-answer.ensures.frames; slots_stay = c.apply-answer.ensures.slots; room = c.apply-answer.ensures.room }));
       count = omega (arith, ap length items, longer, length-append at.yielded (e ∷ []), at.invariant.count);
       len = omega (arith, c.push_reserved.ensures.len, ap length items, longer, at.invariant.len);
       room = omega (arith, c.push_reserved.ensures.len, c.push_reserved.ensures.capacity, gone, at.invariant.room);
       boots = c.apply-answer.ensures.boots ∙ at.invariant.boots;
+      limits = limits_then c.args.self.now.tenants at.self.tenants c.apply-answer.new.self.tenants at.invariant.limits c.apply-answer.ensures.limits;
       frames = c.apply-answer.ensures.frames ∙ at.invariant.frames;
       slots = c.apply-answer.ensures.slots ∙ at.invariant.slots;
       honest = (λ now. at.invariant.honest.0 (c.apply-answer.ensures.honest.0 now), λ before. c.apply-answer.ensures.honest.1 (at.invariant.honest.1 before));

@@ -1,5 +1,6 @@
 use Rattle.std.proofs.Common.{◌≡◌, ℕ, ◌+◌, ◌≤◌, ◌↔◌, ◌++◌, All, length, map, vec_len, vec_capacity}
 use Rattle.std.specs.Vec.Iter.{into_iter_items, into_iter_len}
+use Rattle.world.specs.Admission.{LimitsStay}
 use Rattle.world.specs.Answers.{AllHappen}
 use Rattle.world.specs.Events.{IsProper, own}
 use Rattle.world.specs.Worlds.{boot_of, log_at}
@@ -12,11 +13,12 @@ invariant-loop-event g l = record {
   left : into_iter_len l.event-iterator ≡ length (into_iter_items l.event-iterator);
   proper : All IsProper (into_iter_items l.event-iterator);
   logs : (h : ℕ) → log_at l.self.tenants h ≡ log_at l.fn.self.tenants h ++ own h l.yielded l.answers.items;
-  happen : AllHappen g.S.SwapStore.true_to_digests g.S.SwapStore.failed g.S.SwapStore.honest l.tax.percent l.fn.self l.yielded l.answers.items l.self;
+  happen : AllHappen g.S.SwapStore.true_to_digests g.S.SwapStore.failed g.S.SwapStore.honest g.S.SwapStore.slots l.tax.percent l.fn.self l.yielded l.answers.items l.self;
   count : length l.answers.items ≡ length l.yielded;
   len : vec_len l.answers ≡ length l.answers.items;
   room : vec_len l.answers + into_iter_len l.event-iterator ≤ vec_capacity l.answers;
   boots : map boot_of l.self.tenants ≡ map boot_of l.fn.self.tenants;
+  limits : LimitsStay l.fn.self.tenants l.self.tenants;
   frames : l.self.frames ≡ l.fn.self.frames;
   slots : g.S.SwapStore.slots l.self.store ≡ g.S.SwapStore.slots l.fn.self.store;
   honest : g.S.SwapStore.honest l.self.store ↔ g.S.SwapStore.honest l.fn.self.store;

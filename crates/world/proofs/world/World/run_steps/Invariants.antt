@@ -1,5 +1,6 @@
 use Rattle.std.proofs.Common.{◌≡◌, ℕ, ◌-◌, ◌<◌, ◌≤◌, ◌↔◌, ◌++◌, length, map}
 use Rattle.world.specs.Events.{steps_for}
+use Rattle.world.specs.Admission.{LimitsStay, BlockedStay}
 use Rattle.world.specs.Worlds.{boot_of, log_at}
 use Rattle.world.proofs.world.World.run_steps.Given as goal
 
@@ -10,6 +11,9 @@ invariant-loop-steps g l = record {
   few : l.steps ≤ l.count;
   logs : (h : ℕ) → log_at l.self.tenants h ≡ log_at l.fn.self.tenants h ++ steps_for h l.g l.steps;
   boots : map boot_of l.self.tenants ≡ map boot_of l.fn.self.tenants;
+  limits : LimitsStay l.fn.self.tenants l.self.tenants;
+  blocked : BlockedStay l.fn.self.tenants l.self.tenants;
+  failed : g.S.SwapStore.failed l.self.store ≡ g.S.SwapStore.failed l.fn.self.store;
   hints : l.self.shares.hints ≡ l.fn.self.shares.hints;
   frames : l.self.frames ≡ l.fn.self.frames;
   level : l.self.level ≡ l.fn.self.level;

@@ -1,4 +1,5 @@
 use Rattle.std.proofs.Common.{◌≡◌, ℕ, ◌<◌, ◌↔◌, length, map, slice_index_or}
+use Rattle.world.specs.Admission.{LimitsStay, BlockedStay}
 use Rattle.world.specs.Worlds.{boot_of, log_at}
 use Rattle.tenant.specs.Tenants.{TenantIs}
 use Rattle.world.proofs.Runs.{IsReady}
@@ -10,6 +11,9 @@ invariant-loop g l = record {
   inside : l.g < length l.self.tenants;
   logs : (h : ℕ) → log_at l.self.tenants h ≡ log_at l.fn.self.tenants h;
   boots : map boot_of l.self.tenants ≡ map boot_of l.fn.self.tenants;
+  limits : LimitsStay l.fn.self.tenants l.self.tenants;
+  blocked : BlockedStay l.fn.self.tenants l.self.tenants;
+  failed : g.S.SwapStore.failed l.self.store ≡ g.S.SwapStore.failed l.fn.self.store;
   hints : l.self.shares.hints ≡ l.fn.self.shares.hints;
   frames : l.self.frames ≡ l.fn.self.frames;
   level : l.self.level ≡ l.fn.self.level;

@@ -1,4 +1,4 @@
-use Rattle.std.proofs.Common.{◌≡◌, ◌<◌, None, false, length, get_or, ◌∙◌, arith}
+use Rattle.std.proofs.Common.{◌<◌, None, false, length, get_or, ◌∙◌, arith}
 use Rattle.reclaim.specs.declared.turn.Action.{Action}
 use Rattle.world.specs.Turns.{LosesPages}
 use Rattle.world.proofs.Worlds.{any_default}

@@ -1,4 +1,4 @@
-use Rattle.std.proofs.Common.{◌≡◌, ◌<◌, ◌++◌, ◌∷◌, [], None, false, List, length, get_or, ap, sym, subst, ◌∙◌, arith, length-append}
+use Rattle.std.proofs.Common.{◌<◌, ◌∷◌, [], None, false, List, length, get_or, ap, sym, subst, ◌∙◌, arith, length-append}
 use Rattle.reclaim.specs.declared.turn.Action.{Action}
 use Rattle.tenant.specs.Tenants.{TenantIs}
 use Rattle.tenant.specs.declared.turning.Aim.{Aim}

@@ -1,4 +1,3 @@
-use Rattle.std.proofs.Common.{ℕ}
 use Rattle.world.proofs.Worlds.{guest_inside, tenants_of, input_sound}
 use Rattle.world.proofs.world.World.turn_guest.Goals as goal
 

@@ -1,3 +1,4 @@
+use Rattle.world.proofs.Admitting.{limits_stay, blocked_stay}
 use Rattle.std.proofs.Common.{◌≡◌, ℕ, ◌++◌, List, Err, get_or, sym, ap, subst, ◌∙◌}
 use Rattle.items.specs.declared.item.Item.{Item}
 use Rattle.items.specs.declared.item.What.TheVariants.{Write}
@@ -54,3 +55,9 @@ returns-clause-logs g c = λ h.
 
 pub returns-clause-boots : goal.returns-clause-boots
 returns-clause-boots g c = same_boots c.args.g c.args.self.now.tenants c.input.new.self.tenants c.requires.guest c.input.ensures.stays
+
+pub returns-clause-limits : goal.returns-clause-limits
+returns-clause-limits g c = limits_stay c.args.g c.args.self.now.tenants c.input.new.self.tenants c.requires.guest c.input.ensures.stays
+
+pub returns-clause-blocked : goal.returns-clause-blocked
+returns-clause-blocked g c = blocked_stay c.args.g c.args.self.now.tenants c.input.new.self.tenants c.requires.guest c.input.ensures.stays
