@@ -1,5 +1,5 @@
 -- Guests that are admitted by their minimums.
-use Rattle.std.proofs.Common.{ℕ, suc, ◌≡◌, ◌+◌, ◌<◌, ◌≤◌, inl, inr, List, [], ◌∷◌, All, false, Option, Some, None, Result, Ok, Err, IfOk, IfErr, OnErr, length, get_or, map, sum_by, refl, sym, ap, subst, ◌∙◌, arith}
+use Rattle.std.proofs.Common.{ℕ, suc, ◌≡◌, ◌+◌, ◌-◌, ◌<◌, ◌≤◌, inl, inr, List, [], ◌∷◌, All, false, Option, Some, None, Result, Ok, Err, IfOk, IfErr, OnErr, length, drop, get_or, map, sum_by, refl, sym, ap, subst, ◌∙◌, arith}
 use Rattle.std.proofs.lemmas.List.Sums.{sum_by-cons}
 use Rattle.std.proofs.lemmas.List.Elements.{All-head, All-tail}
 use Rattle.frames.specs.Frames.{SharedIs}
@@ -115,15 +115,41 @@ one_more_each : (ts : List TenantIs) → sum_by (λ (t : TenantIs). t.minimum + 
 one_more_each [] = refl
 one_more_each (t ∷ ts) = omega (arith, sum_by-cons (λ (u : TenantIs). u.minimum + 1) t ts, sum_by-cons (λ (u : TenantIs). u.minimum) t ts, one_more_each ts)
 
+same_others : (ts ts' : List TenantIs) → map (λ t. length (pages_in t)) ts' ≡ map (λ t. length (pages_in t)) ts
+    → map (λ (t : TenantIs). t.minimum) ts' ≡ map (λ (t : TenantIs). t.minimum) ts → sum_by (λ t. length (pages_in t) - t.minimum) ts' ≡ sum_by (λ t. length (pages_in t) - t.minimum) ts
+same_others [] [] pages least = refl
+same_others [] (u ∷ us) pages least = absurd (omega (arith, ap length pages))
+same_others (t ∷ ts) [] pages least = absurd (omega (arith, ap length pages))
+same_others (t ∷ ts) (u ∷ us) pages least =
+    omega (
+      arith,
+      sum_by-cons (λ (v : TenantIs). length (pages_in v) - v.minimum) t ts,
+      sum_by-cons (λ (v : TenantIs). length (pages_in v) - v.minimum) u us,
+      ap (λ (ns : List ℕ). get_or ns 0 0) pages,
+      ap (λ (ns : List ℕ). get_or ns 0 0) least,
+      same_others ts us (ap (drop 1) pages) (ap (drop 1) least),
+    )
+
+-- a guest has no more pages than these and those that it always keeps
+few_pages : (ts : List TenantIs) → sum_by (λ t. length (pages_in t)) ts ≤ sum_by (λ t. length (pages_in t) - t.minimum) ts + sum_by (λ (t : TenantIs). t.minimum) ts
+few_pages [] = omega arith
+few_pages (t ∷ ts) =
+    omega (
+      arith,
+      sum_by-cons (λ (v : TenantIs). length (pages_in v)) t ts,
+      sum_by-cons (λ (v : TenantIs). length (pages_in v) - v.minimum) t ts,
+      sum_by-cons (λ (v : TenantIs). v.minimum) t ts,
+      few_pages ts,
+    )
+
 pub still_admitted : (frames slots frames' slots' : ℕ) (ts ts' : List TenantIs) → frames' ≡ frames → slots' ≡ slots → LimitsStay ts ts' → IsAdmitted frames slots ts → IsAdmitted frames' slots' ts'
 still_admitted frames slots frames' slots' ts ts' same_frames same_slots s a =
     let count : length ts' ≡ length ts = sym (lengths ts') ∙ ap length s.minimums ∙ lengths ts in
     let least = same_sum (λ (t : TenantIs). t.minimum) ts ts' s.minimums in
-    let pages = same_sum (λ t. length (pages_in t)) ts ts' s.pages in
     record {
       some = omega (arith, a.some, count);
       frames_for = omega (arith, a.frames_for, one_more_each ts, one_more_each ts', least, count, same_frames);
-      slots_for = omega (arith, a.slots_for, least, pages, same_slots);
+      slots_for = omega (arith, a.slots_for, same_others ts ts' s.pages s.minimums, same_slots);
     }
 
 -- ---- where no frame is free, somebody may lose a page, and a slot is free
@@ -212,6 +238,7 @@ module _ (frames slots : ℕ) (trusted : Type 0) (held : ℕ → Option (List �
         ap length full,
         admitted.frames_for,
         admitted.slots_for,
+        few_pages ts,
         one_more_each ts,
         admitted.some,
       )

@@ -66,27 +66,25 @@ frames_wanted runs (guest ∷ guests) (t ∷ ts) b =
       frames_wanted runs guests ts (one_fewer runs guest guests t ts b),
     )
 
-slots_wanted : (runs : ℕ) (guests : List NewGuest) (ts : List TenantIs) → All IsWithinLimits guests → AreBooted runs guests ts
-    → sum_by (λ t. length (pages_in t)) ts ≡ sum_by (λ (g : NewGuest). g.pages - g.minimum) guests + sum_by (λ (t : TenantIs). t.minimum) ts
-slots_wanted runs [] [] within b = refl
-slots_wanted runs [] (t ∷ ts) within b = absurd (omega (arith, b.count))
-slots_wanted runs (guest ∷ guests) [] within b = absurd (omega (arith, b.count))
-slots_wanted runs (guest ∷ guests) (t ∷ ts) within b =
+slots_wanted : (runs : ℕ) (guests : List NewGuest) (ts : List TenantIs) → AreBooted runs guests ts
+    → sum_by (λ t. length (pages_in t) - t.minimum) ts ≡ sum_by (λ (g : NewGuest). g.pages - g.minimum) guests
+slots_wanted runs [] [] b = refl
+slots_wanted runs [] (t ∷ ts) b = absurd (omega (arith, b.count))
+slots_wanted runs (guest ∷ guests) [] b = absurd (omega (arith, b.count))
+slots_wanted runs (guest ∷ guests) (t ∷ ts) b =
     omega (
       arith,
-      sum_by-cons (λ (u : TenantIs). length (pages_in u)) t ts,
-      sum_by-cons (λ (u : TenantIs). u.minimum) t ts,
+      sum_by-cons (λ (u : TenantIs). length (pages_in u) - u.minimum) t ts,
       sum_by-cons (λ (g : NewGuest). g.pages - g.minimum) guest guests,
       (b.each 0 guest t (omega arith)).minimum_is,
       (b.each 0 guest t (omega arith)).size,
-      (All-head IsWithinLimits guest guests within).minimum.1,
-      slots_wanted runs guests ts (All-tail IsWithinLimits guest guests within) (one_fewer runs guest guests t ts b),
+      slots_wanted runs guests ts (one_fewer runs guest guests t ts b),
     )
 
-pub booted_admitted : (runs frames slots : ℕ) (guests : List NewGuest) (ts : List TenantIs) → AreBooted runs guests ts → All IsWithinLimits guests → 1 ≤ length guests
+pub booted_admitted : (runs frames slots : ℕ) (guests : List NewGuest) (ts : List TenantIs) → AreBooted runs guests ts → 1 ≤ length guests
     → HasFramesFor guests frames → HasSlotsFor guests slots → IsAdmitted frames slots ts
-booted_admitted runs frames slots guests ts b within some enough room = record {
+booted_admitted runs frames slots guests ts b some enough room = record {
   some = omega (arith, some, b.count);
   frames_for = omega (arith, frames_wanted runs guests ts b, enough);
-  slots_for = omega (arith, slots_wanted runs guests ts within b, room);
+  slots_for = omega (arith, slots_wanted runs guests ts b, room);
 }

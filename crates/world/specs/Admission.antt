@@ -1,5 +1,5 @@
 -- Guests that are admitted by their minimums, and what that promises.
-use Rattle.std.specs.Prelude.{◌≡◌, ℕ, ◌+◌, ◌<◌, ◌≤◌, List, Ok, Err, length, map, sum_by}
+use Rattle.std.specs.Prelude.{◌≡◌, ℕ, ◌+◌, ◌-◌, ◌<◌, ◌≤◌, List, Ok, Err, length, map, sum_by}
 use Rattle.tenant.specs.Tenants.{TenantIs, pages_in}
 use Rattle.world.specs.declared.debugging.DebugError.{DebugError}
 use Rattle.world.specs.declared.debugging.DebugError.TheVariants as debug
@@ -17,7 +17,7 @@ use Rattle.world.specs.declared.running.RunStop.TheVariants as stop
 pub record IsAdmitted (frames slots : ℕ) (ts : List TenantIs) : Type 0 where
   pub some : 0 < length ts
   pub frames_for : sum_by (λ t. t.minimum + 1) ts ≤ frames
-  pub slots_for : sum_by (λ t. length (pages_in t)) ts ≤ slots + sum_by (λ t. t.minimum) ts
+  pub slots_for : sum_by (λ t. length (pages_in t) - t.minimum) ts ≤ slots
 
 -- ---- what nothing changes that happens in a world
 

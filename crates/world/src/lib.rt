@@ -17,6 +17,7 @@ pub mod debugging;
 pub mod events;
 pub mod faulting;
 mod limits;
+pub mod room;
 pub mod running;
 pub mod samples;
 pub mod turns;

@@ -14,4 +14,4 @@ returns-in-Ok-clause-admitted g c =
     subst (λ (n : ℕ). AreWithinLimits config n guests × All HoldsImage guests × AreAdmitted config n guests) c.slot_count.ensures
     (subst (λ (l : List NewGuest). AreWithinLimits config c.slot_count.result l × All HoldsImage l × AreAdmitted config c.slot_count.result l) c.deref.ensures.value c.in_default.ensures) in
     IfOk-weaker c.with_guests.result _ _
-    (λ w booted admit. booted_admitted config.log_runs config.frames slots guests w.tenants booted is.0.each is.0.count.0 (is.2 admit).0 (is.2 admit).1) c.with_guests.ensures.booted
+    (λ w booted admit. booted_admitted config.log_runs config.frames slots guests w.tenants booted is.0.count.0 (is.2 admit).0 (is.2 admit).1) c.with_guests.ensures.booted
