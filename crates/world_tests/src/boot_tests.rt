@@ -290,3 +290,49 @@ fn guests_are_admitted_by_their_minimums(rt: HostRuntime) {
         Ok(counted(13, 4, 0, 19)),
     );
 }
+
+/// What the minimums of the guests of a world leave over.
+fn room_of(rt: &impl Abort, alloc: Global, numbers: &Numbers) -> Option<(u32, u32)> {
+    let config = Config {
+        frames: numbers.frames,
+        log_runs: numbers.log_runs,
+        admit: numbers.admit,
+    };
+    let guests = guests_of(rt, alloc, numbers);
+    match World::boot(alloc, config, guests, store_of(rt, alloc, numbers, 100)) {
+        Ok(world) => {
+            let room = world.room();
+            let _store = world.close();
+            room
+        }
+        Err((error, _store)) => panic!(rt; "no world: {error:?}"),
+    }
+}
+
+#[test]
+fn minimums_leave_frames_and_slots_over(rt: HostRuntime) {
+    let of = |numbers: &Numbers| room_of(&rt, rt.alloc(), numbers);
+    let two_more = Numbers {
+        frames: 16,
+        ..ADMITTED
+    };
+    expect(&rt, "two frames", of(&two_more), Some((2, 0)));
+    expect(&rt, "just enough", of(&ADMITTED), Some((0, 0)));
+    let slots = Numbers {
+        slots: 23,
+        ..ADMITTED
+    };
+    expect(&rt, "three slots", of(&slots), Some((0, 3)));
+    let few_frames = Numbers {
+        frames: 13,
+        admit: false,
+        ..ADMITTED
+    };
+    expect(&rt, "13 frames", of(&few_frames), None);
+    let few_slots = Numbers {
+        slots: 19,
+        admit: false,
+        ..ADMITTED
+    };
+    expect(&rt, "19 slots", of(&few_slots), None);
+}
