@@ -1,6 +1,7 @@
 //! Guests of one image on a third of the memory that they were promised, whose pages are scanned for equal ones.
 use crate::guests::{PAGES, guest_of, image_of, world_of};
 use items::{DebugRegister, Item, SeatNo, What};
+use paging::Scan;
 use rand_core::SeedableRng;
 use rand_pcg::Pcg32;
 use std::alloc::{AllocError, Global};
@@ -38,9 +39,9 @@ static CODE: [u32; 16] = [
 ];
 
 /// How often each guest has a turn, how many steps it makes in one, and how many pages are scanned after it.
-const ROUNDS: u32 = 32;
+const ROUNDS: u32 = 200;
 
-const STEPS: u32 = 2_000;
+const STEPS: u32 = 60;
 
 const SCANS: u32 = 64;
 
@@ -110,13 +111,23 @@ fn take_turn(alloc: Global, world: &mut World<MemStore>, g: usize, rng: &mut Pcg
     }
 }
 
+/// Scans a page, and then the one that was noted with the same digest, where there is one, so that both share a frame.
+fn scan_page(world: &mut World<MemStore>, guest: u32, p: Ppn) {
+    if guest as usize >= world.count() {
+        return;
+    }
+    if let Scan::Admitted(other) = world.scan(guest as usize, p) {
+        let g = other.guest.number() as usize;
+        if g < world.count() {
+            let _scan = world.scan(g, other.page);
+        }
+    }
+}
+
 /// Scans pages in rising order, guest after guest, going round. `next` counts the pages of all guests.
 fn scan_pages(world: &mut World<MemStore>, next: u32) {
     for at in next..next.saturating_add(SCANS) {
-        let g = (at / PAGES) as usize;
-        if g < world.count() {
-            let _scan = world.scan(g, Ppn::new(at % PAGES));
-        }
+        scan_page(world, at / PAGES, Ppn::new(at % PAGES));
     }
 }
 
