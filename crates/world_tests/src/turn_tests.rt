@@ -1,5 +1,8 @@
 //! Turns of the policy in worlds of two guests of 60 pages and equal shares, over 100 frames. Six of the frames are to stay free, so where
 //! the guests fill 94 or more, each with at least 47, the targets are 47 pages each.
+ghost use Rattle.std.specs.Prelude.{◌<◌};
+ghost use Rattle.world.specs.Events.{IsProper};
+
 use crate::event_tests::{TAX, expect};
 use elf32::Image;
 use guest::Stop;
@@ -217,7 +220,9 @@ fn balloons_inflate_and_deflate(rt: HostRuntime) {
 }
 
 /// What a guest's step is answered.
-fn step(alloc: Global, world: &mut Worlds, event: Event) -> &'static str {
+fn step(alloc: Global, world: &mut Worlds, event: Event) -> &'static str
+    requires { IsProper event }
+{
     match world.apply(alloc, event, TAX, &mut Pcg32::seed_from_u64(1)) {
         Answer::Blocked => "blocked",
         Answer::Stepped(_) => "stepped",
@@ -346,28 +351,37 @@ fn guests_lose_pages_one_after_another(rt: HostRuntime) {
     let _store = world.close();
 }
 
-/// A byte of input, which is a run of its own after a target.
-fn input(alloc: Global, world: &mut Worlds, what: What) {
-    let item = Item {
-        seat: SeatNo::new(1),
-        what,
-    };
-    let _answer = world.apply(
-        alloc,
-        Event::Input(0, item),
-        TAX,
-        &mut Pcg32::seed_from_u64(1),
-    );
+/// What happens to guest 0.
+fn happen(alloc: Global, world: &mut Worlds, event: Event)
+    requires { IsProper event }
+{
+    let _answer = world.apply(alloc, event, TAX, &mut Pcg32::seed_from_u64(1));
+}
+
+/// The log of guest 0 has its 16 runs: an item differs from the one before it each time.
+fn fill_log(alloc: Global, world: &mut Worlds) {
+    for _ in 0..8 {
+        let seat = SeatNo::new(1);
+        let what = What::Drain;
+        happen(alloc, world, Event::Input(0, Item { seat, what }));
+        let what = What::Target(5);
+        happen(alloc, world, Event::Input(0, Item { seat, what }));
+    }
+}
+
+/// The target of guest 0's balloon.
+fn target(rt: &impl Abort, world: &Worlds) -> u32 {
+    if world.count() != 2 {
+        panic!(rt; "not two guests");
+    }
+    world.guest(0).guest().view().devices.target()
 }
 
 #[test]
 fn a_guest_whose_log_is_full_is_left_out(rt: HostRuntime) {
     let alloc = rt.alloc();
     let mut world = filled(&rt, alloc, 20, NEVER, [50, 47]);
-    for _ in 0..8 {
-        input(alloc, &mut world, What::Drain);
-        input(alloc, &mut world, What::Target(5));
-    }
+    fill_log(alloc, &mut world);
     let made = turn(&rt, alloc, &mut world, &mut Pcg32::seed_from_u64(7));
     expect(&rt, "the level", made.level, Level::Soft);
     expect(&rt, "left out", made.left_out(), 1);
@@ -376,12 +390,7 @@ fn a_guest_whose_log_is_full_is_left_out(rt: HostRuntime) {
     }
     expect(&rt, "guest 0", made.aims[0], Aim::LeftOut(Stop::LogFull));
     expect(&rt, "guest 1", made.aims[1], Aim::Kept);
-    expect(
-        &rt,
-        "its target",
-        world.guest(0).guest().view().devices.target(),
-        5,
-    );
+    expect(&rt, "its target", target(&rt, &world), 5);
     let _store = world.close();
 }
 
@@ -398,7 +407,9 @@ fn in_frames(rt: &impl Abort, world: &Worlds) -> [bool; PAGES] {
 }
 
 /// The first page at or after one that is in a frame, going round.
-fn next_resident(resident: &[bool; PAGES], start: usize) -> usize {
+fn next_resident(resident: &[bool; PAGES], start: usize) -> usize
+    ensures { result < 60 }
+{
     for k in 0..PAGES {
         let p = (start % PAGES + k) % PAGES;
         if resident[p] {
