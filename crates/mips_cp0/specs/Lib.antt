@@ -6,3 +6,4 @@ pub mod Exception
 pub mod Interrupts
 pub mod Registers
 pub mod Status
+pub mod Time

@@ -6,7 +6,8 @@ ghost use Rattle.mips_cp0.specs.Cause.{cause_bd};
 ghost use Rattle.mips_cp0.specs.Exception.{exc_code, coprocessor_error};
 ghost use Rattle.mips_cp0.specs.Registers.{SystemRegisters};
 ghost use Rattle.mips_cp0.specs.Entered.{entered, returned, return_address};
-ghost use Rattle.mips_cp0.specs.Interrupts.{ticked};
+ghost use Rattle.mips_cp0.specs.Interrupts.{ticked, interrupt_taken};
+ghost use Rattle.mips_cp0.specs.Time.{after_ticks, count_after, random_after, until_timer, clock_set, IsClock};
 ghost use Rattle.mips_cp0.specs.declared.exception.Exc.{Exc};
 
 /// A law: ERET after the entry of an exception, EXL and ERL having been clear, goes back to the instruction, or to the
@@ -42,6 +43,28 @@ pub fn entry_is_recorded()
 pub fn random_stays_above_wired()
     ensures wired { (r : SystemRegisters) → r.wired ≤ r.random → r.random ≤ r.last_entry → r.wired ≤ (ticked r).random }
     ensures last { (r : SystemRegisters) → r.wired ≤ r.random → r.random ≤ r.last_entry → (ticked r).random ≤ r.last_entry }
+{}
+
+/// A law: before Count comes to Compare, ticks move Count and Random alone, so that no interrupt is taken where none is taken now.
+#[tactic(auto, using(crate::proofs::Ticks::ticks_closed, crate::proofs::Ticks::quiet_before))]
+pub fn ticks_before_the_timer_move_the_clock_alone()
+    ensures clock { (k : ℕ) (r : SystemRegisters) → IsClock r → k < until_timer r → after_ticks k r ≡ clock_set k r }
+    ensures taken { (lines k : ℕ) (r : SystemRegisters) → IsClock r → interrupt_taken lines r ≡ false → k < until_timer r
+        → interrupt_taken lines (after_ticks k r) ≡ false }
+{}
+
+/// A law: Count and Random after any number of ticks.
+#[tactic(auto, using(crate::proofs::Ticks::count_by_ticks, crate::proofs::Ticks::random_by_ticks))]
+pub fn ticks_have_a_closed_form()
+    ensures count { (k : ℕ) (r : SystemRegisters) → r.count < 2 ^ 32 → (after_ticks k r).count ≡ count_after k r }
+    ensures random { (k : ℕ) (r : SystemRegisters) → r.wired ≤ r.random → r.random ≤ r.last_entry → (after_ticks k r).random ≡ random_after k r }
+{}
+
+/// A law: ticks add up, and each brings the timer nearer by one.
+#[tactic(auto, using(crate::proofs::Ticks::ticks_join, crate::proofs::Ticks::until_later))]
+pub fn ticks_add_up()
+    ensures join { (j k : ℕ) (r : SystemRegisters) → after_ticks (k + j) r ≡ after_ticks k (after_ticks j r) }
+    ensures nearer { (k : ℕ) (r : SystemRegisters) → IsClock r → k < until_timer r → until_timer (clock_set k r) ≡ until_timer r - k }
 {}
 
 /// A law: of a word whose bits of a mask are replaced, each part of the mask is that of the new bits, and each other
