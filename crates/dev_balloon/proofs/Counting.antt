@@ -6,7 +6,7 @@ use Rattle.std.proofs.lemmas.List.Sums.{sum_by-set}
 use Rattle.dev_balloon.specs.Balloon.{BalloonIs, is_given, given_count, page_given, page_taken}
 
 -- where no page is given, none of them is
-none_is_given : (given : List Bool) (page : ℕ) → count_by (λ given. given) given ≡ 0 → slice_index_or given page false ≡ false
+pub none_is_given : (given : List Bool) (page : ℕ) → count_by (λ given. given) given ≡ 0 → slice_index_or given page false ≡ false
 none_is_given given page none = grind (arith, common_steps, sum_by-set)
 
 set_same : (given : List Bool) (page : ℕ) → slice_index_or given page false ≡ false → slice_set given page false ≡ given

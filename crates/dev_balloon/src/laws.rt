@@ -19,12 +19,20 @@ pub fn given_page_is_one_more()
 {}
 
 /// A law: a page that is given is taken, which is one page less. Where a page isn't given, nothing changes.
+#[inline(always)]
 #[tactic(auto, using(crate::proofs::Counting::taken_back))]
 pub fn taken_page_is_one_less()
     ensures taken { (page : ℕ) (b : BalloonIs) → is_given page (page_taken page b) ≡ false }
     ensures less { (page : ℕ) (b : BalloonIs) → is_given page b ≡ true → given_count (page_taken page b) + 1 ≡ given_count b }
     ensures same { (page : ℕ) (b : BalloonIs) → is_given page b ≡ false → page_taken page b ≡ b }
     ensures back { (page : ℕ) (b : BalloonIs) → is_given page b ≡ false → page_taken page (page_given page b) ≡ b }
+{}
+
+/// A law: where no page is given, none of them is.
+#[inline(always)]
+#[tactic(auto, using(crate::proofs::Counting::none_is_given))]
+pub fn none_is_given_of_none()
+    ensures { (page : ℕ) (b : BalloonIs) → given_count b ≡ 0 → is_given page b ≡ false }
 {}
 
 /// A law: where no page is given, none is taken.

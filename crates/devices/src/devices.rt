@@ -1,5 +1,5 @@
 //! The devices.
-ghost use Rattle.std.specs.Prelude.{◌≡◌, ◌<◌, ◌≤◌, ◌^◌, ◌↔◌, nat_lt, length, All, IfOk, OnOk, OnErr, IsOk};
+ghost use Rattle.std.specs.Prelude.{◌≡◌, ◌<◌, ◌≤◌, ◌^◌, ◌↔◌, false, nat_lt, length, All, IfOk, OnOk, OnErr, IsOk};
 ghost use Rattle.dev_console.specs.Console.{input_room, output_room};
 ghost use Rattle.dev_balloon.specs.Balloon.{is_given, given_count};
 ghost use Rattle.devices.specs.Devices.{DevicesAre, fresh_devices, page_accessed, device_input_fed, device_output_drained, device_target_set};
@@ -9,7 +9,7 @@ ghost use Rattle.devices.specs.declared.register.DeviceRegister.TheVariants.{Con
 
 use crate::DeviceRegister;
 use dev_balloon::Balloon;
-use dev_balloon::laws::none_is_taken_of_none;
+use dev_balloon::laws::{none_is_given_of_none, none_is_taken_of_none, taken_page_is_one_less};
 use dev_console::{Console, InputFull};
 use std::alloc::{AllocError, Global};
 use std::marker::Model;
@@ -258,11 +258,21 @@ impl Devices {
         self.balloon.given()
     }
 
-    /// Whether a page is given to the balloon; a page that there isn't is not.
+    /// Whether a page is given to the balloon; a page that there isn't is not. An access to one that is not changes nothing here.
+    #[inline(always)]
     pub fn is_given(&self, page: Ppn) -> bool
-        ensures { result ≡ is_given page self.now.balloon }
+        ensures value { result ≡ is_given page self.now.balloon }
+        ensures same { result ≡ false → page_accessed page self.now ≡ self.now }
     {
-        self.balloon.is_given(page)
+        if self.balloon.given() == 0 {
+            // A law, which runs no code: none is given, this one neither.
+            none_is_given_of_none();
+            none_is_taken_of_none();
+            false
+        } else {
+            taken_page_is_one_less();
+            self.balloon.is_given(page)
+        }
     }
 
     /// A law of all devices: what waits in the console is within its room, and is bytes.
