@@ -1,6 +1,7 @@
 pub mod Agreeing
 pub mod Aligned
 pub mod Alike
+pub mod AnyClock
 pub mod Clearing
 pub mod Given
 pub mod Giving

@@ -2,6 +2,7 @@ pub mod Accesses
 pub mod Agreeing
 pub mod Answer
 pub mod Bus
+pub mod Clockless
 pub mod Given
 pub mod Meaning
 pub mod Operations

@@ -1,12 +1,12 @@
 //! The bus.
-ghost use Rattle.std.specs.Prelude.{◌≡◌, ◌≢◌, ℕ, ◌<◌, ◌%◌, length, slice_index, Option, Some, None};
+ghost use Rattle.std.specs.Prelude.{◌≡◌, ◌≢◌, ℕ, ◌<◌, ◌%◌, true, length, slice_index, Option, Some, None};
 ghost use Rattle.word32.specs.Pages.{page_number};
 ghost use Rattle.mips_tlb.specs.declared.kind.Kind.{Kind};
 ghost use Rattle.mips_step.specs.declared.access.Why.{Why};
 ghost use Rattle.mips_step.specs.World.{World, reach, value_in, reached_value, touched, world_loaded, world_stored, lines_of, limit_of};
 ghost use Rattle.mips_step.specs.Given.{reached_given};
 ghost use Rattle.mips_step.specs.Places.{alignment};
-ghost use Rattle.mips_step.specs.Bus.{readiness, IsReady};
+ghost use Rattle.mips_step.specs.Bus.{readiness, IsReady, IsPlain};
 
 use crate::{Kind, Refusal, Size};
 
@@ -41,6 +41,12 @@ pub trait PhysBus {
     fn ready(&self, at: u32, size: Size, kind: Kind) -> Result<(), Refusal>
         requires { at % alignment size ≡ 0 }
         ensures { result ≡ readiness (world self.now) (lacks (kept self.now)) kind size at };
+
+    /// Whether an access is plain: memory answers it, and beside the bytes that a store writes it changes nothing. A bus may
+    /// answer no for any access.
+    fn is_plain(&self, at: u32, size: Size, kind: Kind) -> bool
+        requires { at % alignment size ≡ 0 }
+        ensures { result ≡ true → IsPlain (world self.now) (lacks (kept self.now)) kind size at };
 
     /// The word that a fetch would give.
     fn peek(&self, at: u32) -> u32

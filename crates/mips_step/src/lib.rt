@@ -11,6 +11,7 @@
 
 pub mod access;
 pub mod bus;
+pub mod clockless;
 pub mod cpu;
 pub mod laws;
 mod meaning;
