@@ -256,6 +256,12 @@ impl PhysBus for FlatBus {
     }
 
     #[inline(always)]
+    fn is_plain(&self, at: u32, size: Size, _kind: Kind) -> bool {
+        let (first, count) = reached(size, at);
+        first as usize + count <= self.bytes.len() && !self.devices.is_given(page_of(at))
+    }
+
+    #[inline(always)]
     fn peek(&self, at: u32) -> u32 {
         word_at(&self.bytes, at as usize)
     }

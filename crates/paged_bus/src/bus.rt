@@ -284,6 +284,19 @@ impl PhysBus for PagedBus {
     }
 
     #[inline(always)]
+    #[tactic(auto, using(crate::proofs::Refusing::lacks_kept))]
+    fn is_plain(&self, at: u32, size: Size, kind: Kind) -> bool {
+        if !self.is_in_memory(at, size) {
+            return false;
+        }
+        let page = page_of(at);
+        match lack(self.map.kind(page), kind) {
+            None => !self.devices.is_given(page),
+            Some(_) => false,
+        }
+    }
+
+    #[inline(always)]
     fn peek(&self, at: u32) -> u32 {
         self.map.read_word(at)
     }

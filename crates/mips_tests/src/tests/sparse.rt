@@ -175,6 +175,14 @@ impl PhysBus for Sparse {
         }
     }
 
+    fn is_plain(&self, at: u32, size: Size, _kind: Kind) -> bool {
+        let (first, count) = reached(size, at);
+        let page = page_of(at);
+        first as usize + count <= self.bytes.len()
+            && page.number() != self.absent
+            && !self.devices.is_given(page)
+    }
+
     fn peek(&self, at: u32) -> u32 {
         word_at(&self.bytes, at as usize)
     }
