@@ -11,11 +11,13 @@
 #![tactic(auto)]
 
 pub mod access;
+mod bits;
 mod counts;
 pub mod laws;
 pub mod map;
 pub mod page;
 pub mod remaps;
+mod residents;
 #[cfg(test)]
 mod tests;
 
