@@ -37,6 +37,8 @@ N, of what is booted:
   3  a page of an image with neither frame nor slot
   4  a page of an image that the store failed to write
   5  no memory left for it
+  6  admit, and fewer frames than the guests' minimums and one more for each guest
+  7  admit, and fewer slots than the guests have pages beside their minimums
 
 N, of a log:
   0  the table machine keeps none      1  shorter than a header
@@ -55,7 +57,12 @@ and the console's output, two hexadecimal digits a byte (- where there is none).
 /// What a script says, and what is replied.
 pub const EVENTS: &str = "\
 The header, each once but for guests, which count from 0:
-  frames N  slots N  seed N  guest FILE PAGES SHARES  and perhaps  fail read K  or  fail write K
+  frames N            machine frames          slots N             slots of the swap store          seed N
+  guest FILE PAGES SHARES, or guest FILE PAGES SHARES MIN
+                      MIN is how many pages in frames the guest always keeps, 2 where it isn't given
+  and perhaps:
+  admit               guests are booted only where there are frames for their minimums, and slots for their other pages
+  fail read K         the K-th read of a slot fails          fail write K        the K-th write of a slot fails
 
 Events, one a line, and what is replied to each:
   step G N            at most N steps of guest G: step G done K, and need P first, swapped or copy, or stop S, where it ends early
@@ -70,8 +77,12 @@ Events, one a line, and what is replied to each:
   scan G P            its page P is compared with others: noted, admitted G P, joined or skipped
   evict G P           its page P leaves its frame: ok, skipped, refused 2 (no slot) or refused 8 (not written)
   damage SLOT BYTE    ok: the byte of the slot is inverted
+  sample              ok: of each guest the draws of the last sample that were touched are counted, and pages drawn anew
+  level               the policy's turn: level high, level soft, level hard or level low, at which guests may be blocked
   audit               frames N free N private N shared N refs N slots N of N
   dump G              its state, as exec prints it
+
+A guest that is blocked makes no step until the next level: step G done 0 blocked, run G done 0 blocked.
 
 S:
   1  no frame  2  no slot  3  a slot that could not be read  4  a slot that is damaged  5  no memory left  6  a log that is full

@@ -45,7 +45,7 @@ impl Model for Guest {
 }
 
 impl Guest {
-    ghost use Rattle.std.specs.Prelude.{◌≡◌, ◌≢◌, ◌+◌, ◌<◌, ◌≤◌, ◌^◌, ◌⊎◌, ℕ, true, false, List, [], OnOk, OnErr, IsErrOf, ◌↔◌, IfOk, IfSome, IsNone, None, Some, Option};
+    ghost use Rattle.std.specs.Prelude.{◌≡◌, ◌≢◌, ◌+◌, ◌<◌, ◌≤◌, ◌^◌, ◌⊎◌, ℕ, true, false, List, [], OnOk, OnErr, IsErrOf, ◌↔◌, IfOk, IfSome, IfNone, IsNone, None, Some, Option};
     ghost use Rattle.std.specs.Prelude.{length, replicate, slice_set};
     ghost use Rattle.elf32.specs.Images.{FitsPages};
     ghost use Rattle.items.specs.Items.{is_step};
@@ -67,7 +67,7 @@ impl Guest {
     ghost use Rattle.taxpolicy.specs.Sample.{drawn, after_words};
     ghost use Rattle.physmap.specs.declared.page.Page.{Page};
     ghost use Rattle.physmap.specs.declared.page.PageKind.{PageKind};
-    ghost use Rattle.physmap.specs.Pages.{page_at, kind_at, own_frame};
+    ghost use Rattle.physmap.specs.Pages.{page_at, kind_at, is_resident, NoneInFrame, own_frame};
     ghost use Rattle.physmap.specs.Holdings.{private_pages, shared_pages, swapped_pages, resident_pages};
     ghost use Rattle.physmap.specs.Outline.{outline};
     ghost use Rattle.paging.specs.Faith.{Kept};
@@ -232,6 +232,17 @@ impl Guest {
         ensures within { result ≤ length self.now.bus.pages }
     {
         self.bus.resident()
+    }
+
+    /// The first of its pages from a number on that is in a frame, its own or a shared one; None where there is none. It costs what
+    /// `PhysMap::next_resident` does.
+    pub fn next_resident(&self, from: u32) -> Option<Ppn>
+        ensures within { IfSome result (λ p. (from ≤ p) × (p < length self.now.bus.pages)) }
+        ensures resident { IfSome result (λ p. is_resident (kind_at self.now.bus.pages p) ≡ true) }
+        ensures first { IfSome result (λ p. NoneInFrame self.now.bus.pages from p) }
+        ensures none { IfNone result (NoneInFrame self.now.bus.pages from (length self.now.bus.pages)) }
+    {
+        self.bus.next_resident(from)
     }
 
     /// Whether the page of this number was accessed since it was last drawn for a sample, if it ever was: by a fetch, a load or a store

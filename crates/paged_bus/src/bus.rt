@@ -1,5 +1,5 @@
 //! The pages of a guest with its devices, as a bus.
-ghost use Rattle.std.specs.Prelude.{◌≡◌, ◌*◌, ◌%◌, ◌<◌, ◌≤◌, ◌^◌, ◌↔◌, IsTrue, IsSome, IfOk, IfSome, length, replicate, None, Some};
+ghost use Rattle.std.specs.Prelude.{◌≡◌, ◌*◌, ◌%◌, ◌<◌, ◌≤◌, ◌^◌, ◌↔◌, IsTrue, IsSome, IfOk, IfSome, IfNone, length, replicate, None, Some, true};
 ghost use Rattle.word32.specs.Pages.{page_number};
 ghost use Rattle.word32.specs.Zeros.{zeros};
 ghost use Rattle.devices.specs.Devices.{fresh_devices, page_accessed};
@@ -10,7 +10,7 @@ ghost use Rattle.mips_step.specs.Places.{alignment};
 ghost use Rattle.taxpolicy.specs.Sample.{drawn, after_words};
 ghost use Rattle.physmap.specs.declared.page.Page.{Page};
 ghost use Rattle.physmap.specs.declared.page.PageKind.{PageKind};
-ghost use Rattle.physmap.specs.Pages.{page_at, kind_at, is_resident, shown, memory_of, own_frame, slot_of, digest_of, ticket_of};
+ghost use Rattle.physmap.specs.Pages.{page_at, kind_at, is_resident, NoneInFrame, shown, memory_of, own_frame, slot_of, digest_of, ticket_of};
 ghost use Rattle.physmap.specs.Holdings.{private_pages, shared_pages, swapped_pages, resident_pages};
 ghost use Rattle.physmap.specs.Outline.{outline};
 ghost use Rattle.paged_bus.specs.Buses.{world_of, IsSettled};
@@ -167,6 +167,19 @@ impl PagedBus {
         ensures within { result ≤ length self.now.pages }
     {
         self.map.resident()
+    }
+
+    /// The first page from a number on that is in a frame, its own or a shared one; None where there is none. It costs what
+    /// `PhysMap::next_resident` does.
+    pub fn next_resident(&self, from: u32) -> Option<Ppn>
+        ensures within { IfSome result (λ p. (from ≤ p) × (p < length self.now.pages)) }
+        ensures resident { IfSome result (λ p. is_resident (kind_at self.now.pages p) ≡ true) }
+        ensures first { IfSome result (λ p. NoneInFrame self.now.pages from p) }
+        ensures none { IfNone result (NoneInFrame self.now.pages from (length self.now.pages)) }
+    {
+        // Who asks how many pages there are knows that they are at most 2^20.
+        let _pages = self.pages();
+        self.map.next_resident(from)
     }
 
     /// Whether the page of this number was accessed since it was last drawn for a sample, if it ever was: by a fetch, a load or a store

@@ -1,6 +1,7 @@
 pub mod Accesses
 pub mod Bytes
 pub mod Holdings
+pub mod Marking
 pub mod Memory
 pub mod OtherPages
 pub mod Outlines

@@ -5,6 +5,7 @@ use Rattle.frames.specs.Counts.{one_at}
 use Rattle.physmap.specs.declared.page.Page.{Page}
 use Rattle.physmap.specs.declared.page.Page.TheVariants.{Private, Shared, Swapped}
 use Rattle.physmap.specs.Pages.{page_at, AreWhole, HasOwnTicket}
+use Rattle.physmap.specs.Marks.{AreMarked}
 
 -- how many frames of number k a page has for its own
 abbrev pub frame_in : ℕ → Page → ℕ
@@ -65,11 +66,12 @@ IsExchanged count =
     (pages : List Page) (p : ℕ) (page : Page) → p < length pages →
     sum_by count (slice_set pages p page) + count (page_at pages p) ≡ sum_by count pages + count page
 
--- the pages of a map, and how many of them are private, shared and swapped
-pub record AreCounted (pages : List Page) (private shared swapped : ℕ) : Type 0 where
+-- the pages of a map, how many of them are private, shared and swapped, and a bit for each of them, whether it is in a frame
+pub record AreCounted (pages : List Page) (private shared swapped : ℕ) (bits : List ℕ) : Type 0 where
   pub whole : AreWhole pages
   pub tickets : All HasOwnTicket pages
   pub few : length pages < 2 ^ 32
   pub in_own_frames : private ≡ private_pages pages
   pub in_shared_frames : shared ≡ shared_pages pages
   pub in_slots : swapped ≡ swapped_pages pages
+  pub marked : AreMarked pages bits

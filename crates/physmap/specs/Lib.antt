@@ -1,3 +1,4 @@
 pub mod Holdings
+pub mod Marks
 pub mod Outline
 pub mod Pages

@@ -1,5 +1,5 @@
 -- The pages of a guest, and the memory that they are.
-use Rattle.std.specs.Prelude.{◌≡◌, ℕ, ◌*◌, Bool, true, false, List, [], length, map, take, drop, slice_index_or}
+use Rattle.std.specs.Prelude.{◌≡◌, ℕ, ◌*◌, ◌<◌, ◌≤◌, Bool, true, false, List, [], length, map, take, drop, slice_index_or}
 use Rattle.std.specs.List.{flat_map, All}
 use Rattle.word32.specs.Zeros.{zeros}
 use Rattle.frames.specs.Frames.{FrameIs}
@@ -32,6 +32,10 @@ abbrev pub is_resident : PageKind → Bool
 is_resident Private = true
 is_resident Shared = true
 is_resident _ = false
+
+-- no page from one number on to below another is in a frame
+abbrev pub NoneInFrame : List Page → ℕ → ℕ → Type 0
+NoneInFrame pages from to = (p : ℕ) → from ≤ p → p < to → is_resident (kind_at pages p) ≡ false
 
 -- the bytes that a page shows: those in its frame, zeros where it has none
 abbrev pub shown : Page → List ℕ

@@ -1,10 +1,11 @@
 //! The pages of a guest by their numbers.
-ghost use Rattle.std.specs.Prelude.{◌≡◌, ℕ, ◌+◌, ◌*◌, ◌<◌, ◌≤◌, ◌↔◌, IsTrue, IfOk, IfSome, IsSome, length, replicate, slice_set};
+ghost use Rattle.std.specs.Prelude.{◌≡◌, ℕ, ◌+◌, ◌*◌, ◌<◌, ◌≤◌, ◌^◌, ◌↔◌, IsTrue, IfOk, IfSome, IfNone, IsSome, length, replicate, slice_set, true};
 ghost use Rattle.word32.specs.Words.{patched};
-ghost use Rattle.physmap.specs.Pages.{page_at, kind_at, is_resident, shown, memory_of, HasOwnTicket, own_frame, slot_of, digest_of, ticket_of};
+ghost use Rattle.physmap.specs.Pages.{page_at, kind_at, is_resident, NoneInFrame, shown, memory_of, HasOwnTicket, own_frame, slot_of, digest_of, ticket_of};
 ghost use Rattle.physmap.specs.Holdings.{private_pages, shared_pages, swapped_pages, resident_pages};
 
 use crate::counts::Counts;
+use crate::residents::Residents;
 use crate::{Page, PageKind};
 use std::alloc::{AllocError, Global};
 use std::marker::Model;
@@ -15,6 +16,7 @@ use word32::Ppn;
 pub struct PhysMap {
     pub(crate) pages: Vec<Page>,
     counts: Counts,
+    residents: Residents,
 }
 
 impl Model for PhysMap {
@@ -26,15 +28,17 @@ impl Model for PhysMap {
 
     ghost view = { λ m. m.pages.items };
 
-    ghost invariant = { λ m. AreCounted m.pages.items m.counts.private m.counts.shared m.counts.swapped };
+    ghost invariant = { λ m. AreCounted m.pages.items m.counts.private m.counts.shared m.counts.swapped m.residents };
 }
 
 impl PhysMap {
-    /// So many pages, none of which was ever touched. `AllocError` where there is no memory for the list of them.
-    #[tactic(auto, using(crate::proofs::Replacing::zero_pages_are_whole, crate::proofs::Replacing::zero_pages_have_no_ticket, crate::proofs::Holdings::none_private, crate::proofs::Holdings::none_shared, crate::proofs::Holdings::none_swapped))]
+    /// So many pages, none of which was ever touched. `AllocError` where there is no memory for the list of them, or for what tells
+    /// quickly which of them are in a frame.
+    #[tactic(auto, using(crate::proofs::Replacing::zero_pages_are_whole, crate::proofs::Replacing::zero_pages_have_no_ticket, crate::proofs::Holdings::none_private, crate::proofs::Holdings::none_shared, crate::proofs::Holdings::none_swapped, crate::proofs::Marking::none_marked))]
     pub fn new(alloc: Global, count: u32) -> Result<PhysMap, AllocError>
         ensures { IfOk result (λ map. map ≡ replicate count Page.Zero) }
     {
+        let residents = Residents::new(alloc, count)?;
         let mut pages = Vec::with_capacity(alloc, count as usize)?;
         for _page in 0..count {
             pages.push_reserved(Page::Zero);
@@ -44,7 +48,11 @@ impl PhysMap {
             shared: 0,
             swapped: 0,
         };
-        Ok(PhysMap { pages, counts })
+        Ok(PhysMap {
+            pages,
+            counts,
+            residents,
+        })
     }
 
     /// How many pages there are; each has 4,096 bytes of the memory.
@@ -143,8 +151,24 @@ impl PhysMap {
         self.counts.private + self.counts.shared
     }
 
+    /// The first page from a number on that is in a frame, its own or a shared one; None where there is none. It looks at no page: each has
+    /// a bit, 64 of them in a word, and each word has a bit, set where it is not 0. Of these words it looks at two, and at one for each
+    /// 4,096 pages that it passes over: at 258 words at most.
+    pub fn next_resident(&self, from: u32) -> Option<Ppn>
+        requires { length self.now ≤ 2 ^ 20 }
+        ensures within { IfSome result (λ p. (from ≤ p) × (p < length self.now)) }
+        ensures resident { IfSome result (λ p. is_resident (kind_at self.now p) ≡ true) }
+        ensures first { IfSome result (λ p. NoneInFrame self.now from p) }
+        ensures none { IfNone result (NoneInFrame self.now from (length self.now)) }
+    {
+        match self.residents.next(from as usize) {
+            Some(p) => Some(Ppn::new(p as u32)),
+            None => None,
+        }
+    }
+
     // Replaces a page; what it was comes back.
-    #[tactic(auto, using(crate::proofs::Replacing::memory_patched, crate::proofs::Replacing::whole_set, crate::proofs::Replacing::tickets_set, crate::proofs::Holdings::private_set, crate::proofs::Holdings::shared_set, crate::proofs::Holdings::swapped_set, crate::proofs::Holdings::private_counted, crate::proofs::Holdings::shared_counted, crate::proofs::Holdings::swapped_counted, crate::proofs::Holdings::counts_fit_set))]
+    #[tactic(auto, using(crate::proofs::Replacing::memory_patched, crate::proofs::Replacing::whole_set, crate::proofs::Replacing::tickets_set, crate::proofs::Holdings::private_set, crate::proofs::Holdings::shared_set, crate::proofs::Holdings::swapped_set, crate::proofs::Holdings::private_counted, crate::proofs::Holdings::shared_counted, crate::proofs::Holdings::swapped_counted, crate::proofs::Holdings::counts_fit_set, crate::proofs::Marking::marked_set))]
     pub(crate) fn replace(&mut self, p: Ppn, page: Page) -> Page
         requires there { p < length self.old }
         requires ticket { HasOwnTicket page }
@@ -156,6 +180,7 @@ impl PhysMap {
         // Who asks for a page's bytes knows how many there are.
         let _bytes = page.bytes();
         self.counts = self.counts.without(&self.pages[place]).with(&page);
+        self.residents.put(place, page.kind().is_resident());
         mem::replace(&mut self.pages[place], page)
     }
 
@@ -164,7 +189,9 @@ impl PhysMap {
         let PhysMap {
             mut pages,
             counts: _,
+            residents,
         } = self;
+        drop(residents);
         while let Some(page) = pages.pop() {
             page.release().close();
         }

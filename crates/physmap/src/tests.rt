@@ -567,3 +567,85 @@ fn a_page_of_its_own_is_admitted(rt: HostRuntime) -> Result<(), Fail> {
     shares.close();
     Ok(())
 }
+
+/// The first page from a number on that is in a frame.
+fn next(rt: &impl Abort, map: &PhysMap, from: u32) -> Option<u32> {
+    if map.len() > 1 << 20 {
+        panic!(rt; "{} are too many pages", map.len());
+    }
+    match map.next_resident(from) {
+        Some(page) => Some(page.number()),
+        None => None,
+    }
+}
+
+/// How many pages a map has, and the number of the one page of it that is in a frame.
+static ALONE: [(u32, u32); 9] = [
+    (1, 0),
+    (63, 62),
+    (64, 63),
+    (65, 64),
+    (4_097, 0),
+    (4_097, 63),
+    (4_097, 4_095),
+    (4_097, 4_096),
+    (20_000, 19_999),
+];
+
+/// One page gets a frame and leaves it, in a map of otherwise untouched pages.
+fn alone(rt: &impl Abort, alloc: Global, count: u32, number: u32) -> Result<(), AllocError> {
+    let mut map = PhysMap::new(alloc, count)?;
+    let mut numbers = Numbers::below(2);
+    expect(rt, "at first", next(rt, &map, 0), None);
+    supply_zero(rt, &mut map, number, zeroed(rt, alloc, &mut numbers));
+    let past = number.saturating_add(1);
+    expect(rt, "from the first page", next(rt, &map, 0), Some(number));
+    expect(rt, "from itself", next(rt, &map, number), Some(number));
+    expect(rt, "from past it", next(rt, &map, past), None);
+    expect(rt, "from nowhere", next(rt, &map, u32::MAX), None);
+    let slot = slot_ticket(rt, &mut numbers);
+    returned_frame(rt, swap_out(rt, &mut map, number, slot)).close();
+    expect(rt, "away", next(rt, &map, 0), None);
+    map.close();
+    ended(rt, numbers);
+    Ok(())
+}
+
+#[test]
+fn the_one_page_in_a_frame_is_found(rt: HostRuntime) -> Result<(), Fail> {
+    for (count, number) in &ALONE {
+        alone(&rt, rt.alloc(), *count, *number)?;
+    }
+    Ok(())
+}
+
+#[test]
+fn pages_in_frames_are_found_one_after_another(rt: HostRuntime) -> Result<(), Fail> {
+    let mut map = PhysMap::new(rt.alloc(), 4_097)?;
+    let mut numbers = Numbers::below(5);
+    for number in [3, 64, 4_096] {
+        supply_zero(&rt, &mut map, number, zeroed(&rt, rt.alloc(), &mut numbers));
+    }
+    for (from, found) in [
+        (0, 3),
+        (3, 3),
+        (4, 64),
+        (64, 64),
+        (65, 4_096),
+        (4_096, 4_096),
+    ] {
+        expect(&rt, "of three", next(&rt, &map, from), Some(found));
+    }
+    expect(&rt, "past the last", next(&rt, &map, 4_097), None);
+    let slot = slot_ticket(&rt, &mut numbers);
+    returned_frame(&rt, swap_out(&rt, &mut map, 64, slot)).close();
+    expect(&rt, "one is away", next(&rt, &map, 4), Some(4_096));
+    let frame = zeroed(&rt, rt.alloc(), &mut numbers);
+    supply_swapped(&rt, &mut map, 64, frame).close();
+    expect(&rt, "it is back", next(&rt, &map, 4), Some(64));
+    returned_frame(&rt, give(&rt, &mut map, 3)).close();
+    expect(&rt, "one is given", next(&rt, &map, 0), Some(64));
+    map.close();
+    ended(&rt, numbers);
+    Ok(())
+}

@@ -19,7 +19,7 @@ use Rattle.world.specs.declared.running.RunStop.TheVariants as stop
 use Rattle.world.specs.Evictions.{Became}
 use Rattle.world.specs.Events.{IfStop, IsForRoom, IsSupplied}
 use Rattle.tenant.specs.Tenants.{TenantIs, pages_in}
-use Rattle.world.specs.Samples.{OnlySamplesChange}
+use Rattle.world.specs.Samples.{IsSampling}
 use Rattle.world.specs.Turns.{IsTurn}
 use Rattle.world.specs.Worlds.{WorldIs}
 use Rattle.simulation.specs.declared.reply.Reply.{Reply}
@@ -106,7 +106,7 @@ Answers trusted slots w w' (event.Probe guest address count) r = Unit {0}
 Answers trusted slots w w' (event.Fault guest) r = AnswersFault trusted guest w.tenants w'.tenants r
 Answers trusted slots w w' (event.Scan guest page) r = AnswersScan w guest page r
 Answers trusted slots w w' (event.Evict guest page) r = AnswersEvict w w' guest page r
-Answers trusted slots w w' event.Sample r = OnlySamplesChange w.tenants w'.tenants
+Answers trusted slots w w' event.Sample r = IsSampling w.tenants w'.tenants
 Answers trusted slots w w' event.Level r = AnswersLevel w w' r
 Answers trusted slots w w' event.Audit r = AnswersAudit w slots r
 Answers trusted slots w w' (event.Dump guest) r = Unit {0}

@@ -11,7 +11,7 @@ ghost use Rattle.world.specs.Debugging.{write_of};
 ghost use Rattle.world.specs.declared.running.RunStop.{RunStop};
 ghost use Rattle.world.specs.Events.{IsForRoom};
 ghost use Rattle.tenant.specs.Tenants.{TenantIs};
-ghost use Rattle.world.specs.Samples.{OnlySamplesChange};
+ghost use Rattle.world.specs.Samples.{IsSampling};
 ghost use Rattle.world.specs.Worlds.{boot_of, log_at};
 ghost use Rattle.simulation.specs.Answers as answers;
 ghost use Rattle.simulation.specs.Effects as spec;
@@ -343,7 +343,7 @@ fn evict<S: SwapStore>(world: &mut World<S>, guest: u32, page: u32) -> Reply
 fn sample<S: SwapStore, R: Rng>(world: &mut World<S>, rng: &mut R) -> Reply
     ensures logs { (h : ℕ) → log_at world.new.tenants h ≡ log_at world.old.tenants h ++ [] }
     ensures of { result ≡ Reply.Done }
-    ensures answers { OnlySamplesChange world.old.tenants world.new.tenants }
+    ensures answers { IsSampling world.old.tenants world.new.tenants }
     ensures boots { map boot_of world.new.tenants ≡ map boot_of world.old.tenants }
     ensures store { world.new.store ≡ world.old.store }
 {

@@ -48,7 +48,7 @@ impl Model for Tenant {
 }
 
 impl Tenant {
-    ghost use Rattle.std.specs.Prelude.{◌≡◌, ◌≢◌, ◌<◌, ◌≤◌, ◌^◌, ℕ, true, false, List, Option, None, Some, OnOk, OnErr, IfOk, IfSome, IsErrOf, ◌↔◌};
+    ghost use Rattle.std.specs.Prelude.{◌≡◌, ◌≢◌, ◌<◌, ◌≤◌, ◌^◌, ℕ, true, false, List, Option, None, Some, OnOk, OnErr, IfOk, IfSome, IfNone, IsErrOf, ◌↔◌};
     ghost use Rattle.std.specs.Prelude.{length, slice_set};
     ghost use Rattle.elf32.specs.Images.{FitsPages};
     ghost use Rattle.items.specs.Items.{is_step};
@@ -63,7 +63,7 @@ impl Tenant {
     ghost use Rattle.mips_tlb.specs.declared.kind.Kind.TheVariants.{Store};
     ghost use Rattle.physmap.specs.declared.page.Page.{Page};
     ghost use Rattle.physmap.specs.declared.page.PageKind.{PageKind};
-    ghost use Rattle.physmap.specs.Pages.{page_at, kind_at, own_frame};
+    ghost use Rattle.physmap.specs.Pages.{page_at, kind_at, is_resident, NoneInFrame, own_frame};
     ghost use Rattle.physmap.specs.Holdings.{private_pages, shared_pages, swapped_pages, resident_pages};
     ghost use Rattle.physmap.specs.Outline.{outline};
     ghost use Rattle.paged_bus.specs.Lacking.{lacks_in};
@@ -169,6 +169,17 @@ impl Tenant {
         ensures within { result ≤ length (pages_in self.now) }
     {
         self.guest.resident()
+    }
+
+    /// The first of its pages from a number on that is in a frame, its own or a shared one; None where there is none. It costs what
+    /// `PhysMap::next_resident` does.
+    pub fn next_resident(&self, from: u32) -> Option<Ppn>
+        ensures within { IfSome result (λ p. (from ≤ p) × (p < length (pages_in self.now))) }
+        ensures resident { IfSome result (λ p. is_resident (kind_at (pages_in self.now) p) ≡ true) }
+        ensures first { IfSome result (λ p. NoneInFrame (pages_in self.now) from p) }
+        ensures none { IfNone result (NoneInFrame (pages_in self.now) from (length (pages_in self.now))) }
+    {
+        self.guest.next_resident(from)
     }
 
     /// How many of its pages are in frames of their own.

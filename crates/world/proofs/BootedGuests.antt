@@ -2,7 +2,6 @@
 use Rattle.std.proofs.Common.{All, ℕ, suc, ◌≡◌, ◌+◌, ◌-◌, ◌≤◌, sum_by, refl, inl, inr, List, [], ◌∷◌, ◌++◌, length, get_or, sym, ap, subst, ◌∙◌, arith, length-append}
 use Rattle.std.proofs.lemmas.Bool.{cases_lt}
 use Rattle.std.proofs.lemmas.List.{get_or_append_left}
-use Rattle.std.proofs.lemmas.List.Elements.{All-head, All-tail}
 use Rattle.std.proofs.lemmas.List.Sums.{sum_by-cons}
 use Rattle.world.specs.declared.boot.Config.{Config}
 use Rattle.world.specs.declared.boot.NewGuest.{NewGuest}
@@ -10,7 +9,7 @@ use Rattle.tenant.specs.declared.loading.BootError.{BootError}
 use Rattle.tenant.specs.declared.loading.BootError.TheVariants as error
 use Rattle.tenant.specs.Tenants.{TenantIs, pages_in, IsBooted}
 use Rattle.world.specs.Admission.{IsAdmitted}
-use Rattle.world.specs.Boots.{IsWithinLimits, AreWithinLimits, HoldsImage, HasFramesFor, HasSlotsFor, AreAdmitted, AreBooted, WhyNotBooted}
+use Rattle.world.specs.Boots.{AreWithinLimits, HoldsImage, HasFramesFor, HasSlotsFor, AreAdmitted, AreBooted, WhyNotBooted}
 use Rattle.tenant.specs.Loading.{IsOfLoading}
 use Rattle.world.proofs.Worlds.{get_last}
 

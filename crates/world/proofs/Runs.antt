@@ -1,5 +1,5 @@
 -- Steps of a guest, one after another.
-use Rattle.std.proofs.Common.{ℕ, zero, suc, ◌≡◌, ◌+◌, ◌<◌, Bool, true, false, if◌then◌else◌, ◌==◌, List, [], ◌∷◌, ◌++◌, length, get_or, set, map, replicate, refl, sym, ap, subst, ◌∙◌, arith, append_assoc, ◌≢◌, Option, Some, None, Result, Ok, Err, OnErr}
+use Rattle.std.proofs.Common.{ℕ, suc, ◌≡◌, ◌+◌, ◌<◌, Bool, true, false, if◌then◌else◌, ◌==◌, List, [], ◌∷◌, ◌++◌, length, get_or, set, map, replicate, refl, sym, ap, subst, ◌∙◌, arith, append_assoc, ◌≢◌, Option, Some, None, Result, Ok, Err, OnErr}
 use Rattle.std.specs.List.{Contains}
 use Rattle.std.proofs.lemmas.List.{append-nil, length-map, replicate-append-replicate, set-get_or}
 use Rattle.items.specs.declared.item.Item.{Item}
@@ -24,7 +24,7 @@ use Rattle.world.specs.Events.{steps_for, IsSupplied}
 use Rattle.tenant.specs.Tenants.{TenantIs, pages_in, beside_pages, Stays, NothingHappens}
 use Rattle.world.specs.Worlds.{Changes, boot_of, log_at}
 use Rattle.world.specs.Victims.{OnlyPagesMove}
-use Rattle.world.proofs.Worlds.{same_logs}
+use Rattle.world.proofs.Worlds.{same_logs, set_twice}
 use Rattle.world.proofs.Victims.{map_at, still_inside, first_of, stays_beside, fault_logs}
 
 -- ---- so many steps
@@ -61,11 +61,6 @@ same_view t t' n s = ap (λ (items : List Item). run items t'.guest.boot) n.item
 -- nothing has happened to one of the guests, and then nothing again
 pub changes_none : (how : TenantIs → TenantIs → Type 0) → ((t : TenantIs) → how t t) → (g : ℕ) (ts : List TenantIs) → Changes how g ts ts
 changes_none how same g ts = record { one = λ t. sym (set-get_or ts g t); so = λ t. same (get_or ts g t) }
-
-set_twice : (ts : List TenantIs) (g : ℕ) (t t' : TenantIs) → set (set ts g t) g t' ≡ set ts g t'
-set_twice [] g t t' = refl
-set_twice (u ∷ ts) zero t t' = refl
-set_twice (u ∷ ts) (suc g) t t' = ap (λ (l : List TenantIs). u ∷ l) (set_twice ts g t t')
 
 pub changes_then : (how : TenantIs → TenantIs → Type 0) → ((t u v : TenantIs) → how t u → how u v → how t v) → (g : ℕ) (ts mid ts' : List TenantIs)
     → Changes how g ts mid → Changes how g mid ts' → Changes how g ts ts'

@@ -49,13 +49,14 @@ others_stay g old mid new t' is others h t past =
 
 -- ---- what stays
 
-same_map : (f : TenantIs → TenantIs) (old new : List TenantIs) → length new ≡ length old → ((g : ℕ) (t : TenantIs) → g < length old → f (get_or new g t) ≡ f (get_or old g t)) → map f new ≡ map f old
+-- what is the same of each guest is the same of all
+pub same_map : {Y : Type 0} (f : TenantIs → Y) (old new : List TenantIs) → length new ≡ length old → ((g : ℕ) (t : TenantIs) → g < length old → f (get_or new g t) ≡ f (get_or old g t)) → map f new ≡ map f old
 same_map f [] [] size same = refl
 same_map f [] (u ∷ new) size same = absurd (omega (arith, size))
 same_map f (t ∷ old) [] size same = absurd (omega (arith, size))
-same_map f (t ∷ old) (u ∷ new) size same =
-    ap (λ (v : TenantIs). v ∷ map f new) (same 0 t (omega arith))
-    ∙ ap (λ (l : List TenantIs). f t ∷ l) (same_map f old new (omega (arith, size)) (λ g d inside. same (suc g) d (omega (arith, inside))))
+same_map {Y} f (t ∷ old) (u ∷ new) size same =
+    ap (λ (v : Y). v ∷ map f new) (same 0 t (omega arith))
+    ∙ ap (λ (l : List Y). f t ∷ l) (same_map f old new (omega (arith, size)) (λ g d inside. same (suc g) d (omega (arith, inside))))
 
 pub only_samples : (words : Stream) (old new : List TenantIs) → AreSampled words old new → OnlySamplesChange old new
 only_samples words old new s = same_map without_sample old new s.count (λ g t inside. ap without_sample (s.each g t inside).rest)

@@ -32,8 +32,9 @@ use Rattle.world.specs.Turns.{IsTurned, AreTurned, LosesPages, MayLose, AreFewer
 use Rattle.world.specs.Victims.{OnlyPagesMove}
 use Rattle.world.specs.declared.turns.Turn.{Turn}
 use Rattle.world.specs.Worlds.{WorldIs, Changes, PagesMove, items_of, boot_of, log_at}
-use Rattle.world.proofs.Worlds.{get_last, its_log}
-use Rattle.world.proofs.Victims.{one_less, none_free, only_pages, pages_then, stays_beside, map_at}
+use Rattle.world.proofs.Worlds.{get_last, its_log, log_past, set_twice}
+use Rattle.world.proofs.Sampling.{same_map}
+use Rattle.world.proofs.Victims.{some_tenant, one_less, none_free, only_pages, pages_then, stays_beside, map_at}
 
 -- ---- why a page stays
 
@@ -70,11 +71,6 @@ loses_more m n t u v a b = record {
   moves = record { beside = b.moves.beside ∙ a.moves.beside; count = b.moves.count ∙ a.moves.count };
   fewer = omega (arith, a.fewer, b.fewer);
 }
-
-set_twice : (ts : List TenantIs) (g : ℕ) (t t' : TenantIs) → set (set ts g t) g t' ≡ set ts g t'
-set_twice [] g t t' = refl
-set_twice (u ∷ ts) zero t t' = refl
-set_twice (u ∷ ts) (suc g) t t' = ap (λ (l : List TenantIs). u ∷ l) (set_twice ts g t t')
 
 pub one_loses_more : (m n g : ℕ) (ts mid ts' : List TenantIs) → Changes (LosesPages m) g ts mid → Changes (LosesPages n) g mid ts' → Changes (LosesPages (m + n)) g ts ts'
 one_loses_more m n g ts mid ts' a b = record {
@@ -277,13 +273,6 @@ aimed_items wanted t t' aim.Kept aimed = aimed.1.items ∙ sym (append-nil (item
 aimed_items wanted t t' (aim.Set pages) aimed = aimed.2
 aimed_items wanted t t' (aim.LeftOut stop) aimed = aimed.1.items ∙ sym (append-nil (items_of t))
 
-some_tenant : (ts : List TenantIs) (h : ℕ) → h < length ts → TenantIs
-some_tenant [] h inside = absurd (omega (arith, inside))
-some_tenant (t ∷ ts) h inside = t
-
-log_past : (ts : List TenantIs) (h : ℕ) → length ts ≤ h → log_at ts h ≡ []
-log_past ts h past = get_or_past (map items_of ts) h [] (omega (arith, past, length-map ts items_of))
-
 turned_log : (actions : List Action) (made : List Aim) (ts mid : List TenantIs) → Action → AreTurned actions ts made mid → (h : ℕ) → log_at mid h ≡ log_at ts h ++ aim_items (get_or made h aim.Kept)
 turned_log actions made ts mid d turned h = elim (cases_lt h (length ts)) [
   | inl inside ↦
@@ -300,14 +289,6 @@ pub turn_log : (actions : List Action) (made : List Aim) (ts mid ts' : List Tena
     → log_at ts' h ≡ log_at ts h ++ aim_items (get_or made h aim.Kept)
 turn_log actions made ts mid ts' d turned moves h =
     ap (λ (logs : List (List Item)). get_or logs h []) (stays_beside items_of (λ t. refl) mid ts' moves) ∙ turned_log actions made ts mid d turned h
-
-pub same_map : {Y : Type 0} (f : TenantIs → Y) (old new : List TenantIs) → length new ≡ length old → ((g : ℕ) (t : TenantIs) → g < length old → f (get_or new g t) ≡ f (get_or old g t)) → map f new ≡ map f old
-same_map f [] [] size same = refl
-same_map f [] (u ∷ new) size same = absurd (omega (arith, size))
-same_map f (t ∷ old) [] size same = absurd (omega (arith, size))
-same_map {Y} f (t ∷ old) (u ∷ new) size same =
-    ap (λ (v : Y). v ∷ map f new) (same 0 t (omega arith))
-    ∙ ap (λ (l : List Y). f t ∷ l) (same_map f old new (omega (arith, size)) (λ g d inside. same (suc g) d (omega (arith, inside))))
 
 pub turn_boots : (actions : List Action) (made : List Aim) (ts mid ts' : List TenantIs) → Action → AreTurned actions ts made mid → OnlyPagesMove mid ts' → map boot_of ts' ≡ map boot_of ts
 turn_boots actions made ts mid ts' d turned moves =

@@ -10,7 +10,7 @@ use Rattle.frames.specs.FreeList.{FreeList}
 use Rattle.frames.proofs.Counting.{count_cons, one_same}
 use Rattle.physmap.specs.declared.page.Page.{Page}
 use Rattle.physmap.specs.declared.page.Page.TheVariants as page
-use Rattle.physmap.specs.Pages.{kind_of, page_at, kind_at, is_resident}
+use Rattle.physmap.specs.Pages.{kind_of, page_at, kind_at, is_resident, NoneInFrame}
 use Rattle.physmap.specs.Holdings.{one_private, one_shared, resident_pages}
 use Rattle.paging.specs.Moves.{SameNumbers}
 use Rattle.paging.proofs.Exchanging.{exchanged}
@@ -130,6 +130,39 @@ none_at_all spared ps start later before some = by spared refl
               (stays_unless (is_resident (kind_at ps p)) (pages.0 == p) (pages.1 == p) (subst (λ (s : Option (ℕ × ℕ)). may_leave s ps p ≡ false) is (none p h))
               (ne_eqb pages.0 p (λ e. a (sym e))) (ne_eqb pages.1 p (λ e. b (sym e))))),
         )
+
+-- ---- a search for a page that may leave
+
+-- a page that is in no frame may not
+out_of_frame : (spared : Option (ℕ × ℕ)) (ps : List Page) (p : ℕ) → is_resident (kind_at ps p) ≡ false → may_leave spared ps p ≡ false
+out_of_frame spared ps p e = ap (λ (r : Bool). r && not (is_one_of spared p)) e
+
+and_false : (r : Bool) → (r && false) ≡ false
+and_false true = refl
+and_false false = refl
+
+-- a page that is spared may not
+is_spared : (spared : Option (ℕ × ℕ)) (ps : List Page) (p : ℕ) → is_one_of spared p ≡ true → may_leave spared ps p ≡ false
+is_spared spared ps p e = ap (λ (s : Bool). is_resident (kind_at ps p) && not s) e ∙ and_false (is_resident (kind_at ps p))
+
+-- each other may
+pub leaves : (spared : Option (ℕ × ℕ)) (ps : List Page) (p : ℕ) → is_resident (kind_at ps p) ≡ true → is_one_of spared p ≡ false → may_leave spared ps p ≡ true
+leaves spared ps p e f = ap (λ (r : Bool). r && not (is_one_of spared p)) e ∙ ap not f
+
+-- pages are passed over that are in no frame
+pub passed_over : (spared : Option (ℕ × ℕ)) (ps : List Page) (from start to : ℕ) → NoneResident spared ps from start → NoneInFrame ps start to → NoneResident spared ps from to
+passed_over spared ps from start to so none = λ p low high. elim (cases_lt p start) [
+  | inl before ↦ so p low before
+  | inr later ↦ out_of_frame spared ps p (none p later high)
+]
+
+-- and one that is spared
+pub spared_over : (spared : Option (ℕ × ℕ)) (ps : List Page) (from start page : ℕ) → NoneResident spared ps from start → NoneInFrame ps start page → is_one_of spared page ≡ true
+    → NoneResident spared ps from (page + 1)
+spared_over spared ps from start page so none one = λ p low high. elim (cases_lt p page) [
+  | inl before ↦ passed_over spared ps from start page so none p low before
+  | inr later ↦ let same : p ≡ page = omega arith in is_spared spared ps p (ap (is_one_of spared) same ∙ one)
+]
 
 both_true : (r s : Bool) → (r && not s) ≡ true → (r ≡ true) × (s ≡ false)
 both_true true true e = absurd (cc)

@@ -35,6 +35,7 @@ use Rattle.tenant.specs.Tenants.{TenantIs, pages_in, beside_pages, IsKept, Stays
 use Rattle.world.specs.Worlds.{WorldIs, Sound, Changes, PagesMove, items_of, boot_of, log_at, item_for}
 use Rattle.tenant.proofs.Giving.{outline_conserves, outline_reads}
 use Rattle.tenant.proofs.Keeping.{used_kept}
+use Rattle.world.proofs.Victims.{some_tenant}
 
 -- ---- one guest
 
@@ -126,8 +127,14 @@ chosen h g a b e = ap (λ (t : Bool). if t then a else b) (eq-eqb h g e)
 unchosen : {X : Type 0} (h g : ℕ) (a b : X) → h ≢ g → (if h == g then a else b) ≡ b
 unchosen h g a b apart = ap (λ (t : Bool). if t then a else b) (ne_eqb h g apart)
 
-log_past : (ts : List TenantIs) (h : ℕ) → length ts ≤ h → log_at ts h ≡ []
+pub log_past : (ts : List TenantIs) (h : ℕ) → length ts ≤ h → log_at ts h ≡ []
 log_past ts h past = get_or_past (map items_of ts) h [] (omega (arith, past, length-map ts items_of))
+
+-- a guest that becomes one, and then another
+pub set_twice : (ts : List TenantIs) (g : ℕ) (t t' : TenantIs) → set (set ts g t) g t' ≡ set ts g t'
+set_twice [] g t t' = refl
+set_twice (u ∷ ts) zero t t' = refl
+set_twice (u ∷ ts) (suc g) t t' = ap (λ (l : List TenantIs). u ∷ l) (set_twice ts g t t')
 
 -- the log of each guest, where that of one guest has become another
 log_set : (ts : List TenantIs) (g h : ℕ) (t' d : TenantIs) → g < length ts → log_at (set ts g t') h ≡ (if h == g then items_of t' else log_at ts h)
@@ -302,10 +309,6 @@ input_sound frames slots trusted held ts g t t' pool book es inside is same kept
     (λ trust. trust) (λ trust k. kept k) (λ trust slot none. refl) s
 
 -- ---- what events add to logs
-
-some_tenant : (ts : List TenantIs) (g : ℕ) → g < length ts → TenantIs
-some_tenant [] g inside = absurd (omega (arith, inside))
-some_tenant (t ∷ ts) g inside = t
 
 pub step_logs : (Around : Type 0) (g : ℕ) (ts ts' : List TenantIs) (r : Result StepOut Stop) → g < length ts
     → IfOk r (λ s. need_of s ≡ None → Changes (λ t t'. Adds t (step_by 0) t') g ts ts') → IfOk r (λ s. need_of s ≢ None → Changes NothingHappens g ts ts' × Around)

@@ -15,10 +15,13 @@ use Rattle.flatvm.specs.Answers.{replied}
 use Rattle.flatvm.specs.Items.{accepts, reply}
 use Rattle.flatvm.specs.Replies.{bytes_at}
 use Rattle.flatvm.specs.declared.reply.Reply.{Reply}
+use Rattle.sha2.specs.Sha256.{sha256}
+use Rattle.sharetab.specs.Shares.{SharesAre}
 use Rattle.swapstore.specs.Failures.{one_more}
 use Rattle.physmap.specs.declared.page.PageKind.TheVariants.{Private}
-use Rattle.physmap.specs.Pages.{kind_at}
-use Rattle.paging.specs.Scans.{Answered}
+use Rattle.physmap.specs.Pages.{page_at, kind_at, shown}
+use Rattle.paging.specs.Scans.{Answered, Comes, HintsAfter}
+use Rattle.paging.specs.declared.scan.Scan.{Scan}
 use Rattle.paging.specs.Supplies.{WhyAway}
 use Rattle.paging.specs.declared.supply.SupplyError.{SupplyError}
 use Rattle.paged_bus.specs.Lacking.{lacks_in}
@@ -45,7 +48,7 @@ use Rattle.world.specs.Debugging.{IfStopped}
 use Rattle.world.specs.Events.{own_items, IfStop, IsForRoom, IsSupplied, WhyStopped}
 use Rattle.world.specs.Evictions.{Became}
 use Rattle.world.specs.Admission.{IsAdmitted, LimitsStay, BlockedStay, NotTurned, FindsRoom}
-use Rattle.world.specs.Samples.{OnlySamplesChange}
+use Rattle.world.specs.Samples.{IsSampling}
 use Rattle.world.specs.Turns.{IsTurn}
 use Rattle.world.specs.Victims.{WhyLacking}
 use Rattle.world.specs.Worlds.{WorldIs, SameAround, boot_of, log_at}
@@ -111,6 +114,13 @@ pub record IsEvictAnswer (p : ℕ) (t t' : TenantIs) (slots : FreeList) (failed 
   pub page : IfOk done (λ evicted. Became p evicted (pages_in t) (pages_in t') slots)
   pub err : IfErr done (WhyStays slots failed)
 
+-- the scan of a page has an answer that is so, and the page, the entries and the hints become what it says
+pub record IsScanAnswer (g p : ℕ) (shares shares' : SharesAre) (t t' : TenantIs) (scan : Scan) : Type 0 where
+  pub answer : Answered shares (pages_in t) (record { guest = g; page = p }) scan
+  pub hints : HintsAfter shares.hints (sha256 (shown (page_at (pages_in t) p))) (record { guest = g; page = p }) scan shares'.hints
+  pub came_free : List ℕ
+  pub comes : Comes shares.entries (pages_in t) p scan shares'.entries (pages_in t') came_free
+
 -- There is no such guest, or no such page to supply. The table of shared frames knows guests by numbers below 2^32.
 abbrev pub IsNowhere : List TenantIs → Event → Type 0
 IsNowhere ts (event.Step g) = length ts ≤ g
@@ -172,8 +182,8 @@ IsAnswered trusted failures honest tax w w' (event.Fault g) (answer.Faulted done
 IsAnswered trusted failures honest tax w w' (event.Evict g p) (answer.Evicted done) =
     (t : TenantIs) → IsEvictAnswer p (slice_index_or w.tenants g t) (slice_index_or w'.tenants g t) w.slots (FailsOnce failures w w') done
 IsAnswered trusted failures honest tax w w' (event.Scan g p) (answer.Scanned scan) =
-    (t : TenantIs) → Answered w.shares (pages_in (slice_index_or w.tenants g t)) (record { guest = g; page = p }) scan
-IsAnswered trusted failures honest tax w w' event.Sample answer.Sampled = OnlySamplesChange w.tenants w'.tenants × SameAround w w'
+    (t : TenantIs) → IsScanAnswer g p w.shares w'.shares (slice_index_or w.tenants g t) (slice_index_or w'.tenants g t) scan
+IsAnswered trusted failures honest tax w w' event.Sample answer.Sampled = IsSampling w.tenants w'.tenants × SameAround w w'
 IsAnswered trusted failures honest tax w w' event.Level (answer.Turned (Ok turn)) = IsTurn tax (FailsOnce failures w w') w turn w'
 IsAnswered trusted failures honest tax w w' event.Level (answer.Turned (Err error)) = w' ≡ w
 IsAnswered trusted failures honest tax w w' (event.Step g) answer.Blocked = IsBlocked g w w'

@@ -17,3 +17,9 @@ without_sample t = record t { sample = record { draws = None; active = 0; few = 
 -- of the guests only the samples of their pages have changed
 abbrev pub OnlySamplesChange : List TenantIs → List TenantIs → Type 0
 OnlySamplesChange old new = map without_sample new ≡ map without_sample old
+
+-- A sample has been taken of the pages of all guests, by the words of a generator, and nothing else of them has changed.
+pub record IsSampling (old new : List TenantIs) : Type 0 where
+  pub words : Stream
+  pub sampled : AreSampled words old new
+  pub beside : OnlySamplesChange old new

@@ -1,4 +1,4 @@
--- What a turn of the policy does in a world.
+-- What a turn of the policy does in a world (Waldspurger, OSDI 2002, section 6.3).
 use Rattle.std.specs.Prelude.{◌≡◌, ℕ, ◌+◌, ◌<◌, ◌≤◌, min, List, [], ◌∷◌, Option, Some, None, IfSome, length, map, slice_index_or}
 use Rattle.items.specs.declared.item.Item.{Item}
 use Rattle.physmap.specs.Holdings.{resident_pages}

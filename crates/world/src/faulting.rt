@@ -63,15 +63,9 @@ fn is_one_of(pages: &Option<(Ppn, Ppn)>, p: Ppn) -> bool
     }
 }
 
-// Whether a page is in a frame and is not spared.
-fn may_leave(tenant: &Tenant, spared: &Option<(Ppn, Ppn)>, p: Ppn) -> bool
-    requires { p < length (pages_in tenant.now) }
-    ensures { result ≡ may_leave spared.now (pages_in tenant.now) p }
-{
-    tenant.kind(p).is_resident() && !is_one_of(spared, p)
-}
-
-// The first page from one number on to below another that is in a frame, but for those that are spared.
+// The first page from one number on to below another that is in a frame, but for those that are spared. It asks the guest at most once
+// more than there are of them.
+#[tactic(auto, using(crate::proofs::Victims::leaves, crate::proofs::Victims::passed_over, crate::proofs::Victims::spared_over))]
 fn first_resident(tenant: &Tenant, spared: &Option<(Ppn, Ppn)>, from: u32, to: u32) -> Option<Ppn>
     requires { to ≤ length (pages_in tenant.now) }
     ensures within { IfSome result (λ p. (from ≤ p) × (p < to)) }
@@ -79,12 +73,18 @@ fn first_resident(tenant: &Tenant, spared: &Option<(Ppn, Ppn)>, from: u32, to: u
     ensures first { IfSome result (λ p. NoneResident spared.now (pages_in tenant.now) from p) }
     ensures none { IfNone result (NoneResident spared.now (pages_in tenant.now) from to) }
 {
-    let _count = tenant.page_count();
-    for p in from..to {
-        let page = Ppn::new(p);
-        if may_leave(tenant, spared, page) {
+    let mut start = from;
+    while start < to {
+        let Some(page) = tenant.next_resident(start) else {
+            return None;
+        };
+        if page.number() >= to {
+            return None;
+        }
+        if !is_one_of(spared, page) {
             return Some(page);
         }
+        start = page.number() + 1;
     }
     None
 }

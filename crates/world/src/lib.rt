@@ -6,6 +6,10 @@
 //! is an `Event`, and `World::run` does events one after another: after them the log of each guest has just its own items more
 //! (`own`, `specs/Events.antt`), whatever the others did and wherever pages went.
 //!
+//! What is answered to an event is said by one definition, `IsAnswered` (`specs/Answers.antt`), a row for each kind of event; what a turn of
+//! the policy does by `IsTurn` (`specs/Turns.antt`); and that guests that are admitted by their minimums get a frame for each page that
+//! they need by `FindsRoom` (`specs/Admission.antt`).
+//!
 //! Each event works on lent parts, with one guest's pages, by `paging`; `specs/Lent.antt` has what exact books say of those.
 #![tactic(auto)]
 

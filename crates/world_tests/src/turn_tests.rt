@@ -151,83 +151,97 @@ fn check(
     expect(rt, "resident pages", residents(rt, world), after);
 }
 
+/// A turn of the policy: the page of guest 0 that gets a frame before it, its level, what becomes of the target of guest 0's balloon, and
+/// how many pages of the guests are in frames after it.
+type Row = (Option<usize>, Level, Aim, (u32, u32));
+
+/// Turns of guests of which 49 and 47 pages are in frames at first.
+static TURNS: [Row; 6] = [
+    // 4 of 100 are free
+    (None, Level::High, Aim::Kept, (49, 47)),
+    (Some(49), Level::Soft, Aim::Set(3), (50, 47)),
+    // the same target once more makes no item
+    (None, Level::Soft, Aim::Kept, (50, 47)),
+    (Some(50), Level::Soft, Aim::Set(4), (51, 47)),
+    // one is free: five pages are swapped out, and balloons stay
+    (Some(51), Level::Hard, Aim::Kept, (47, 47)),
+    (None, Level::High, Aim::Set(0), (47, 47)),
+];
+
+/// Checks the turn of a row, by which nothing is refused and the target of guest 1's balloon stays.
+fn check_row(rt: &impl Abort, alloc: Global, world: &mut Worlds, row: Row) {
+    let (supplied, level, aim, after) = row;
+    if let Some(page) = supplied {
+        supply(rt, alloc, world, 0, page);
+    }
+    check(rt, alloc, world, level, [aim, Aim::Kept], None, after);
+}
+
 #[test]
 fn balloons_inflate_and_deflate(rt: HostRuntime) {
     let alloc = rt.alloc();
     let mut world = filled(&rt, alloc, 20, NEVER, [49, 47]);
-    // 4 of 100 are free
-    check(
-        &rt,
-        alloc,
-        &mut world,
-        Level::High,
-        [Aim::Kept, Aim::Kept],
-        None,
-        (49, 47),
-    );
-    supply(&rt, alloc, &mut world, 0, 49);
-    check(
-        &rt,
-        alloc,
-        &mut world,
-        Level::Soft,
-        [Aim::Set(3), Aim::Kept],
-        None,
-        (50, 47),
-    );
-    // the same target once more makes no item
-    check(
-        &rt,
-        alloc,
-        &mut world,
-        Level::Soft,
-        [Aim::Kept, Aim::Kept],
-        None,
-        (50, 47),
-    );
-    supply(&rt, alloc, &mut world, 0, 50);
-    check(
-        &rt,
-        alloc,
-        &mut world,
-        Level::Soft,
-        [Aim::Set(4), Aim::Kept],
-        None,
-        (51, 47),
-    );
-    supply(&rt, alloc, &mut world, 0, 51);
-    // one is free: five pages are swapped out, and balloons stay
-    check(
-        &rt,
-        alloc,
-        &mut world,
-        Level::Hard,
-        [Aim::Kept, Aim::Kept],
-        None,
-        (47, 47),
-    );
-    check(
-        &rt,
-        alloc,
-        &mut world,
-        Level::High,
-        [Aim::Set(0), Aim::Kept],
-        None,
-        (47, 47),
-    );
+    for row in &TURNS {
+        check_row(&rt, alloc, &mut world, *row);
+    }
     expect(&rt, "slots", world.slots_used(), 5);
     let _store = world.close();
 }
 
-/// What a guest's step is answered.
-fn step(alloc: Global, world: &mut Worlds, event: Event) -> &'static str
-    requires { IsProper event }
+/// Steps that a guest is asked for.
+#[derive(Clone, Copy)]
+enum Asked {
+    Step,
+    Steps(u32),
+    Run(u32),
+}
+
+/// The event of a guest's steps.
+fn event_of(asked: Asked, g: usize) -> Event
+    ensures { IsProper result }
 {
-    match world.apply(alloc, event, TAX, &mut Pcg32::seed_from_u64(1)) {
+    match asked {
+        Asked::Step => Event::Step(g),
+        Asked::Steps(count) => Event::Steps(g, count),
+        Asked::Run(count) => Event::Run(g, count),
+    }
+}
+
+/// What steps of a guest are answered.
+fn answer_of(alloc: Global, world: &mut Worlds, asked: Asked, g: usize) -> &'static str {
+    match world.apply(alloc, event_of(asked, g), TAX, &mut Pcg32::seed_from_u64(1)) {
         Answer::Blocked => "blocked",
         Answer::Stepped(_) => "stepped",
         Answer::Ran(_) => "ran",
         _ => "neither",
+    }
+}
+
+/// Steps, whose they are, and what they are answered while guest 0 is blocked.
+static BLOCKED: [(Asked, usize, &str); 5] = [
+    (Asked::Step, 0, "blocked"),
+    (Asked::Steps(0), 0, "blocked"),
+    (Asked::Run(5), 0, "blocked"),
+    (Asked::Step, 1, "stepped"),
+    (Asked::Steps(0), 1, "ran"),
+];
+
+/// The same while nobody is.
+static GOING: [(Asked, usize, &str); 3] = [
+    (Asked::Step, 0, "stepped"),
+    (Asked::Steps(0), 0, "ran"),
+    (Asked::Step, 1, "stepped"),
+];
+
+/// Checks what steps are answered.
+fn check_answers(
+    rt: &impl Abort,
+    alloc: Global,
+    world: &mut Worlds,
+    rows: &[(Asked, usize, &'static str)],
+) {
+    for (asked, g, wanted) in rows {
+        expect(rt, "steps", answer_of(alloc, world, *asked, *g), *wanted);
     }
 }
 
@@ -236,63 +250,15 @@ fn a_guest_above_its_target_is_blocked_at_low(rt: HostRuntime) {
     let alloc = rt.alloc();
     let mut world = filled(&rt, alloc, 20, NEVER, [53, 47]);
     expect(&rt, "nobody yet", blocked(&rt, &world), (false, false));
-    check(
-        &rt,
-        alloc,
-        &mut world,
-        Level::Low,
-        [Aim::Kept, Aim::Kept],
-        None,
-        (47, 47),
-    );
+    let low = (None, Level::Low, Aim::Kept, (47, 47));
+    check_row(&rt, alloc, &mut world, low);
     expect(&rt, "guest 0", blocked(&rt, &world), (true, false));
-    expect(
-        &rt,
-        "a step",
-        step(alloc, &mut world, Event::Step(0)),
-        "blocked",
-    );
-    expect(
-        &rt,
-        "no step",
-        step(alloc, &mut world, Event::Steps(0, 0)),
-        "blocked",
-    );
-    expect(
-        &rt,
-        "steps",
-        step(alloc, &mut world, Event::Run(0, 5)),
-        "blocked",
-    );
-    expect(
-        &rt,
-        "another's",
-        step(alloc, &mut world, Event::Step(1)),
-        "stepped",
-    );
-    expect(
-        &rt,
-        "others'",
-        step(alloc, &mut world, Event::Steps(1, 0)),
-        "ran",
-    );
+    check_answers(&rt, alloc, &mut world, &BLOCKED);
     // six are free
-    check(
-        &rt,
-        alloc,
-        &mut world,
-        Level::High,
-        [Aim::Kept, Aim::Kept],
-        None,
-        (47, 47),
-    );
+    let high = (None, Level::High, Aim::Kept, (47, 47));
+    check_row(&rt, alloc, &mut world, high);
     expect(&rt, "nobody", blocked(&rt, &world), (false, false));
-    expect(
-        &rt,
-        "a step",
-        step(alloc, &mut world, Event::Step(0)),
-        "stepped",
-    );
+    check_answers(&rt, alloc, &mut world, &GOING);
     let _store = world.close();
 }
 

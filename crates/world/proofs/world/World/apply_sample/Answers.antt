@@ -4,6 +4,9 @@ use Rattle.world.specs.Worlds.{log_at}
 use Rattle.world.proofs.Sampling.{sampled_logs, sampled_boots}
 use Rattle.world.proofs.world.World.apply_sample.Goals as goal
 
+pub returns-clause-answered : goal.returns-clause-answered
+returns-clause-answered g c = λ tax. (record { words = g.R.Rng.stream c.args.rng.now; sampled = c.sample.ensures.sampled; beside = c.sample.ensures.beside }, c.sample.ensures.around)
+
 pub returns-clause-logs : goal.returns-clause-logs
 returns-clause-logs g c = λ h. sampled_logs c.args.self.now.tenants c.sample.new.self.tenants c.sample.ensures.beside h ∙ sym (append-nil (log_at c.args.self.now.tenants h))
 
