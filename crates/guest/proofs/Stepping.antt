@@ -45,7 +45,7 @@ module _ (lacks : Lacks) where
       each x xs now later (suc k) d h = later k d (omega arith)
 
 -- where a step lacks nothing, each page that it accesses is there and in no slot
-within_here : (pages : List Page) (xs : List Access) → first_lack (lacks_in pages) xs ≡ None → Within (here pages) xs
+pub within_here : (pages : List Page) (xs : List Access) → first_lack (lacks_in pages) xs ≡ None → Within (here pages) xs
 within_here pages xs none k d h = covered pages (get_or xs k d).page (get_or xs k d).kind (none_lacks (lacks_in pages) xs none k d h)
 
 -- a guest needs what its view lacks by where the pages are

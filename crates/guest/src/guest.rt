@@ -9,6 +9,7 @@ use elf32::Image;
 use flatvm::{Reply, Unreached, View};
 use items::Item;
 use journal::Journal;
+use mips_run::DecodeCache;
 use mips_step::{Cpu, Ppn, Why};
 use paged_bus::{InputError, PagedBus};
 use rand_core::Rng;
@@ -26,6 +27,8 @@ use std::sync::Arc;
 pub struct Guest {
     pub(crate) cpu: Cpu,
     pub(crate) bus: PagedBus,
+    /// What its words encode, which the words alone decide, so that no clause speaks of it.
+    pub(crate) decoded: DecodeCache,
     /// What the guest has booted, with as many pages: the view begins there.
     pub(crate) image: Arc<Image, Global>,
     pub(crate) pages: u32,
@@ -99,9 +102,11 @@ impl Guest {
         ensures seats { IfOk result (λ g. g.seats ≡ 0) }
     {
         let journal = Journal::new(alloc, log_runs)?;
+        let decoded = DecodeCache::new(alloc)?;
         Ok(Guest {
             cpu: Cpu::boot(image.entry),
             bus: PagedBus::new(alloc, pages)?,
+            decoded,
             image,
             pages,
             journal,
@@ -329,7 +334,7 @@ impl Guest {
         ensures unchanged { result.steps ≡ 0 → (self.new ≡ self.old) × (seat.new ≡ seat.old) }
     {
         let most = self.journal.steps_with_room(seat, count);
-        let progress = run_pages(&mut self.cpu, &mut self.bus, most);
+        let progress = run_pages(&mut self.cpu, &mut self.bus, &mut self.decoded, most);
         whole(&self.bus);
         if progress.steps > 0 {
             self.journal.steps(seat, progress.steps);
@@ -438,12 +443,14 @@ impl Guest {
         let Guest {
             cpu,
             bus,
+            decoded,
             image,
             pages: _,
             journal,
         } = self;
         drop(cpu);
         drop(image);
+        drop(decoded);
         drop(journal);
         bus.close();
     }

@@ -28,6 +28,7 @@ ghost use Rattle.guest.specs.Views.{pages_seen, Shows};
 use crate::{Pause, Progress, Stepped};
 use flatvm::{Reply, Unreached, debug};
 use items::What;
+use mips_run::DecodeCache;
 use mips_step::{Cpu, Ppn, StepOut, Why};
 use paged_bus::{InputError, PagedBus};
 use physmap::Returned;
@@ -110,7 +111,12 @@ fn step_or_pause(cpu: &mut Cpu, bus: &mut PagedBus) -> Option<Pause>
 /// changed nothing, or that gave a page, which has left its place then. Where processor and pages were those of a machine, they are
 /// those of that machine after so many steps.
 #[inline]
-pub(crate) fn run_pages(cpu: &mut Cpu, bus: &mut PagedBus, count: u32) -> Progress
+pub(crate) fn run_pages(
+    cpu: &mut Cpu,
+    bus: &mut PagedBus,
+    decoded: &mut DecodeCache,
+    count: u32,
+) -> Progress
     requires settled { IsSettled bus.old }
     ensures few { result.steps ≤ count }
     ensures all { result.pause ≡ None → result.steps ≡ count }
@@ -125,18 +131,51 @@ pub(crate) fn run_pages(cpu: &mut Cpu, bus: &mut PagedBus, count: u32) -> Progre
     ensures unchanged { result.steps ≡ 0 → (cpu.new ≡ cpu.old) × (bus.new ≡ bus.old) }
     ensures settled { IsSettled bus.new }
 {
-    for made in 0..count {
+    let mut made = 0;
+    while made < count {
+        made += run_quietly(cpu, bus, decoded, count - made);
+        if made == count {
+            return Progress {
+                steps: count,
+                pause: None,
+            };
+        }
         if let Some(pause) = step_or_pause(cpu, bus) {
             return Progress {
                 steps: made + pause.steps(),
                 pause: Some(pause),
             };
         }
+        made += 1;
     }
     Progress {
         steps: count,
         pause: None,
     }
+}
+
+/// Some steps of a processor over pages, at most `count`, as `mips_run::run` makes them, and how many: none of them needs a page that is
+/// lacking or gives one. Where processor and pages were those of a machine, they are those of that machine after so many steps.
+#[inline(always)]
+fn run_quietly(
+    cpu: &mut Cpu,
+    bus: &mut PagedBus,
+    decoded: &mut DecodeCache,
+    count: u32,
+) -> u32
+    requires settled { IsSettled bus.old }
+    ensures few { result ≤ count }
+    ensures shows { (seat : ℕ) (m : Machine) → GivenAreZeros m.world → Shows m cpu.old bus.old → Shows (run (steps_of seat result) m) cpu.new bus.new }
+    ensures kept { (seat : ℕ) (m : Machine) → GivenAreZeros m.world → Shows m cpu.old bus.old → (held : ℕ → Option (List ℕ)) →
+        Kept held (pages_seen m) bus.old.pages → Kept held (pages_seen (run (steps_of seat result) m)) bus.new.pages }
+    ensures same { outline bus.new.pages ≡ outline bus.old.pages }
+    ensures unchanged { result ≡ 0 → (cpu.new ≡ cpu.old) × (bus.new ≡ bus.old) }
+    ensures settled { IsSettled bus.new }
+{
+    whole(bus);
+    let made = mips_run::run(cpu, bus, decoded, count);
+    whole(bus);
+    made
 }
 
 /// The `Need` that `step_pages` would answer. Where processor and pages are those of a machine, it is what that machine lacks by

@@ -7,66 +7,103 @@ use Rattle.flatvm.proofs.Given.{run_zeros}
 use Rattle.paging.specs.Faith.{Kept}
 use Rattle.paged_bus.specs.Buses.{PagedBusIs}
 use Rattle.guest.specs.Views.{pages_seen, Shows}
-use Rattle.guest.proofs.Running.{no_step, one_more, at_pause, paused_later}
+use Rattle.guest.proofs.Running.{at_pause, paused_later}
+use Rattle.guest.proofs.Quiet.{GoneOn, not_gone, gone_one, gone_further, not_made}
 use Rattle.guest.proofs.step.run_pages.Goals as goal
 
 pub loop-made-init : goal.loop-made-init
-loop-made-init c = record {
-  shows = λ seat m zeros s. subst (λ (n : Machine). Shows n c.args.cpu.now c.args.bus.now) (sym (no_step seat m)) s;
-  kept = λ seat m zeros s held k. subst (λ (n : Machine). Kept held (pages_seen n) c.args.bus.now.pages) (sym (no_step seat m)) k;
-  same = refl;
-  settled = c.requires.settled;
-  at_first = λ first. (refl, refl);
-}
+loop-made-init c = record { gone = not_gone c.args.cpu.now c.args.bus.now c.requires.settled; few = omega arith }
 
-pub loop-made-preserved : goal.loop-made-preserved
-loop-made-preserved c =
-    let made = c.loop-made.made in
-    let so_far = c.loop-made.invariant in
-    let told = c.in_default.ensures in
-    record {
-      shows = λ seat m zeros s. subst (λ (n : Machine). Shows n c.step_or_pause.new.cpu c.step_or_pause.new.bus) (sym (one_more seat made m))
-          (told.shows tt (run (steps_of seat made) m) (run_zeros (steps_of seat made) m zeros) (so_far.shows seat m zeros s));
-      kept = λ seat m zeros s held k. subst (λ (n : Machine). Kept held (pages_seen n) c.step_or_pause.new.bus.pages) (sym (one_more seat made m))
-          (told.kept tt (run (steps_of seat made) m) (run_zeros (steps_of seat made) m zeros) (so_far.shows seat m zeros s) held (so_far.kept seat m zeros s held k));
-      same = told.paused ∙ so_far.same;
-      settled = told.settled;
-      at_first = λ first. absurd (omega (arith, first));
-    }
+pub run_quietly-made-requires : goal.run_quietly-made-requires
+run_quietly-made-requires c = record { settled = c.loop-made.invariant.gone.settled }
+
+pub returns-then-made-count-clause-shows : goal.returns-then-made-count-clause-shows
+returns-then-made-count-clause-shows c = λ seat m zeros s.
+    let told = c.run_quietly-made.ensures in
+    let gone = gone_further c.args.cpu.now c.loop-made.cpu c.run_quietly-made.new.cpu c.args.bus.now c.loop-made.bus c.run_quietly-made.new.bus c.loop-made.made c.run_quietly-made.result
+        c.loop-made.invariant.gone (record { shows = told.shows; kept = told.kept; same = told.same; settled = told.settled; at_first = told.unchanged }) in
+    subst (λ (n : ℕ). Shows (run (steps_of seat n) m) c.run_quietly-made.new.cpu c.run_quietly-made.new.bus) c.if-made-count.true (gone.shows seat m zeros s)
+
+pub returns-then-made-count-clause-kept : goal.returns-then-made-count-clause-kept
+returns-then-made-count-clause-kept c = λ seat m zeros s held k.
+    let told = c.run_quietly-made.ensures in
+    let gone = gone_further c.args.cpu.now c.loop-made.cpu c.run_quietly-made.new.cpu c.args.bus.now c.loop-made.bus c.run_quietly-made.new.bus c.loop-made.made c.run_quietly-made.result
+        c.loop-made.invariant.gone (record { shows = told.shows; kept = told.kept; same = told.same; settled = told.settled; at_first = told.unchanged }) in
+    subst (λ (n : ℕ). Kept held (pages_seen (run (steps_of seat n) m)) c.run_quietly-made.new.bus.pages) c.if-made-count.true (gone.kept seat m zeros s held k)
+
+pub returns-then-made-count-clause-paused : goal.returns-then-made-count-clause-paused
+returns-then-made-count-clause-paused c = c.run_quietly-made.ensures.same ∙ c.loop-made.invariant.gone.same
 
 pub returns-in-Some-clause-shows : goal.returns-in-Some-clause-shows
 returns-in-Some-clause-shows c = λ seat m zeros s.
-    let made = c.loop-made.made in
-    let so_far = c.loop-made.invariant in
-    let told = c.in-Some.ensures in
-    let now = run (steps_of seat made) m in
-    let shows = so_far.shows seat m zeros s in
-    subst (λ (steps : ℕ). Shows (run (steps_of seat (made + steps)) m) c.step_or_pause.new.cpu c.step_or_pause.new.bus) (sym c.steps.ensures)
-    (at_pause (λ (n : Machine) (cpu : Processor) (bus : PagedBusIs). Shows n cpu bus) seat made m c.loop-made.cpu c.step_or_pause.new.cpu c.loop-made.bus c.step_or_pause.new.bus c.in-Some.pause
-    (λ is. told.shows is now (run_zeros (steps_of seat made) m zeros) shows) told.unchanged shows)
+    let told = c.run_quietly-made.ensures in
+    let gone = gone_further c.args.cpu.now c.loop-made.cpu c.run_quietly-made.new.cpu c.args.bus.now c.loop-made.bus c.run_quietly-made.new.bus c.loop-made.made c.run_quietly-made.result
+        c.loop-made.invariant.gone (record { shows = told.shows; kept = told.kept; same = told.same; settled = told.settled; at_first = told.unchanged }) in
+    let paused = c.in-Some.ensures in
+    let now = run (steps_of seat (c.loop-made.made + c.run_quietly-made.result)) m in
+    let shows = gone.shows seat m zeros s in
+    let zeros_now = run_zeros (steps_of seat (c.loop-made.made + c.run_quietly-made.result)) m zeros in
+    subst (λ (steps : ℕ). Shows (run (steps_of seat (c.loop-made.made + c.run_quietly-made.result + steps)) m) c.step_or_pause.new.cpu c.step_or_pause.new.bus) (sym c.steps.ensures)
+    (at_pause (λ (n : Machine) (cpu : Processor) (bus : PagedBusIs). Shows n cpu bus) seat (c.loop-made.made + c.run_quietly-made.result) m c.run_quietly-made.new.cpu
+    c.step_or_pause.new.cpu c.run_quietly-made.new.bus c.step_or_pause.new.bus c.in-Some.pause (λ is. paused.shows is now zeros_now shows) paused.unchanged shows)
 
 pub returns-in-Some-clause-kept : goal.returns-in-Some-clause-kept
 returns-in-Some-clause-kept c = λ seat m zeros s held k.
-    let made = c.loop-made.made in
-    let so_far = c.loop-made.invariant in
-    let told = c.in-Some.ensures in
-    let now = run (steps_of seat made) m in
-    let shows = so_far.shows seat m zeros s in
-    let kept = so_far.kept seat m zeros s held k in
-    subst (λ (steps : ℕ). Kept held (pages_seen (run (steps_of seat (made + steps)) m)) c.step_or_pause.new.bus.pages) (sym c.steps.ensures)
-    (at_pause (λ (n : Machine) (cpu : Processor) (bus : PagedBusIs). Kept held (pages_seen n) bus.pages) seat made m c.loop-made.cpu c.step_or_pause.new.cpu c.loop-made.bus c.step_or_pause.new.bus c.in-Some.pause
-    (λ is. told.kept is now (run_zeros (steps_of seat made) m zeros) shows held kept) told.unchanged kept)
+    let told = c.run_quietly-made.ensures in
+    let gone = gone_further c.args.cpu.now c.loop-made.cpu c.run_quietly-made.new.cpu c.args.bus.now c.loop-made.bus c.run_quietly-made.new.bus c.loop-made.made c.run_quietly-made.result
+        c.loop-made.invariant.gone (record { shows = told.shows; kept = told.kept; same = told.same; settled = told.settled; at_first = told.unchanged }) in
+    let paused = c.in-Some.ensures in
+    let now = run (steps_of seat (c.loop-made.made + c.run_quietly-made.result)) m in
+    let shows = gone.shows seat m zeros s in
+    let zeros_now = run_zeros (steps_of seat (c.loop-made.made + c.run_quietly-made.result)) m zeros in
+    let kept = gone.kept seat m zeros s held k in
+    subst (λ (steps : ℕ). Kept held (pages_seen (run (steps_of seat (c.loop-made.made + c.run_quietly-made.result + steps)) m)) c.step_or_pause.new.bus.pages) (sym c.steps.ensures)
+    (at_pause (λ (n : Machine) (cpu : Processor) (bus : PagedBusIs). Kept held (pages_seen n) bus.pages) seat (c.loop-made.made + c.run_quietly-made.result) m
+    c.run_quietly-made.new.cpu c.step_or_pause.new.cpu c.run_quietly-made.new.bus c.step_or_pause.new.bus c.in-Some.pause
+    (λ is. paused.kept is now zeros_now shows held kept) paused.unchanged kept)
 
 pub returns-in-Some-clause-paused : goal.returns-in-Some-clause-paused
 returns-in-Some-clause-paused c =
-    paused_later c.args.bus.now.pages c.loop-made.bus.pages c.step_or_pause.new.bus.pages (Some c.in-Some.pause) c.loop-made.invariant.same c.in-Some.ensures.paused
+    paused_later c.args.bus.now.pages c.run_quietly-made.new.bus.pages c.step_or_pause.new.bus.pages (Some c.in-Some.pause)
+    (c.run_quietly-made.ensures.same ∙ c.loop-made.invariant.gone.same) c.in-Some.ensures.paused
+
+pub returns-in-Some-clause-unchanged : goal.returns-in-Some-clause-unchanged
+returns-in-Some-clause-unchanged c = λ none.
+    let told = c.run_quietly-made.ensures in
+    let gone = gone_further c.args.cpu.now c.loop-made.cpu c.run_quietly-made.new.cpu c.args.bus.now c.loop-made.bus c.run_quietly-made.new.bus c.loop-made.made c.run_quietly-made.result
+        c.loop-made.invariant.gone (record { shows = told.shows; kept = told.kept; same = told.same; settled = told.settled; at_first = told.unchanged }) in
+    let before = gone.at_first (omega (arith, none)) in
+    let same = c.in-Some.ensures.unchanged (not_made c.in-Some.pause (sym c.steps.ensures ∙ omega (arith, none))) in
+    (same.0 ∙ before.0, same.1 ∙ before.1)
+
+pub loop-made-preserved : goal.loop-made-preserved
+loop-made-preserved c =
+    let told = c.run_quietly-made.ensures in
+    let gone = gone_further c.args.cpu.now c.loop-made.cpu c.run_quietly-made.new.cpu c.args.bus.now c.loop-made.bus c.run_quietly-made.new.bus c.loop-made.made c.run_quietly-made.result
+        c.loop-made.invariant.gone (record { shows = told.shows; kept = told.kept; same = told.same; settled = told.settled; at_first = told.unchanged }) in
+    let one = c.in_default.ensures in
+    record {
+      gone = gone_further c.args.cpu.now c.run_quietly-made.new.cpu c.step_or_pause.new.cpu c.args.bus.now c.run_quietly-made.new.bus c.step_or_pause.new.bus
+          (c.loop-made.made + c.run_quietly-made.result) 1 gone
+          (gone_one c.run_quietly-made.new.cpu c.step_or_pause.new.cpu c.run_quietly-made.new.bus c.step_or_pause.new.bus (one.shows tt) (one.kept tt) one.paused one.settled);
+      few = omega (arith, c.loop-made.invariant.few, c.loop-made-test.true, told.few, c.if-made-count.false);
+    }
 
 pub returns-clause-shows : goal.returns-clause-shows
 returns-clause-shows c = λ seat m zeros s.
-    let all : c.loop-made.made ≡ c.args.count = omega (arith, c.loop-made-test.false, c.loop-made.auto) in
-    subst (λ (n : ℕ). Shows (run (steps_of seat n) m) c.loop-made.cpu c.loop-made.bus) all (c.loop-made.invariant.shows seat m zeros s)
+    let all : c.loop-made.made ≡ c.args.count = omega (arith, c.loop-made-test.false, c.loop-made.invariant.few) in
+    subst (λ (n : ℕ). Shows (run (steps_of seat n) m) c.loop-made.cpu c.loop-made.bus) all (c.loop-made.invariant.gone.shows seat m zeros s)
 
 pub returns-clause-kept : goal.returns-clause-kept
 returns-clause-kept c = λ seat m zeros s held k.
-    let all : c.loop-made.made ≡ c.args.count = omega (arith, c.loop-made-test.false, c.loop-made.auto) in
-    subst (λ (n : ℕ). Kept held (pages_seen (run (steps_of seat n) m)) c.loop-made.bus.pages) all (c.loop-made.invariant.kept seat m zeros s held k)
+    let all : c.loop-made.made ≡ c.args.count = omega (arith, c.loop-made-test.false, c.loop-made.invariant.few) in
+    subst (λ (n : ℕ). Kept held (pages_seen (run (steps_of seat n) m)) c.loop-made.bus.pages) all (c.loop-made.invariant.gone.kept seat m zeros s held k)
+
+pub returns-clause-paused : goal.returns-clause-paused
+returns-clause-paused c = c.loop-made.invariant.gone.same
+
+pub returns-clause-unchanged : goal.returns-clause-unchanged
+returns-clause-unchanged c = λ none. c.loop-made.invariant.gone.at_first (omega (arith, none, c.loop-made.invariant.few))
+
+pub returns-clause-settled : goal.returns-clause-settled
+returns-clause-settled c = c.loop-made.invariant.gone.settled

@@ -1,0 +1,214 @@
+-- Many steps of a guest, none of which needs a page that is lacking or gives one.
+use Rattle.std.proofs.Common.{ℕ, zero, suc, ◌≡◌, ◌≢◌, ◌+◌, ◌*◌, ◌-◌, ◌<◌, inr, Bool, true, false, IsTrue, All, List, length, min, get_or, Option, Some, None, refl, sym, ap, subst, ◌∙◌, arith}
+use Rattle.word32.specs.Zeros.{zeros}
+use Rattle.items.specs.declared.item.Item.{Item}
+use Rattle.items.specs.Entries.{steps_of}
+use Rattle.items.proofs.Runs.{steps_of-join}
+use Rattle.devices.specs.Devices.{DevicesAre}
+use Rattle.dev_balloon.specs.Balloon.{is_given}
+use Rattle.mips_step.specs.Bus.{Lacks}
+use Rattle.mips_step.specs.Processor.{Processor}
+use Rattle.mips_step.specs.World.{World, is_given_page}
+use Rattle.mips_step.specs.Step.{Machine, in_world, step}
+use Rattle.mips_step.specs.Accesses.{Access, accesses}
+use Rattle.mips_step.specs.Agreeing.{Agree, Within, StoresTo, GivenAreZeros}
+use Rattle.mips_step.specs.Given.{step_given}
+use Rattle.mips_step.proofs.Agreeing.{step_alike}
+use Rattle.mips_step.proofs.Alike.{Alike}
+use Rattle.mips_step.proofs.OtherPages.{step_stays, zeros_stay}
+use Rattle.mips_step.proofs.Pages.{length-page}
+use Rattle.mips_step.proofs.StepGiven.{newly_given}
+use Rattle.mips_run.specs.Runs.{steps, IsQuiet, AreQuiet}
+use Rattle.flatvm.specs.Items.{run}
+use Rattle.flatvm.proofs.Runs.{run_append}
+use Rattle.flatvm.proofs.Given.{run_zeros}
+use Rattle.physmap.specs.declared.page.Page.{Page}
+use Rattle.physmap.specs.declared.page.PageKind.TheVariants.{Swapped}
+use Rattle.physmap.specs.Pages.{kind_at, AreWhole}
+use Rattle.physmap.specs.Outline.{outline}
+use Rattle.paging.specs.Faith.{Kept}
+use Rattle.paged_bus.specs.Buses.{PagedBusIs, IsSettled, world_of}
+use Rattle.paged_bus.specs.Lacking.{lacks_in}
+use Rattle.guest.specs.declared.progress.Pause.{Pause}
+use Rattle.guest.specs.declared.progress.Pause.TheVariants as pause
+use Rattle.guest.specs.Guests.{IsMade, steps_by}
+use Rattle.guest.specs.Views.{pages_seen, Shows, here}
+use Rattle.guest.proofs.Showing.{here_not_swapped, settled_already, shows_agree, shows_after, kept_after, Happened}
+use Rattle.guest.proofs.Stepping.{within_here, same_lacks}
+use Rattle.guest.proofs.Running.{no_step, one_more}
+
+-- What is so of a processor over pages and of the machine whose they are, after as many steps of both: `first` is the machine before them.
+record Together (pages : List Page) (first a m : Machine) : Type 0 where
+  cpu : a.cpu ≡ m.cpu
+  agree : Agree (here pages) a.world m.world
+  zeros_given : GivenAreZeros m.world
+  size : length m.world.memory ≡ length first.world.memory
+  away : (p : ℕ) → kind_at pages p ≡ Swapped → pages_seen m p ≡ pages_seen first p
+
+-- one step more
+module _ (pages : List Page) (first a m : Machine) (before : Together pages first a m) (quiet : IsQuiet (lacks_in pages) a) where
+  within : Within (here pages) (accesses a)
+  within = within_here pages (accesses a) quiet.lacking
+
+  same_machine : in_world a.cpu m.world ≡ m
+  same_machine = ap (λ (c : Processor). in_world c m.world) before.cpu
+
+  alike : Alike (here pages) (accesses a) (accesses m) (step a) (step m)
+  alike = subst (λ (n : Machine). Alike (here pages) (accesses a) (accesses n) (step a) (step n)) same_machine (step_alike (here pages) a.cpu a.world m.world before.agree within)
+
+  given_before : (p : ℕ) → is_given_page p a.world ≡ is_given_page p m.world
+  given_before p = ap (λ (d : DevicesAre). is_given p d.balloon) (sym before.agree.devices)
+
+  given_after : (p : ℕ) → is_given_page p (step a).world ≡ is_given_page p (step m).world
+  given_after p = ap (λ (d : DevicesAre). is_given p d.balloon) (sym alike.world.devices)
+
+  avoided : (p : ℕ) → kind_at pages p ≡ Swapped → All (λ (x : Access). StoresTo p x → ⊥) (accesses m)
+  avoided p swapped = subst (λ (xs : List Access). All (λ (x : Access). StoresTo p x → ⊥) xs) (sym alike.accesses) not_there
+    where
+      not_there : All (λ (x : Access). StoresTo p x → ⊥) (accesses a)
+      not_there k d h stores =
+          here_not_swapped pages p (subst (λ (q : ℕ). IsTrue (here pages q)) stores.its_page (within k d h)) swapped
+
+  memory_size : length (step m).world.memory ≡ length m.world.memory
+  memory_size = (step_stays m 0).size
+
+  page_size : (p : ℕ) → length (pages_seen (step m) p) ≡ length (pages_seen m p)
+  page_size p =
+      length-page p (step m).world.memory ∙ ap (λ (n : ℕ). min 4096 (n - p * 4096)) memory_size ∙ sym (length-page p m.world.memory)
+
+  none_is_some : (p : ℕ) → step_given a ≡ Some p → ⊥
+  none_is_some p e =
+      let not : None ≡ Some p = sym quiet.given ∙ e in
+      absurd (cc)
+
+  stays_by : (p : ℕ) → kind_at pages p ≡ Swapped → (was is : Bool) → is_given_page p m.world ≡ was → is_given_page p (step m).world ≡ is
+      → pages_seen (step m) p ≡ pages_seen m p
+  stays_by p swapped was false e f = (step_stays m p).bytes (avoided p swapped) f
+  stays_by p swapped false true e f = absurd (none_is_some p (newly_given a p (given_before p ∙ e, given_after p ∙ f)))
+  stays_by p swapped true true e f =
+      zeros_stay m before.zeros_given p f ∙ ap zeros (page_size p) ∙ sym (before.zeros_given p e)
+
+  together_on : Together pages first (step a) (step m)
+  together_on = record {
+    cpu = sym alike.cpu;
+    agree = alike.world;
+    zeros_given = zeros_stay m before.zeros_given;
+    size = memory_size ∙ before.size;
+    away = λ p swapped. stays_by p swapped (is_given_page p m.world) (is_given_page p (step m).world) refl refl ∙ before.away p swapped;
+  }
+
+-- after so many
+together_after : (pages : List Page) (k : ℕ) (a m : Machine) → Together pages m a m → AreQuiet (lacks_in pages) k a → Together pages m (steps k a) (steps k m)
+together_after pages zero a m begun quiet = begun
+together_after pages (suc k) a m begun quiet =
+    together_on pages m (steps k a) (steps k m)
+    (together_after pages k a m begun (λ j below. quiet j (omega (arith, below))))
+    (quiet k (omega arith))
+
+-- the steps of a seat's items are steps
+pub steps_are_run : (seat k : ℕ) (m : Machine) → steps k m ≡ run (steps_of seat k) m
+steps_are_run seat zero m = sym (no_step seat m)
+steps_are_run seat (suc k) m =
+    let e : k + 1 ≡ suc k = omega arith in
+    ap step (steps_are_run seat k m) ∙ sym (one_more seat k m) ∙ ap (λ (n : ℕ). run (steps_of seat n) m) e
+
+-- some steps, and then more
+pub run_join : (seat j k : ℕ) (m : Machine) → run (steps_of seat (j + k)) m ≡ run (steps_of seat k) (run (steps_of seat j) m)
+run_join seat j k m =
+    ap (λ (xs : List Item). run xs m) (steps_of-join seat j k) ∙ run_append (steps_of seat j) (steps_of seat k) m
+
+module _ (k : ℕ) (m : Machine) (cpu cpu' : Processor) (b after : PagedBusIs) (whole : AreWhole b.pages) (whole_after : AreWhole after.pages)
+    (settled : IsSettled b) (settled_after : IsSettled after) (s : Shows m cpu b) (zeros_given : GivenAreZeros m.world)
+    (moves : in_world cpu' (world_of after) ≡ steps k (in_world cpu (world_of b)))
+    (quiet : AreQuiet (lacks_in (outline b.pages)) k (in_world cpu (world_of b))) (same : outline after.pages ≡ outline b.pages) where
+  at_first : Together b.pages m (in_world cpu (world_of b)) m
+  at_first = record {
+    cpu = s.cpu;
+    agree = shows_agree m cpu b whole settled s;
+    zeros_given = zeros_given;
+    size = refl;
+    away = λ p swapped. refl;
+  }
+
+  at_last : Together b.pages m (steps k (in_world cpu (world_of b))) (steps k m)
+  at_last = together_after b.pages k (in_world cpu (world_of b)) m at_first
+      (subst (λ (lacks : Lacks). AreQuiet lacks k (in_world cpu (world_of b))) (same_lacks b.pages) quiet)
+
+  happened : Happened b after m (steps k m)
+  happened = record {
+    whole = whole_after;
+    same = same;
+    agree = subst (λ (w : World). Agree (here b.pages) w (steps k m).world) (sym (ap (λ (n : Machine). n.world) moves)) at_last.agree;
+    away = λ p inside swapped. inr (at_last.away p swapped);
+    given = λ p is inside. absurd (not_waiting p is);
+  }
+    where
+      not_waiting : (p : ℕ) → after.waiting ≡ Some p → ⊥
+      not_waiting p is =
+          let not : None ≡ Some p = sym settled_after ∙ is in
+          absurd (cc)
+
+  pub quiet_shows : (seat : ℕ) → Shows (run (steps_of seat k) m) cpu' after
+  quiet_shows seat =
+      subst (λ (n : Machine). Shows n cpu' after) (steps_are_run seat k m)
+      (subst (λ (bus : PagedBusIs). Shows (steps k m) cpu' bus) (settled_already after settled_after)
+      (shows_after b after m (steps k m) happened cpu cpu' (ap (λ (n : Machine). n.cpu) moves ∙ at_last.cpu) s))
+
+  pub quiet_kept : (seat : ℕ) (held : ℕ → Option (List ℕ)) → Kept held (pages_seen m) b.pages → Kept held (pages_seen (run (steps_of seat k) m)) after.pages
+  quiet_kept seat held k' =
+      subst (λ (n : Machine). Kept held (pages_seen n) after.pages) (steps_are_run seat k m)
+      (subst (λ (bus : PagedBusIs). Kept held (pages_seen (steps k m)) bus.pages) (settled_already after settled_after)
+      (kept_after b after m (steps k m) happened held k'))
+
+-- ---- steps that gave no page
+
+-- So many steps lead from a processor over pages to another, and no page was given.
+pub record GoneOn (cpu cpu' : Processor) (b b' : PagedBusIs) (k : ℕ) : Type 0 where
+  pub shows : (seat : ℕ) (m : Machine) → GivenAreZeros m.world → Shows m cpu b → Shows (run (steps_of seat k) m) cpu' b'
+  pub kept : (seat : ℕ) (m : Machine) → GivenAreZeros m.world → Shows m cpu b → (held : ℕ → Option (List ℕ)) → Kept held (pages_seen m) b.pages
+      → Kept held (pages_seen (run (steps_of seat k) m)) b'.pages
+  pub same : outline b'.pages ≡ outline b.pages
+  pub settled : IsSettled b'
+  pub at_first : k ≡ 0 → (cpu' ≡ cpu) × (b' ≡ b)
+
+pub not_gone : (cpu : Processor) (b : PagedBusIs) → IsSettled b → GoneOn cpu cpu b b 0
+not_gone cpu b settled = record {
+  shows = λ seat m zeros s. subst (λ (n : Machine). Shows n cpu b) (sym (no_step seat m)) s;
+  kept = λ seat m zeros s held k. subst (λ (n : Machine). Kept held (pages_seen n) b.pages) (sym (no_step seat m)) k;
+  same = refl;
+  settled = settled;
+  at_first = λ first. (refl, refl);
+}
+
+one_step : (seat : ℕ) (m : Machine) → run (steps_of seat 1) m ≡ step m
+one_step seat m = one_more seat 0 m ∙ ap step (no_step seat m)
+
+pub gone_one : (cpu cpu' : Processor) (b b' : PagedBusIs) → ((m : Machine) → GivenAreZeros m.world → Shows m cpu b → Shows (step m) cpu' b')
+    → ((m : Machine) → GivenAreZeros m.world → Shows m cpu b → (held : ℕ → Option (List ℕ)) → Kept held (pages_seen m) b.pages → Kept held (pages_seen (step m)) b'.pages)
+    → outline b'.pages ≡ outline b.pages → IsSettled b' → GoneOn cpu cpu' b b' 1
+gone_one cpu cpu' b b' shows kept same settled = record {
+  shows = λ seat m zeros s. subst (λ (n : Machine). Shows n cpu' b') (sym (one_step seat m)) (shows m zeros s);
+  kept = λ seat m zeros s held k. subst (λ (n : Machine). Kept held (pages_seen n) b'.pages) (sym (one_step seat m)) (kept m zeros s held k);
+  same = same;
+  settled = settled;
+  at_first = λ first. absurd (omega (arith, first));
+}
+
+pub gone_further : (cpu cpu' cpu'' : Processor) (b b' b'' : PagedBusIs) (j k : ℕ) → GoneOn cpu cpu' b b' j → GoneOn cpu' cpu'' b' b'' k → GoneOn cpu cpu'' b b'' (j + k)
+gone_further cpu cpu' cpu'' b b' b'' j k one two = record {
+  shows = λ seat m zeros s. subst (λ (n : Machine). Shows n cpu'' b'') (sym (run_join seat j k m))
+      (two.shows seat (run (steps_of seat j) m) (run_zeros (steps_of seat j) m zeros) (one.shows seat m zeros s));
+  kept = λ seat m zeros s held h. subst (λ (n : Machine). Kept held (pages_seen n) b''.pages) (sym (run_join seat j k m))
+      (two.kept seat (run (steps_of seat j) m) (run_zeros (steps_of seat j) m zeros) (one.shows seat m zeros s) held (one.kept seat m zeros s held h));
+  same = two.same ∙ one.same;
+  settled = two.settled;
+  at_first = λ first.
+      let none = one.at_first (omega (arith, first)) in
+      let more = two.at_first (omega (arith, first)) in
+      (more.0 ∙ none.0, more.1 ∙ none.1);
+}
+
+-- a step at which a run pauses without it was not made
+pub not_made : (p : Pause) → steps_by p ≡ 0 → IsMade (Some p) → ⊥
+not_made (pause.Gave returned) e made = omega (arith, e)
+not_made (pause.Need page why) e made = made
