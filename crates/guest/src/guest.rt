@@ -27,7 +27,7 @@ use std::sync::Arc;
 pub struct Guest {
     pub(crate) cpu: Cpu,
     pub(crate) bus: PagedBus,
-    /// What its words encode, which the words alone decide, so that no clause speaks of it.
+    /// What words of its memory encode, for `mips_run`. No clause speaks of it: it holds nothing between runs.
     pub(crate) decoded: DecodeCache,
     /// What the guest has booted, with as many pages: the view begins there.
     pub(crate) image: Arc<Image, Global>,
@@ -251,7 +251,7 @@ impl Guest {
     }
 
     /// Whether the page of this number was accessed since it was last drawn for a sample, if it ever was: by a fetch, a load or a store
-    /// of a step that was made, or by a debugger's write. It is about the page of this number, whatever becomes of it.
+    /// of a step, or by a debugger's write. It is about the page of this number, whatever becomes of it.
     pub fn is_touched(&self, page: u32) -> bool {
         self.bus.is_touched(page)
     }

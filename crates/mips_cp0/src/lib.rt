@@ -4,7 +4,7 @@
 //! The crates above use `Cp0`, in clauses a record of its registers (`SystemRegisters`): `read` and `write` are the
 //! table of registers with its masks (`value_at`, `written_at`), `enter` and `eret` the entry of an exception and the
 //! return from it (`entered`, `returned`), `tick` and `interrupt_due` the timer and the interrupts (`ticked`,
-//! `interrupt_taken`), and `advance` many ticks before the timer's (`after_ticks`, `until_timer`). An exception is an `Exc`.
+//! `interrupt_taken`), `quiet_ticks` and `advance` many ticks before the timer's (`until_timer`, `after_ticks`). An exception is an `Exc`.
 #![tactic(auto)]
 
 mod bits;

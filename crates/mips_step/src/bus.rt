@@ -15,8 +15,8 @@ use crate::{Kind, Refusal, Size};
 /// The meaning of a bus is the `world` behind it, as if each page were there; what its owner keeps behind it and no
 /// access changes (`kept`); and by that why it `lacks` a page, by the page's number and what the access is for. Behind a
 /// bus that lacks a page the world may hold anything in that page. Its law is the clauses of its methods: `ready` tells
-/// whether an access is answered and changes nothing; an access is made once `ready` has answered `Ok` for it, gives and
-/// changes the world as the definitions say, and leaves what is kept.
+/// whether an access is answered and changes nothing; an access is made where `ready` answers `Ok` for it, as it does where `is_plain`
+/// holds, gives and changes the world as the definitions say, and leaves what is kept.
 ///
 /// A store to the balloon may give a page away. The world shows that page as zeros from then on, while the bus may leave
 /// it to its owner to take the page away after the step; until then the page is `waiting`, and so does the next access.

@@ -5,7 +5,8 @@
 //! `specs/Given.antt`. The crates above use `PhysBus` with its meaning (`world`, `kept`, `lacks`, `waiting`), `Cpu` (in
 //! clauses a record, `Processor`) and `Cpu::step`: it answers `Done` where the machine has moved by the definition, `Need`
 //! exactly where the bus lacks a page that the step would access, and then nothing has changed. `Cpu::need` tells that
-//! beforehand, and `Cpu::poke` is a debugger's write of a register. `laws` states that a step depends on the pages that it
+//! beforehand, and `Cpu::poke` is a debugger's write of a register. For many steps at once there are `PhysBus::is_plain`,
+//! `Cpu::fetch_address`, `Cpu::perform_clockless` and `Cpu::advance_clock` (`specs/Clockless.antt`). `laws` states that a step depends on the pages that it
 //! accesses alone, which pages it leaves, and which it gives and takes.
 #![tactic(auto)]
 
