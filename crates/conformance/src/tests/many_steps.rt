@@ -64,10 +64,9 @@ type Place<'a> = (&'a str, u32, usize);
 fn check_registers(rt: &impl Abort, place: Place, cpu: &Cpu, wanted: &Cpu) {
     for number in 0..32 {
         let r = Reg::new(number);
-        expect(rt, (place, "r", number), cpu.reg(r), wanted.reg(r));
-        let register = wanted.cp0().read(number, 0, 0);
-        let read = cpu.cp0().read(number, 0, 0);
-        expect(rt, (place, "system register", number), read, register);
+        let registers = (cpu.reg(r), cpu.cp0().read(number, 0, 0));
+        let wanted = (wanted.reg(r), wanted.cp0().read(number, 0, 0));
+        expect(rt, (place, "registers", number), registers, wanted);
     }
     for index in 0..ENTRIES {
         let entry = wanted.tlb().read(index);
@@ -143,27 +142,45 @@ fn make_slices<R: AllocGlobal + Abort>(
     }
 }
 
+/// Whether memory is compared at the end.
+#[derive(Clone, Copy, PartialEq, Eq)]
+enum Memory {
+    Compared,
+    Left,
+}
+
 /// Runs a program in slices of so many steps on both machines.
 fn check_slices<R: AllocGlobal + Abort>(
     rt: &R,
     name: &str,
     code: &[Code],
     slices: &[u32],
+    memory: Memory,
 ) -> Result<(), Fail> {
     let image = raw_image(rt, name, code)?;
     let mut table = Table::boot(rt, name, &image)?;
     let mut world = boot_world(rt, name, image, PAGES)?;
     make_slices(rt, name, &mut world, &mut table, slices);
-    let checked = check_memory(rt, name, guest_of(rt, &world), &table);
+    let checked = match memory {
+        Memory::Compared => check_memory(rt, name, guest_of(rt, &world), &table),
+        Memory::Left => Ok(()),
+    };
     let _store = world.close();
     checked
 }
 
 /// Runs a program with a slice that ends after each of its steps in turn, then two steps by themselves, and the others in a slice.
+/// Memory is compared after every eighth.
 fn check_each_end<R: AllocGlobal + Abort>(rt: &R, program: &Program) -> Result<(), Fail> {
-    for first in 0..program.steps {
-        let others = (program.steps - first).saturating_sub(2);
-        check_slices(rt, program.name, program.code, &[first, 1, 1, others])?;
+    let Program { name, code, steps } = *program;
+    for first in 0..steps {
+        let others = (steps - first).saturating_sub(2);
+        let memory = if first % 8 == 0 {
+            Memory::Compared
+        } else {
+            Memory::Left
+        };
+        check_slices(rt, name, code, &[first, 1, 1, others], memory)?;
     }
     Ok(())
 }

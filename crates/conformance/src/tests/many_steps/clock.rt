@@ -3,7 +3,7 @@ use super::super::code::Code::*;
 use super::super::code::{CAUSE, COMPARE, COUNT, Code, EPC, RANDOM, STATUS, WIRED};
 use super::super::expect;
 use super::super::run::{boot_world, guest_of, make_steps, raw_image};
-use super::{PAGES, Program, check_programs, check_slices};
+use super::{Memory, PAGES, Program, check_programs, check_slices};
 use mips_instr::Reg;
 use std::alloc::{AllocError, Global};
 use std::process::Abort;
@@ -212,7 +212,7 @@ fn check_in_slices<R: AllocGlobal + Abort>(rt: &R, name: &str, code: &[Code]) ->
     for length in [1, 4, 21, 315] {
         let mut slices = vec![in rt.alloc(); length; (steps / length) as usize]?;
         slices.push(steps % length)?;
-        check_slices(rt, name, code, &slices)?;
+        check_slices(rt, name, code, &slices, Memory::Compared)?;
     }
     Ok(())
 }

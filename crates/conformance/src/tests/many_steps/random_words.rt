@@ -12,16 +12,16 @@ use super::super::code::Code::*;
 use super::super::code::{
     COMPARE, COUNT, Code, ENTRY_HI, ENTRY_LO0, ENTRY_LO1, EPC, INDEX, STATUS,
 };
-use super::check_slices;
 use super::fields::drawn_word;
+use super::{Memory, check_slices};
 use rand_core::SeedableRng;
 use rand_pcg::Pcg32;
 use std::alloc::{AllocError, Global};
 use std::process::Abort;
 use std::test::Fail;
 
-/// How many programs there are.
-const PROGRAMS: u64 = 40;
+/// How many programs a test has.
+const PROGRAMS: u64 = 8;
 
 /// How many steps of a program are made, about, in slices of each of these lengths.
 const STEPS: u32 = 2000;
@@ -103,17 +103,40 @@ fn check_lengths<R: AllocGlobal + Abort>(rt: &R, name: &str, code: &[Code]) -> R
     for length in &LENGTHS {
         let count = STEPS / (*length).max(1);
         let slices = vec![in rt.alloc(); *length; count as usize]?;
-        check_slices(rt, name, code, &slices)?;
+        check_slices(rt, name, code, &slices, Memory::Compared)?;
     }
     Ok(())
 }
 
-#[test]
-fn code_that_changes_itself_runs_many_steps(rt: HostRuntime) -> Result<(), Fail> {
-    for seed in 0..PROGRAMS {
+/// Checks so many programs of seeds one after another.
+fn check_seeds<R: AllocGlobal + Abort>(rt: &R, first: u64) -> Result<(), Fail> {
+    for index in 0..PROGRAMS {
+        let seed = first.wrapping_add(index);
         let name = format!(in rt.alloc(); "code of seed {seed}")?;
         let code = drawn_code(rt.alloc(), seed)?;
-        check_lengths(&rt, &name, &code)?;
+        check_lengths(rt, &name, &code)?;
     }
     Ok(())
+}
+
+// The programs are those of several tests, since one may take no more than a minute where it is tried before it is proved.
+
+#[test]
+fn code_that_changes_itself_runs_many_steps(rt: HostRuntime) -> Result<(), Fail> {
+    check_seeds(&rt, 0)
+}
+
+#[test]
+fn more_code_that_changes_itself_runs_many_steps(rt: HostRuntime) -> Result<(), Fail> {
+    check_seeds(&rt, 100)
+}
+
+#[test]
+fn code_of_other_seeds_runs_many_steps(rt: HostRuntime) -> Result<(), Fail> {
+    check_seeds(&rt, 200)
+}
+
+#[test]
+fn code_of_more_seeds_runs_many_steps(rt: HostRuntime) -> Result<(), Fail> {
+    check_seeds(&rt, 300)
 }
