@@ -40,7 +40,7 @@ static PROGRAMS: [Program<'static>; 4] = [
             Tlbwi,
             Jalr(31, 7), // the pages have changed places
             Nop,
-            Beq(0, 0, 0xffe0), // again, from the start
+            Beq(0, 0, 0xffe1), // again, from the start
             Ori(8, 0, 1),
             At(0x2000),
             Jr(31),
@@ -82,8 +82,9 @@ static PROGRAMS: [Program<'static>; 4] = [
             Tlbwi,
             Jalr(31, 7), // a fetch that is not valid
             Nop,
-            Beq(0, 0, 0xfff1),
-            Nop,
+            Beq(9, 0, 0xfff1), // from the start, once
+            Ori(9, 0, 1),
+            Sw(9, 0x0108, 1), // D is 0: the handler returns to it with no end
             At(0x180),
             Mtc0(3, ENTRY_LO0),
             Addiu(20, 20, 1),
@@ -92,7 +93,6 @@ static PROGRAMS: [Program<'static>; 4] = [
             At(0x2100),
             Addiu(10, 10, 1),
             Lw(11, 0x0104, 7),
-            Sw(11, 0x0108, 1), // D is 0: the handler returns to it again and again
             Jr(31),
             Addiu(10, 10, 2),
         ],

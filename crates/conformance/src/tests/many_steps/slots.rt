@@ -91,7 +91,7 @@ static PROGRAMS: [Program<'static>; 4] = [
         steps: 40,
     },
     Program {
-        name: "a load in a slot for which there is no entry, again and again",
+        name: "a load in a slot for which there is no entry, and again in the handler",
         code: &[
             // the entry, and the vector of a refill
             Addiu(3, 3, 1),
