@@ -10,6 +10,7 @@ mod guest_steps;
 mod interrupts;
 mod layout;
 mod linked;
+mod many_steps;
 mod past_memory;
 mod refills;
 mod run;

@@ -3,6 +3,7 @@ mod alu;
 mod cp0;
 mod debug;
 mod isa;
+mod many_steps;
 mod sparse;
 mod step;
 mod tlb;

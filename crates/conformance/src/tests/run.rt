@@ -18,7 +18,7 @@ use tenant::BootError;
 use world::{Config, End, NewGuest, Ran, World};
 
 /// The most pages that a physical address reaches.
-const MOST_PAGES: u32 = 1 << 20;
+pub const MOST_PAGES: u32 = 1 << 20;
 
 /// The greatest number of runs of a guest's log.
 pub const LOG_RUNS: u32 = 16;
