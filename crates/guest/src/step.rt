@@ -157,12 +157,7 @@ pub(crate) fn run_pages(
 /// Some steps of a processor over pages, at most `count`, as `mips_run::run` makes them, and how many: none of them needs a page that is
 /// lacking or gives one. Where processor and pages were those of a machine, they are those of that machine after so many steps.
 #[inline(always)]
-fn run_quietly(
-    cpu: &mut Cpu,
-    bus: &mut PagedBus,
-    decoded: &mut DecodeCache,
-    count: u32,
-) -> u32
+fn run_quietly(cpu: &mut Cpu, bus: &mut PagedBus, decoded: &mut DecodeCache, count: u32) -> u32
     requires settled { IsSettled bus.old }
     ensures few { result ≤ count }
     ensures shows { (seat : ℕ) (m : Machine) → GivenAreZeros m.world → Shows m cpu.old bus.old → Shows (run (steps_of seat result) m) cpu.new bus.new }

@@ -302,9 +302,9 @@ impl PhysBus for PagedBus {
         if !self.is_in_memory(at, size) {
             return false;
         }
-        let page = page_of(at);
-        match lack(self.map.kind(page), kind) {
-            None => !self.devices.is_given(page),
+        let its_page = page_of(at);
+        match lack(self.map.kind(its_page), kind) {
+            None => !self.devices.is_given(its_page),
             Some(_) => false,
         }
     }

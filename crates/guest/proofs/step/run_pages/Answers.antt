@@ -21,14 +21,14 @@ pub returns-then-made-count-clause-shows : goal.returns-then-made-count-clause-s
 returns-then-made-count-clause-shows c = λ seat m zeros s.
     let told = c.run_quietly-made.ensures in
     let gone = gone_further c.args.cpu.now c.loop-made.cpu c.run_quietly-made.new.cpu c.args.bus.now c.loop-made.bus c.run_quietly-made.new.bus c.loop-made.made c.run_quietly-made.result
-        c.loop-made.invariant.gone (record { shows = told.shows; kept = told.kept; same = told.same; settled = told.settled; at_first = told.unchanged }) in
+    c.loop-made.invariant.gone (record { shows = told.shows; kept = told.kept; same = told.same; settled = told.settled; at_first = told.unchanged }) in
     subst (λ (n : ℕ). Shows (run (steps_of seat n) m) c.run_quietly-made.new.cpu c.run_quietly-made.new.bus) c.if-made-count.true (gone.shows seat m zeros s)
 
 pub returns-then-made-count-clause-kept : goal.returns-then-made-count-clause-kept
 returns-then-made-count-clause-kept c = λ seat m zeros s held k.
     let told = c.run_quietly-made.ensures in
     let gone = gone_further c.args.cpu.now c.loop-made.cpu c.run_quietly-made.new.cpu c.args.bus.now c.loop-made.bus c.run_quietly-made.new.bus c.loop-made.made c.run_quietly-made.result
-        c.loop-made.invariant.gone (record { shows = told.shows; kept = told.kept; same = told.same; settled = told.settled; at_first = told.unchanged }) in
+    c.loop-made.invariant.gone (record { shows = told.shows; kept = told.kept; same = told.same; settled = told.settled; at_first = told.unchanged }) in
     subst (λ (n : ℕ). Kept held (pages_seen (run (steps_of seat n) m)) c.run_quietly-made.new.bus.pages) c.if-made-count.true (gone.kept seat m zeros s held k)
 
 pub returns-then-made-count-clause-paused : goal.returns-then-made-count-clause-paused
@@ -38,7 +38,7 @@ pub returns-in-Some-clause-shows : goal.returns-in-Some-clause-shows
 returns-in-Some-clause-shows c = λ seat m zeros s.
     let told = c.run_quietly-made.ensures in
     let gone = gone_further c.args.cpu.now c.loop-made.cpu c.run_quietly-made.new.cpu c.args.bus.now c.loop-made.bus c.run_quietly-made.new.bus c.loop-made.made c.run_quietly-made.result
-        c.loop-made.invariant.gone (record { shows = told.shows; kept = told.kept; same = told.same; settled = told.settled; at_first = told.unchanged }) in
+    c.loop-made.invariant.gone (record { shows = told.shows; kept = told.kept; same = told.same; settled = told.settled; at_first = told.unchanged }) in
     let paused = c.in-Some.ensures in
     let now = run (steps_of seat (c.loop-made.made + c.run_quietly-made.result)) m in
     let shows = gone.shows seat m zeros s in
@@ -51,7 +51,7 @@ pub returns-in-Some-clause-kept : goal.returns-in-Some-clause-kept
 returns-in-Some-clause-kept c = λ seat m zeros s held k.
     let told = c.run_quietly-made.ensures in
     let gone = gone_further c.args.cpu.now c.loop-made.cpu c.run_quietly-made.new.cpu c.args.bus.now c.loop-made.bus c.run_quietly-made.new.bus c.loop-made.made c.run_quietly-made.result
-        c.loop-made.invariant.gone (record { shows = told.shows; kept = told.kept; same = told.same; settled = told.settled; at_first = told.unchanged }) in
+    c.loop-made.invariant.gone (record { shows = told.shows; kept = told.kept; same = told.same; settled = told.settled; at_first = told.unchanged }) in
     let paused = c.in-Some.ensures in
     let now = run (steps_of seat (c.loop-made.made + c.run_quietly-made.result)) m in
     let shows = gone.shows seat m zeros s in
@@ -71,7 +71,7 @@ pub returns-in-Some-clause-unchanged : goal.returns-in-Some-clause-unchanged
 returns-in-Some-clause-unchanged c = λ none.
     let told = c.run_quietly-made.ensures in
     let gone = gone_further c.args.cpu.now c.loop-made.cpu c.run_quietly-made.new.cpu c.args.bus.now c.loop-made.bus c.run_quietly-made.new.bus c.loop-made.made c.run_quietly-made.result
-        c.loop-made.invariant.gone (record { shows = told.shows; kept = told.kept; same = told.same; settled = told.settled; at_first = told.unchanged }) in
+    c.loop-made.invariant.gone (record { shows = told.shows; kept = told.kept; same = told.same; settled = told.settled; at_first = told.unchanged }) in
     let before = gone.at_first (omega (arith, none)) in
     let same = c.in-Some.ensures.unchanged (not_made c.in-Some.pause (sym c.steps.ensures ∙ omega (arith, none))) in
     (same.0 ∙ before.0, same.1 ∙ before.1)
@@ -80,7 +80,7 @@ pub loop-made-preserved : goal.loop-made-preserved
 loop-made-preserved c =
     let told = c.run_quietly-made.ensures in
     let gone = gone_further c.args.cpu.now c.loop-made.cpu c.run_quietly-made.new.cpu c.args.bus.now c.loop-made.bus c.run_quietly-made.new.bus c.loop-made.made c.run_quietly-made.result
-        c.loop-made.invariant.gone (record { shows = told.shows; kept = told.kept; same = told.same; settled = told.settled; at_first = told.unchanged }) in
+    c.loop-made.invariant.gone (record { shows = told.shows; kept = told.kept; same = told.same; settled = told.settled; at_first = told.unchanged }) in
     let one = c.in_default.ensures in
     record {
       gone = gone_further c.args.cpu.now c.run_quietly-made.new.cpu c.step_or_pause.new.cpu c.args.bus.now c.run_quietly-made.new.bus c.step_or_pause.new.bus
