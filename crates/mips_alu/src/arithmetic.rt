@@ -35,6 +35,7 @@ pub enum ArithOp {
 
 /// The result of an operation. It is `None` exactly where `Add` or `Sub` overflows, that is where the sum or the
 /// difference of the signed values is no signed value of a word.
+#[inline(always)]
 pub fn arith(op: ArithOp, a: u32, b: u32) -> Option<u32>
     ensures { result ≡ arith_result op a b }
 {

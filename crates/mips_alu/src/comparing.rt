@@ -18,6 +18,7 @@ pub enum Comparison {
 }
 
 /// Whether the first word is to the second as the comparison says.
+#[inline(always)]
 pub fn compare(comparison: Comparison, a: u32, b: u32) -> bool
     ensures { result ≡ compare_result comparison a b }
 {

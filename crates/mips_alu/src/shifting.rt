@@ -16,6 +16,7 @@ pub enum ShiftKind {
 }
 
 /// A word shifted by fewer than 32 bits.
+#[inline(always)]
 pub fn shift(op: ShiftKind, word: u32, amount: u32) -> u32
     requires { amount < 32 }
     ensures { result ≡ shift_result op word amount }

@@ -3,6 +3,7 @@ pub mod Agreeing
 pub mod Answer
 pub mod Bus
 pub mod Clockless
+pub mod Decoding
 pub mod Given
 pub mod Meaning
 pub mod Operations

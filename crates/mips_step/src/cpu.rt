@@ -3,14 +3,16 @@ ghost use Rattle.std.specs.Prelude.{◌≡◌, ◌%◌, IfSome, IfOk, Ok};
 ghost use Rattle.mips_step.specs.Processor.{Processor, reg, with_reg, boot_processor};
 ghost use Rattle.mips_step.specs.Places.{alignment, place, data_address};
 
+use self::counter::Counter;
 use crate::Size;
+use crate::sign::extended;
 use mips_cp0::{Cp0, Exc};
 use mips_instr::Reg;
 use mips_tlb::{Kind, Tlb, direct_address};
 use std::marker::Model;
-use word32::sext16;
 
 mod control;
+mod counter;
 mod debug;
 mod system;
 
@@ -20,8 +22,7 @@ pub struct Cpu {
     regs: [u32; 32],
     hi: u32,
     lo: u32,
-    pc: u32,
-    slot: Option<u32>,
+    counter: Counter,
     ll_bit: bool,
     cp0: Cp0,
     tlb: Tlb,
@@ -32,7 +33,7 @@ impl Model for Cpu {
 
     ghost Value = { Processor };
 
-    ghost view = { λ c. record { regs = c.regs; hi = c.hi; lo = c.lo; pc = c.pc; slot = c.slot; ll_bit = c.ll_bit; cp0 = c.cp0; tlb = c.tlb } };
+    ghost view = { λ c. record { regs = c.regs; hi = c.hi; lo = c.lo; pc = c.counter.pc; slot = c.counter.slot; ll_bit = c.ll_bit; cp0 = c.cp0; tlb = c.tlb } };
 }
 
 impl Cpu {
@@ -44,8 +45,7 @@ impl Cpu {
             regs: [0; 32],
             hi: 0,
             lo: 0,
-            pc: entry,
-            slot: None,
+            counter: Counter::at(entry),
             ll_bit: false,
             cp0: Cp0::boot(),
             tlb: Tlb::boot(),
@@ -78,14 +78,14 @@ impl Cpu {
     pub fn pc(&self) -> u32
         ensures { result ≡ self.now.pc }
     {
-        self.pc
+        self.counter.pc()
     }
 
     /// The address that follows the next instruction, where that stands in a delay slot.
     pub fn slot(&self) -> Option<u32>
         ensures { result ≡ self.now.slot }
     {
-        self.slot
+        self.counter.slot()
     }
 
     /// LLbit: whether an SC would store.
@@ -123,7 +123,7 @@ impl Cpu {
     pub(crate) fn data_address(&self, base: Reg, offset: u16) -> u32
         ensures { result ≡ data_address self.now base offset }
     {
-        self.reg(base).wrapping_add(sext16(offset))
+        self.reg(base).wrapping_add(extended(offset))
     }
 
     /// The physical address of an aligned access in kseg0 or kseg1 in kernel mode; `None` of the others, which `place` tells.

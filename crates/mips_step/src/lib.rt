@@ -6,7 +6,8 @@
 //! clauses a record, `Processor`) and `Cpu::step`: it answers `Done` where the machine has moved by the definition, `Need`
 //! exactly where the bus lacks a page that the step would access, and then nothing has changed. `Cpu::need` tells that
 //! beforehand, and `Cpu::poke` is a debugger's write of a register. For many steps at once there are `PhysBus::is_plain`,
-//! `Cpu::fetch_address`, `Cpu::perform_clockless` and `Cpu::advance_clock` (`specs/Clockless.antt`). `laws` states that a step depends on the pages that it
+//! `Cpu::fetch_address`, `Decoded`, `Cpu::perform_clockless` and `Cpu::advance_clock`
+//! (`specs/Clockless.antt`, `specs/Decoding.antt`). `laws` states that a step depends on the pages that it
 //! accesses alone, which pages it leaves, and which it gives and takes.
 #![tactic(auto)]
 
@@ -14,9 +15,11 @@ pub mod access;
 pub mod bus;
 pub mod clockless;
 pub mod cpu;
+pub mod decoded;
 pub mod laws;
 mod meaning;
 mod operating;
+mod sign;
 pub mod stepping;
 mod transfer;
 
@@ -24,5 +27,6 @@ pub use access::{Refusal, Size, StepOut, Why};
 pub use bus::PhysBus;
 pub use clockless::Performed;
 pub use cpu::Cpu;
+pub use decoded::Decoded;
 pub use mips_tlb::Kind;
 pub use word32::Ppn;

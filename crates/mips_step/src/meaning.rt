@@ -4,6 +4,7 @@ ghost use Rattle.mips_step.specs.Meaning.{register_result, immediate_result, shi
 ghost use Rattle.mips_step.specs.Meaning.{counted, trap_condition, trap_immediate_condition, branch_condition, zero_condition};
 ghost use Rattle.mips_step.specs.Meaning.{is_likely, is_likely_zero, links};
 
+use crate::sign::extended;
 use mips_alu::{
     Accumulation, ArithOp, Comparison, HiLo, LeadingBits, ShiftKind, Signedness, arith, compare,
     count_leading, divide, multiply, shift,
@@ -12,8 +13,8 @@ use mips_instr::{
     BranchOp, BranchZeroOp, ConditionalMoveOp, CountOp, DivideOp, ImmediateOp, MultiplyOp,
     ShiftAmount, ShiftOp, ShiftVariableOp, ThreeRegisterOp, TrapImmediateOp, TrapOp,
 };
-use word32::sext16;
 
+#[inline(always)]
 pub fn register_value(op: ThreeRegisterOp, a: u32, b: u32) -> Option<u32>
     ensures { result ≡ register_result op a b }
 {
@@ -32,20 +33,22 @@ pub fn register_value(op: ThreeRegisterOp, a: u32, b: u32) -> Option<u32>
     }
 }
 
+#[inline(always)]
 pub fn immediate_value(op: ImmediateOp, a: u32, imm: u16) -> Option<u32>
     ensures { result ≡ immediate_result op a imm }
 {
     match op {
-        ImmediateOp::Addi => arith(ArithOp::Add, a, sext16(imm)),
-        ImmediateOp::Addiu => arith(ArithOp::Addu, a, sext16(imm)),
-        ImmediateOp::Slti => arith(ArithOp::Slt, a, sext16(imm)),
-        ImmediateOp::Sltiu => arith(ArithOp::Sltu, a, sext16(imm)),
+        ImmediateOp::Addi => arith(ArithOp::Add, a, extended(imm)),
+        ImmediateOp::Addiu => arith(ArithOp::Addu, a, extended(imm)),
+        ImmediateOp::Slti => arith(ArithOp::Slt, a, extended(imm)),
+        ImmediateOp::Sltiu => arith(ArithOp::Sltu, a, extended(imm)),
         ImmediateOp::Andi => arith(ArithOp::And, a, u32::from(imm)),
         ImmediateOp::Ori => arith(ArithOp::Or, a, u32::from(imm)),
         ImmediateOp::Xori => arith(ArithOp::Xor, a, u32::from(imm)),
     }
 }
 
+#[inline(always)]
 pub fn shift_value(op: ShiftOp, word: u32, amount: ShiftAmount) -> u32
     ensures { result ≡ shifted op word amount }
 {
@@ -56,6 +59,7 @@ pub fn shift_value(op: ShiftOp, word: u32, amount: ShiftAmount) -> u32
     }
 }
 
+#[inline(always)]
 pub fn shift_value_by(op: ShiftVariableOp, word: u32, a: u32) -> u32
     ensures { result ≡ shifted_by op word a }
 {
@@ -132,6 +136,7 @@ pub fn condition_of_trap_immediate(op: TrapImmediateOp) -> Comparison
     }
 }
 
+#[inline(always)]
 pub fn condition_of_branch(op: BranchOp) -> Comparison
     ensures { result ≡ branch_condition op }
 {
@@ -141,6 +146,7 @@ pub fn condition_of_branch(op: BranchOp) -> Comparison
     }
 }
 
+#[inline(always)]
 pub fn condition_with_zero(op: BranchZeroOp) -> Comparison
     ensures { result ≡ zero_condition op }
 {
@@ -154,6 +160,7 @@ pub fn condition_with_zero(op: BranchZeroOp) -> Comparison
     }
 }
 
+#[inline(always)]
 pub fn is_likely_branch(op: BranchOp) -> bool
     ensures { result ≡ is_likely op }
 {
@@ -163,6 +170,7 @@ pub fn is_likely_branch(op: BranchOp) -> bool
     }
 }
 
+#[inline(always)]
 pub fn is_likely_with_zero(op: BranchZeroOp) -> bool
     ensures { result ≡ is_likely_zero op }
 {
@@ -182,6 +190,7 @@ pub fn is_likely_with_zero(op: BranchZeroOp) -> bool
     }
 }
 
+#[inline(always)]
 pub fn is_linking(op: BranchZeroOp) -> bool
     ensures { result ≡ links op }
 {

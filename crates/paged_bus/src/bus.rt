@@ -248,7 +248,8 @@ impl PagedBus {
         }
     }
 
-    /// What an access of a page does beside it: the page leaves the given ones, and is marked.
+    /// What an access of a page does beside it: the page leaves the given ones, and is marked. It comes last, since the compiler
+    /// doesn't know that a mark is no part of a page, and would look at the page once more.
     #[inline(always)]
     fn access(&mut self, page: Ppn)
         requires { page < length self.old.pages }
@@ -316,15 +317,17 @@ impl PhysBus for PagedBus {
 
     #[inline(always)]
     fn fetch(&mut self, at: u32) -> u32 {
+        let word = self.map.read_word(at);
         self.access(page_of(at));
-        self.map.read_word(at)
+        word
     }
 
     #[inline(always)]
     fn load(&mut self, at: u32, size: Size) -> u32 {
         if self.is_in_memory(at, size) {
+            let value = value(&self.map, size, at);
             self.access(page_of(at));
-            value(&self.map, size, at)
+            value
         } else {
             self.load_register(at)
         }
@@ -343,8 +346,8 @@ impl PhysBus for PagedBus {
     #[inline(always)]
     fn store(&mut self, at: u32, size: Size, value: u32) {
         if self.is_in_memory(at, size) {
-            self.access(page_of(at));
             put_value(&mut self.map, size, at, value);
+            self.access(page_of(at));
         } else {
             self.store_register(at, value);
         }

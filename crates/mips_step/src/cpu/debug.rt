@@ -3,6 +3,7 @@ ghost use Rattle.std.specs.Prelude.{◌≡◌};
 ghost use Rattle.mips_step.specs.Poking.{poked};
 
 use super::Cpu;
+use super::counter::Counter;
 use items::DebugRegister;
 use mips_cp0::SystemRegister;
 
@@ -18,10 +19,7 @@ impl Cpu {
             33 => self.lo = value,
             34 => self.hi = value,
             36 => self.cp0.set_value(SystemRegister::Cause, value),
-            37 => {
-                self.pc = value;
-                self.slot = None;
-            }
+            37 => self.counter = Counter::at(value),
             number => self.regs[number as usize] = value,
         }
     }

@@ -4,6 +4,7 @@ ghost use Rattle.mips_cp0.specs.Status.{is_usable};
 ghost use Rattle.mips_step.specs.Operations.{moved_from, moved_to, with_hi_lo, cp0_moved, tlb_done, exception_returned};
 
 use super::Cpu;
+use super::counter::Counter;
 use mips_alu::HiLo;
 use mips_cp0::Coprocessor;
 use mips_instr::{Cp0MoveOp, MoveFromOp, MoveToOp, Reg, Select, TlbOp};
@@ -93,8 +94,7 @@ impl Cpu {
     pub(crate) fn return_from_exception(&mut self)
         ensures { self.new ≡ exception_returned self.old }
     {
-        self.pc = self.cp0.eret();
-        self.slot = None;
+        self.counter = Counter::at(self.cp0.eret());
         self.ll_bit = false;
     }
 }

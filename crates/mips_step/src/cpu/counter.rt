@@ -1,0 +1,95 @@
+//! The program counter.
+ghost use Rattle.std.specs.Prelude.{◌≡◌, None, Some, is_some};
+ghost use Rattle.mips_instr.specs.Targets.{slot_address};
+ghost use Rattle.mips_step.specs.Processor.{follower, after_slot};
+
+use std::marker::Model;
+
+/// PC and the address that follows it, so that going on asks nothing. In clauses it is PC and, in a delay slot, what follows it.
+#[derive(Drop)]
+pub(crate) struct Counter {
+    pc: u32,
+    next: u32,
+    in_slot: bool,
+}
+
+impl Model for Counter {
+    ghost use Rattle.std.specs.Prelude.{◌≡◌, false, if◌then◌else◌, None, Some};
+    ghost use Rattle.mips_instr.specs.Targets.{slot_address};
+    ghost use Rattle.mips_step.specs.Processor.{CounterIs};
+
+    ghost Value = { CounterIs };
+
+    ghost view = { λ c. record { pc = c.pc; slot = if c.in_slot then Some c.next else None } };
+
+    ghost invariant = { λ c. c.in_slot ≡ false → c.next ≡ slot_address c.pc };
+}
+
+impl Counter {
+    /// At an address, which stands in no delay slot.
+    #[inline(always)]
+    pub(crate) fn at(pc: u32) -> Counter
+        ensures { result ≡ record { pc = pc; slot = None } }
+    {
+        Counter {
+            pc,
+            next: pc.wrapping_add(4),
+            in_slot: false,
+        }
+    }
+
+    /// PC.
+    #[inline(always)]
+    pub(crate) fn pc(&self) -> u32
+        ensures { result ≡ self.now.pc }
+    {
+        self.pc
+    }
+
+    /// Where PC stands in a delay slot, the address that follows it.
+    #[inline(always)]
+    pub(crate) fn slot(&self) -> Option<u32>
+        ensures { result ≡ self.now.slot }
+    {
+        if self.in_slot { Some(self.next) } else { None }
+    }
+
+    /// Whether PC stands in a delay slot.
+    #[inline(always)]
+    pub(crate) fn is_in_slot(&self) -> bool
+        ensures { result ≡ is_some self.now.slot }
+    {
+        self.in_slot
+    }
+
+    /// Goes on to what follows.
+    #[inline(always)]
+    pub(crate) fn advance(&mut self)
+        ensures { self.new ≡ record { pc = follower self.old.slot self.old.pc; slot = None } }
+    {
+        self.pc = self.next;
+        self.next = self.pc.wrapping_add(4);
+        self.in_slot = false;
+    }
+
+    /// Goes on to the delay slot, which a target follows.
+    #[inline(always)]
+    pub(crate) fn jump(&mut self, target: u32)
+        ensures { self.new ≡ record { pc = slot_address self.old.pc; slot = Some target } }
+    {
+        self.pc = self.pc.wrapping_add(4);
+        self.next = target;
+        self.in_slot = true;
+    }
+
+    /// Goes on past the delay slot; in a delay slot the same follows as before.
+    #[inline(always)]
+    pub(crate) fn skip(&mut self)
+        ensures { self.new ≡ record self.old { pc = after_slot self.old.pc } }
+    {
+        self.pc = self.pc.wrapping_add(8);
+        if !self.in_slot {
+            self.next = self.pc.wrapping_add(4);
+        }
+    }
+}
