@@ -3,7 +3,7 @@ use super::case::Case;
 use super::check_cases;
 use std::test::Fail;
 
-static CASES: [Case; 15] = [
+static CASES: [Case; 17] = [
     Case {
         name: "a load that isn't aligned",
         words: &[
@@ -206,6 +206,40 @@ static CASES: [Case; 15] = [
         absent: None,
         count: 9,
         made: 1,
+    },
+    Case {
+        name: "the last line of memory, from its fourth word on",
+        words: &[
+            (0x0000, 0x3c01_8000), // lui $1,0x8000
+            (0x0004, 0x3421_1fec), // ori $1,$1,0x1fec
+            (0x0008, 0x0020_0008), // jr $1
+            (0x000c, 0x0000_0000), // nop
+            (0x1fec, 0x2442_0001), // addiu $2,$2,1
+            (0x1ff0, 0x2442_0002), // addiu $2,$2,2
+            (0x1ff4, 0x2442_0003), // addiu $2,$2,3
+            (0x1ff8, 0x2442_0004), // addiu $2,$2,4
+            (0x1ffc, 0x2442_0005), // addiu $2,$2,5
+        ],
+        before: 0,
+        absent: None,
+        count: 20,
+        made: 9,
+    },
+    Case {
+        name: "words of no instruction within a line, past a jump",
+        words: &[
+            (0x0000, 0x0800_0005), // j 14
+            (0x0004, 0x2442_0001), // addiu $2,$2,1
+            (0x0008, 0xffff_ffff),
+            (0x000c, 0xffff_ffff),
+            (0x0010, 0xffff_ffff),
+            (0x0014, 0x0800_0000), // j 0
+            (0x0018, 0x2442_0002), // addiu $2,$2,2
+        ],
+        before: 0,
+        absent: None,
+        count: 30,
+        made: 30,
     },
 ];
 
