@@ -1,5 +1,5 @@
 -- What is answered to events, and why.
-use Rattle.std.specs.Prelude.{◌≡◌, ◌≢◌, ◌↔◌, ◌<◌, ◌≤◌, ◌^◌, ℕ, false, true, Result, Ok, Err, Option, Some, None, IfOk, IfErr, OnOk, IsErrOf, List, [], ◌∷◌, ◌++◌, length, map, slice_index_or}
+use Rattle.std.specs.Prelude.{◌≡◌, ◌≢◌, ◌↔◌, ◌<◌, ◌≤◌, ◌^◌, ℕ, false, true, Result, Ok, Err, Some, None, IfOk, IfErr, OnOk, IsErrOf, List, [], ◌∷◌, ◌++◌, length, map, slice_index_or}
 use Rattle.frames.specs.FreeList.{FreeList}
 use Rattle.items.specs.declared.item.Item.{Item}
 use Rattle.items.specs.declared.item.What.TheVariants.{Write}
@@ -7,7 +7,6 @@ use Rattle.guest_log.specs.Logs.{IsFull}
 use Rattle.guest_log.specs.declared.stop.Stop.{Stop}
 use Rattle.guest_log.specs.declared.stop.Stop.TheVariants as halt
 use Rattle.mips_tlb.specs.declared.kind.Kind.TheVariants.{Store}
-use Rattle.mips_step.specs.Accesses.{accesses, first_lack}
 use Rattle.mips_step.specs.Answer.{need_of}
 use Rattle.mips_step.specs.declared.access.StepOut.{StepOut}
 use Rattle.mips_step.specs.declared.access.Why.{Why}
@@ -17,7 +16,6 @@ use Rattle.flatvm.specs.Replies.{bytes_at}
 use Rattle.flatvm.specs.declared.reply.Reply.{Reply}
 use Rattle.sha2.specs.Sha256.{sha256}
 use Rattle.sharetab.specs.Shares.{SharesAre}
-use Rattle.swapstore.specs.Failures.{one_more}
 use Rattle.physmap.specs.declared.page.PageKind.TheVariants.{Private}
 use Rattle.physmap.specs.Pages.{page_at, kind_at, shown}
 use Rattle.paging.specs.Scans.{Answered, Comes, HintsAfter}
@@ -30,7 +28,7 @@ use Rattle.guest.specs.Guests.{view_of, standing}
 use Rattle.guest.specs.declared.refused.Refused.{Refused}
 use Rattle.guest.specs.declared.refused.Refused.TheVariants as refusal
 use Rattle.tenant.specs.Lent.{WhyStays}
-use Rattle.tenant.specs.Tenants.{TenantIs, pages_in, stat_of}
+use Rattle.tenant.specs.Tenants.{TenantIs, pages_in}
 use Rattle.tenant.specs.declared.moves.EvictError.{EvictError}
 use Rattle.world.specs.declared.events.Event.{Event}
 use Rattle.world.specs.declared.events.Event.TheVariants as event
@@ -45,17 +43,13 @@ use Rattle.world.specs.declared.running.RunStop.{RunStop}
 use Rattle.world.specs.declared.running.RunStop.TheVariants as halted
 use Rattle.world.specs.declared.world.Evicted.{Evicted}
 use Rattle.world.specs.Debugging.{IfStopped}
-use Rattle.world.specs.Events.{own_items, IfStop, IsForRoom, IsSupplied, WhyStopped}
+use Rattle.world.specs.Events.{own_items, IfStop, IsForRoom, IsSupplied, WhyHalted}
 use Rattle.world.specs.Evictions.{Became}
 use Rattle.world.specs.Admission.{IsAdmitted, LimitsStay, BlockedStay, NotTurned, FindsRoom}
 use Rattle.world.specs.Samples.{IsSampling}
 use Rattle.world.specs.Turns.{IsTurn}
-use Rattle.world.specs.Victims.{WhyLacking}
-use Rattle.world.specs.Worlds.{WorldIs, SameAround, boot_of, log_at}
-
--- the page that a guest's next step needs, and why
-abbrev pub needed_by : TenantIs → Option (ℕ × Why)
-needed_by t = first_lack (lacks_in (pages_in t)) (accesses (view_of t.guest))
+use Rattle.world.specs.Victims.{WhyUnsupplied}
+use Rattle.world.specs.Worlds.{WorldIs, SameAround, boot_of, log_at, guest_at, needed_by, FailsOnce}
 
 -- a step answers the page that it needs, and else is made; it stops for a full log exactly where the log is full
 pub record IsStepAnswer (trusted : Type 0) (t : TenantIs) (stepped : Result StepOut Stop) : Type 0 where
@@ -136,20 +130,10 @@ IsNowhere ts (event.Scan g p) = g < length ts → 2 ^ 32 ≤ g
 IsNowhere ts event.Sample = ⊥
 IsNowhere ts event.Level = ⊥
 
--- the count of a store's failures went up by one in an event
-abbrev pub FailsOnce : {Kept : Type 0} → (Kept → ℕ) → WorldIs Kept → WorldIs Kept → Type 0
-FailsOnce failures w w' = failures w'.store ≡ one_more (failures w.store)
-
--- why many steps, or a debugger's access, for which pages are supplied one after another stopped: the last of them has no frame for a
--- reason that `WhyStopped` has
-abbrev pub WhyHalted : {Kept : Type 0} → (Kept → ℕ) → (Kept → Type 0) → WorldIs Kept → WorldIs Kept → RunStop → Type 0
-WhyHalted failures honest w w' =
-    WhyStopped w'.pool w'.slots (map stat_of w'.tenants) (FailsOnce failures w w') (honest w.store → ⊥)
-
 -- a guest is there that is to make no step, and nothing has happened
 pub record IsBlocked {Kept : Type 0} (g : ℕ) (w w' : WorldIs Kept) : Type 0 where
   pub there : g < length w.tenants
-  pub blocked : (t : TenantIs) → (slice_index_or w.tenants g t).blocked ≡ true
+  pub blocked : (t : TenantIs) → (guest_at w g t).blocked ≡ true
   pub nothing : w' ≡ w
 
 -- a guest may make steps
@@ -160,29 +144,29 @@ IsGoing t = t.blocked ≡ false
 -- whether it is honest.
 abbrev pub IsAnswered : {Kept : Type 0} → (trusted : Kept → Type 0) → (failures : Kept → ℕ) → (honest : Kept → Type 0) → (tax : ℕ) → WorldIs Kept → WorldIs Kept → Event → Answer → Type 0
 IsAnswered trusted failures honest tax w w' (event.Step g) (answer.Stepped stepped) =
-    (t : TenantIs) → IsStepAnswer (trusted w.store) (slice_index_or w.tenants g t) stepped × IsGoing (slice_index_or w.tenants g t)
+    (t : TenantIs) → IsStepAnswer (trusted w.store) (guest_at w g t) stepped × IsGoing (guest_at w g t)
 IsAnswered trusted failures honest tax w w' (event.Steps g count) (answer.Ran ran) =
-    (t : TenantIs) → IsRunAnswer (trusted w.store) count (slice_index_or w'.tenants g t) IsForRoom ran × IsGoing (slice_index_or w.tenants g t)
+    (t : TenantIs) → IsRunAnswer (trusted w.store) count (guest_at w' g t) IsForRoom ran × IsGoing (guest_at w g t)
 IsAnswered trusted failures honest tax w w' (event.Run g count) (answer.Ran ran) =
-    (t : TenantIs) → IsRunAnswer (trusted w.store) count (slice_index_or w'.tenants g t) (WhyHalted failures honest w w') ran
-    × AreSupplied (trusted w.store) (slice_index_or w'.tenants g t) ran × IsGoing (slice_index_or w.tenants g t)
+    (t : TenantIs) → IsRunAnswer (trusted w.store) count (guest_at w' g t) (WhyHalted failures honest w w') ran
+    × AreSupplied (trusted w.store) (guest_at w' g t) ran × IsGoing (guest_at w g t)
 IsAnswered trusted failures honest tax w w' (event.Input g item) (answer.Input done) =
-    (t : TenantIs) → IsInputAnswer (trusted w.store) item (slice_index_or w.tenants g t) done
+    (t : TenantIs) → IsInputAnswer (trusted w.store) item (guest_at w g t) done
 IsAnswered trusted failures honest tax w w' (event.Probe g address count) (answer.Probed (Ok bytes)) =
-    (t : TenantIs) → trusted w.store → bytes_at (view_of (slice_index_or w.tenants g t).guest) address count ≡ Some bytes.items
+    (t : TenantIs) → trusted w.store → bytes_at (view_of (guest_at w g t).guest) address count ≡ Some bytes.items
 IsAnswered trusted failures honest tax w w' (event.Probe g address count) (answer.Probed (Err error)) =
-    (t : TenantIs) → IsProbeRefusal (trusted w.store) address count (slice_index_or w.tenants g t) (WhyHalted failures honest w w') error
+    (t : TenantIs) → IsProbeRefusal (trusted w.store) address count (guest_at w g t) (WhyHalted failures honest w w') error
 IsAnswered trusted failures honest tax w w' (event.Write g address bytes) (answer.Written done) =
-    (t : TenantIs) → IsWriteAnswer (trusted w.store) address bytes.items (slice_index_or w.tenants g t) (WhyHalted failures honest w w') done
+    (t : TenantIs) → IsWriteAnswer (trusted w.store) address bytes.items (guest_at w g t) (WhyHalted failures honest w w') done
 IsAnswered trusted failures honest tax w w' (event.Supply g p) (answer.Supplied done) =
-    (t : TenantIs) → IsSupplyAnswer p (slice_index_or w'.tenants g t) w.pool (FailsOnce failures w w') (honest w.store → ⊥) done
+    (t : TenantIs) → IsSupplyAnswer p (guest_at w' g t) w.pool (FailsOnce failures w w') (honest w.store → ⊥) done
 IsAnswered trusted failures honest tax w w' (event.Fault g) (answer.Faulted done) =
-    (t : TenantIs) → IsFaultAnswer (trusted w.store) (slice_index_or w.tenants g t) (slice_index_or w'.tenants g t)
-    (WhyLacking w'.pool w'.slots (map stat_of w'.tenants) (FailsOnce failures w w') (honest w.store → ⊥)) done
+    (t : TenantIs) → IsFaultAnswer (trusted w.store) (guest_at w g t) (guest_at w' g t)
+    (WhyUnsupplied failures honest w w') done
 IsAnswered trusted failures honest tax w w' (event.Evict g p) (answer.Evicted done) =
-    (t : TenantIs) → IsEvictAnswer p (slice_index_or w.tenants g t) (slice_index_or w'.tenants g t) w.slots (FailsOnce failures w w') done
+    (t : TenantIs) → IsEvictAnswer p (guest_at w g t) (guest_at w' g t) w.slots (FailsOnce failures w w') done
 IsAnswered trusted failures honest tax w w' (event.Scan g p) (answer.Scanned scan) =
-    (t : TenantIs) → IsScanAnswer g p w.shares w'.shares (slice_index_or w.tenants g t) (slice_index_or w'.tenants g t) scan
+    (t : TenantIs) → IsScanAnswer g p w.shares w'.shares (guest_at w g t) (guest_at w' g t) scan
 IsAnswered trusted failures honest tax w w' event.Sample answer.Sampled = IsSampling w.tenants w'.tenants × SameAround w w'
 IsAnswered trusted failures honest tax w w' event.Level (answer.Turned (Ok turn)) = IsTurn tax (FailsOnce failures w w') w turn w'
 IsAnswered trusted failures honest tax w w' event.Level (answer.Turned (Err error)) = w' ≡ w

@@ -29,9 +29,9 @@ use Rattle.world.specs.declared.turns.Turn.{Turn}
 use Rattle.world.specs.Turns.{aim_items}
 use Rattle.tenant.specs.declared.turning.Aim.TheVariants as aim
 use Rattle.world.specs.Debugging.{written_items}
-use Rattle.tenant.specs.Tenants.{TenantIs, pages_in}
+use Rattle.tenant.specs.Tenants.{TenantIs, pages_in, stat_of}
 use Rattle.world.specs.Victims.{WhyLacking}
-use Rattle.world.specs.Worlds.{item_for}
+use Rattle.world.specs.Worlds.{item_for, FailsOnce, WorldIs}
 
 -- an item that is to happen is no step, and a debugger reads and writes 1 to 1,024 bytes
 abbrev pub IsProper : Event → Type 0
@@ -213,3 +213,9 @@ WhyStopped pool slots stats failed damaged stop.SwapRead = WhyLacking pool slots
 WhyStopped pool slots stats failed damaged stop.SwapDamaged = WhyLacking pool slots stats failed damaged lacking.SwapDamaged
 WhyStopped pool slots stats failed damaged stop.Memory = Unit {0}
 WhyStopped pool slots stats failed damaged stop.LogFull = Unit {0}
+
+-- why many steps, or a debugger's access, for which pages are supplied one after another stopped: the last of them has no frame for a
+-- reason that `WhyStopped` has
+abbrev pub WhyHalted : {Kept : Type 0} → (Kept → ℕ) → (Kept → Type 0) → WorldIs Kept → WorldIs Kept → RunStop → Type 0
+WhyHalted failures honest w w' =
+    WhyStopped w'.pool w'.slots (map stat_of w'.tenants) (FailsOnce failures w w') (honest w.store → ⊥)

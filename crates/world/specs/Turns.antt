@@ -14,7 +14,7 @@ use Rattle.tenant.specs.declared.turning.Aim.{Aim}
 use Rattle.tenant.specs.declared.turning.Aim.TheVariants as aim
 use Rattle.world.specs.declared.turns.Turn.{Turn}
 use Rattle.world.specs.Victims.{OnlyPagesMove}
-use Rattle.world.specs.Worlds.{WorldIs, PagesMove}
+use Rattle.world.specs.Worlds.{WorldIs, PagesMove, guest_at, pages_at}
 
 -- ---- what is done beside swapping out
 
@@ -88,7 +88,7 @@ pub record IsTurn {Store : Type 0} (tax : ℕ) (failed : Type 0) (w : WorldIs St
   pub why : IfSome turn.refused (WhyStays w'.slots failed)
   -- a guest is left its minimum, or what it had
   pub least : (g : ℕ) (t : TenantIs) → g < length w.tenants →
-      min (slice_index_or w.tenants g t).minimum (resident_pages (pages_in (slice_index_or w.tenants g t))) ≤ resident_pages (pages_in (slice_index_or w'.tenants g t))
+      min (guest_at w g t).minimum (resident_pages (pages_at w g t)) ≤ resident_pages (pages_at w' g t)
 
 -- the items that the turn adds to the log of a guest
 abbrev pub aim_items : Aim → List Item

@@ -12,6 +12,7 @@ use Rattle.tenant.specs.Tenants.{TenantIs, pages_in, beside_pages, stat_of}
 use Rattle.world.specs.declared.faulting.Spared.{Spared}
 use Rattle.world.specs.declared.faulting.FaultError.{FaultError}
 use Rattle.world.specs.declared.faulting.FaultError.TheVariants.{NoFrame, NoSwap, SwapRead, SwapDamaged, Memory}
+use Rattle.world.specs.Worlds.{FailsOnce, WorldIs}
 
 -- whether a page is one of two
 abbrev pub is_one_of : Option (ℕ × ℕ) → ℕ → Bool
@@ -74,3 +75,8 @@ WhyLacking pool slots stats failed damaged NoSwap = (pool.free ≡ []) × (slots
 WhyLacking pool slots stats failed damaged SwapRead = failed
 WhyLacking pool slots stats failed damaged SwapDamaged = damaged
 WhyLacking pool slots stats failed damaged Memory = Unit {0}
+
+-- why a page that was needed has no frame, for a reason that `WhyLacking` has
+abbrev pub WhyUnsupplied : {Kept : Type 0} → (Kept → ℕ) → (Kept → Type 0) → WorldIs Kept → WorldIs Kept → FaultError → Type 0
+WhyUnsupplied failures honest w w' =
+    WhyLacking w'.pool w'.slots (map stat_of w'.tenants) (FailsOnce failures w w') (honest w.store → ⊥)

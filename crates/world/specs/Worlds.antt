@@ -7,7 +7,13 @@ use Rattle.sharetab.specs.Shares.{SharesAre}
 use Rattle.mips_step.specs.Step.{Machine}
 use Rattle.reclaim.specs.declared.level.Level.{Level}
 use Rattle.paging.specs.Books.{Books}
+use Rattle.guest.specs.Guests.{view_of}
+use Rattle.physmap.specs.declared.page.Page.{Page}
 use Rattle.tenant.specs.Tenants.{TenantIs, pages_in, beside_pages, IsKept}
+use Rattle.swapstore.specs.Failures.{one_more}
+use Rattle.paged_bus.specs.Lacking.{lacks_in}
+use Rattle.mips_step.specs.Accesses.{accesses, first_lack}
+use Rattle.mips_step.specs.declared.access.Why.{Why}
 
 pub record WorldIs (Store : Type 0) : Type 0 where
   -- the guests, that of number g at place g
@@ -22,6 +28,24 @@ pub record WorldIs (Store : Type 0) : Type 0 where
   pub frames : ℕ
   -- how scarce free frames were at the last turn of the policy
   pub level : Level
+
+-- the guest of a number, its pages, and what is seen of it
+abbrev pub guest_at : {Store : Type 0} → WorldIs Store → ℕ → TenantIs → TenantIs
+guest_at w g t = slice_index_or w.tenants g t
+
+abbrev pub pages_at : {Store : Type 0} → WorldIs Store → ℕ → TenantIs → List Page
+pages_at w g t = pages_in (guest_at w g t)
+
+abbrev pub view_at : {Store : Type 0} → WorldIs Store → ℕ → TenantIs → Machine
+view_at w g t = view_of (guest_at w g t).guest
+
+-- the page that a guest's next step needs, and why
+abbrev pub needed_by : TenantIs → Option (ℕ × Why)
+needed_by t = first_lack (lacks_in (pages_in t)) (accesses (view_of t.guest))
+
+-- the count of a store's failures went up by one in an event
+abbrev pub FailsOnce : {Kept : Type 0} → (Kept → ℕ) → WorldIs Kept → WorldIs Kept → Type 0
+FailsOnce failures w w' = failures w'.store ≡ one_more (failures w.store)
 
 -- The books are exact: each frame is free, one page's, or an entry's whose count is how many pages name it, and each slot is free
 -- or one page's. And where the store is to be trusted, each guest is its run.

@@ -14,11 +14,10 @@ impl<S: SwapStore> World<S> {
     ghost use Rattle.items.specs.declared.item.Item.{Item};
     ghost use Rattle.items.specs.Items.{is_step};
     ghost use Rattle.world.specs.declared.events.Event.{Event};
-    ghost use Rattle.swapstore.specs.Failures.{one_more};
     ghost use Rattle.world.specs.Admission.{IsAdmitted, LimitsStay, BlockedStay, NotTurned, FindsRoom};
     ghost use Rattle.world.specs.Answers.{IsAnswered, AllHappen};
     ghost use Rattle.world.specs.Events.{IsProper, items_stepped, items_ran, items_input, items_written, items_turned, own_items, own};
-    ghost use Rattle.world.specs.Worlds.{boot_of, log_at};
+    ghost use Rattle.world.specs.Worlds.{boot_of, log_at, FailsOnce};
 
     fn apply_step(&mut self, g: usize) -> Answer
         ensures logs { (h : ℕ) → log_at self.new.tenants h ≡ log_at self.old.tenants h ++ items_stepped h g result }
@@ -322,7 +321,7 @@ impl<S: SwapStore> World<S> {
         ensures limits { LimitsStay self.old.tenants self.new.tenants }
         ensures blocked { NotTurned result → BlockedStay self.old.tenants self.new.tenants }
         ensures room { IsAdmitted self.old.frames (S.slots self.old.store) self.old.tenants →
-            FindsRoom (S.failed self.new.store ≡ one_more (S.failed self.old.store)) result }
+            FindsRoom (FailsOnce S.failed self.old self.new) result }
         ensures frames { self.new.frames ≡ self.old.frames }
         ensures slots { S.slots self.new.store ≡ S.slots self.old.store }
         ensures honest { S.honest self.new.store ↔ S.honest self.old.store }

@@ -45,21 +45,19 @@ fn is_wanted(access: Access, kind: PageKind) -> bool
 }
 
 impl<S: SwapStore> World<S> {
-    ghost use Rattle.std.specs.Prelude.{◌≡◌, ◌≢◌, ◌<◌, ◌≤◌, ◌⊎◌, ◌↔◌, ◌++◌, ℕ, true, false, Some, None, OnOk, OnErr, IfErr, IsErrOf, length, map, slice_index_or};
+    ghost use Rattle.std.specs.Prelude.{◌≡◌, ◌≢◌, ◌<◌, ◌≤◌, ◌⊎◌, ◌↔◌, ◌++◌, ℕ, true, false, Some, None, OnOk, OnErr, IfErr, IsErrOf, length, map};
     ghost use Rattle.items.specs.declared.item.What.{What};
     ghost use Rattle.guest_log.specs.Logs.{IsFull};
     ghost use Rattle.flatvm.specs.Items.{accepts};
     ghost use Rattle.flatvm.specs.Replies.{bytes_at, SomePlaceIn};
     ghost use Rattle.physmap.specs.Pages.{page_at, kind_at};
-    ghost use Rattle.guest.specs.Guests.{view_of, standing};
-    ghost use Rattle.swapstore.specs.Failures.{one_more};
+    ghost use Rattle.guest.specs.Guests.{standing};
     ghost use Rattle.world.specs.Debugging.{IsReady, IfStopped, written_items, OnlyPagesAndRoom};
-    ghost use Rattle.world.specs.Events.{IsForRoom, WhyStopped};
-    ghost use Rattle.tenant.specs.Tenants.{TenantIs, pages_in, NothingHappens};
-    ghost use Rattle.world.specs.Victims.{OnlyPagesMove, WhyLacking};
-    ghost use Rattle.tenant.specs.Tenants.{stat_of};
+    ghost use Rattle.world.specs.Events.{IsForRoom, WhyHalted};
+    ghost use Rattle.tenant.specs.Tenants.{TenantIs, NothingHappens};
+    ghost use Rattle.world.specs.Victims.{OnlyPagesMove, WhyUnsupplied};
     ghost use Rattle.world.specs.Admission.{LimitsStay, BlockedStay};
-    ghost use Rattle.world.specs.Worlds.{Changes, SameAround, boot_of, log_at};
+    ghost use Rattle.world.specs.Worlds.{Changes, SameAround, boot_of, log_at, guest_at, pages_at, view_at};
 
     // One of two pages that a debugger reaches gets a frame of its own, where it is wanted, and no eviction takes either of them.
     fn supply_one<R: Rng>(
@@ -73,16 +71,15 @@ impl<S: SwapStore> World<S> {
         rng: &mut R,
     ) -> Result<(), FaultError>
         requires guest { g < length self.old.tenants }
-        requires page { (t : TenantIs) → p < length (pages_in (slice_index_or self.old.tenants g t)) }
+        requires page { (t : TenantIs) → p < length (pages_at self.old g t) }
         ensures moves { OnlyPagesMove self.old.tenants self.new.tenants }
         ensures ready { OnOk result ((t : TenantIs) →
-            IsReady access (page_at (pages_in (slice_index_or self.old.tenants g t)) p) (page_at (pages_in (slice_index_or self.new.tenants g t)) p)) }
-        ensures stays { (t : TenantIs) → is_wanted access (kind_at (pages_in (slice_index_or self.old.tenants g t)) p) ≡ false →
-            page_at (pages_in (slice_index_or self.new.tenants g t)) p ≡ page_at (pages_in (slice_index_or self.old.tenants g t)) p }
+            IsReady access (page_at (pages_at self.old g t) p) (page_at (pages_at self.new g t) p)) }
+        ensures stays { (t : TenantIs) → is_wanted access (kind_at (pages_at self.old g t) p) ≡ false →
+            page_at (pages_at self.new g t) p ≡ page_at (pages_at self.old g t) p }
         ensures others { (t : TenantIs) (q : ℕ) → q ≢ p → ((q ≡ reached.now.0) ⊎ (q ≡ reached.now.1)) →
-            page_at (pages_in (slice_index_or self.new.tenants g t)) q ≡ page_at (pages_in (slice_index_or self.old.tenants g t)) q }
-        ensures err { IfErr result (WhyLacking self.new.pool self.new.slots (map stat_of self.new.tenants)
-            (S.failed self.new.store ≡ one_more (S.failed self.old.store)) (S.honest self.old.store → ⊥)) }
+            page_at (pages_at self.new g t) q ≡ page_at (pages_at self.old g t) q }
+        ensures err { IfErr result (WhyUnsupplied S.failed S.honest self.old self.new) }
         ensures no_failure { OnOk result (S.failed self.new.store ≡ S.failed self.old.store) }
         ensures hints { self.new.shares.hints ≡ self.old.shares.hints }
         ensures frames { self.new.frames ≡ self.old.frames }
@@ -113,15 +110,14 @@ impl<S: SwapStore> World<S> {
     ) -> Result<(), FaultError>
         requires guest { g < length self.old.tenants }
         requires order { reached.now.0 ≤ reached.now.1 }
-        requires pages { (t : TenantIs) → reached.now.1 < length (pages_in (slice_index_or self.old.tenants g t)) }
+        requires pages { (t : TenantIs) → reached.now.1 < length (pages_at self.old g t) }
         ensures moves { OnlyPagesMove self.old.tenants self.new.tenants }
         ensures ready { OnOk result ((t : TenantIs) (q : ℕ) → ((q ≡ reached.now.0) ⊎ (q ≡ reached.now.1)) →
-            IsReady access (page_at (pages_in (slice_index_or self.old.tenants g t)) q) (page_at (pages_in (slice_index_or self.new.tenants g t)) q)) }
+            IsReady access (page_at (pages_at self.old g t) q) (page_at (pages_at self.new g t) q)) }
         ensures stays { (t : TenantIs) (q : ℕ) → ((q ≡ reached.now.0) ⊎ (q ≡ reached.now.1)) →
-            is_wanted access (kind_at (pages_in (slice_index_or self.old.tenants g t)) q) ≡ false →
-            page_at (pages_in (slice_index_or self.new.tenants g t)) q ≡ page_at (pages_in (slice_index_or self.old.tenants g t)) q }
-        ensures err { IfErr result (WhyLacking self.new.pool self.new.slots (map stat_of self.new.tenants)
-            (S.failed self.new.store ≡ one_more (S.failed self.old.store)) (S.honest self.old.store → ⊥)) }
+            is_wanted access (kind_at (pages_at self.old g t) q) ≡ false →
+            page_at (pages_at self.new g t) q ≡ page_at (pages_at self.old g t) q }
+        ensures err { IfErr result (WhyUnsupplied S.failed S.honest self.old self.new) }
         ensures no_failure { OnOk result (S.failed self.new.store ≡ S.failed self.old.store) }
         ensures hints { self.new.shares.hints ≡ self.old.shares.hints }
         ensures frames { self.new.frames ≡ self.old.frames }
@@ -150,18 +146,17 @@ impl<S: SwapStore> World<S> {
         requires few { count ≤ 1024 }
         ensures moves { OnlyPagesMove self.old.tenants self.new.tenants }
         ensures no_place { S.true_to_digests self.old.store → (t : TenantIs) → (IsErrOf result DebugError.NoPlace
-            ↔ (bytes_at (view_of (slice_index_or self.old.tenants g t).guest) address count ≡ None)) }
+            ↔ (bytes_at (view_at self.old g t) address count ≡ None)) }
         ensures nothing { IsErrOf result DebugError.NoPlace → self.new ≡ self.old }
-        ensures placed { OnOk result ((t : TenantIs) → bytes_at (standing (slice_index_or self.new.tenants g t).guest) address count ≡ None → ⊥) }
-        ensures there { OnOk result ((t : TenantIs) (q : ℕ) → SomePlaceIn (standing (slice_index_or self.new.tenants g t).guest) address count q →
-            is_wanted access (kind_at (pages_in (slice_index_or self.new.tenants g t)) q) ≡ false) }
-        ensures ready { OnOk result ((t : TenantIs) (q : ℕ) → SomePlaceIn (standing (slice_index_or self.old.tenants g t).guest) address count q →
-            IsReady access (page_at (pages_in (slice_index_or self.old.tenants g t)) q) (page_at (pages_in (slice_index_or self.new.tenants g t)) q)) }
-        ensures stays { (t : TenantIs) (q : ℕ) → SomePlaceIn (standing (slice_index_or self.old.tenants g t).guest) address count q →
-            is_wanted access (kind_at (pages_in (slice_index_or self.old.tenants g t)) q) ≡ false →
-            page_at (pages_in (slice_index_or self.new.tenants g t)) q ≡ page_at (pages_in (slice_index_or self.old.tenants g t)) q }
-        ensures stop { IfErr result (λ error. IfStopped error (WhyStopped self.new.pool self.new.slots (map stat_of self.new.tenants)
-            (S.failed self.new.store ≡ one_more (S.failed self.old.store)) (S.honest self.old.store → ⊥))) }
+        ensures placed { OnOk result ((t : TenantIs) → bytes_at (standing (guest_at self.new g t).guest) address count ≡ None → ⊥) }
+        ensures there { OnOk result ((t : TenantIs) (q : ℕ) → SomePlaceIn (standing (guest_at self.new g t).guest) address count q →
+            is_wanted access (kind_at (pages_at self.new g t) q) ≡ false) }
+        ensures ready { OnOk result ((t : TenantIs) (q : ℕ) → SomePlaceIn (standing (guest_at self.old g t).guest) address count q →
+            IsReady access (page_at (pages_at self.old g t) q) (page_at (pages_at self.new g t) q)) }
+        ensures stays { (t : TenantIs) (q : ℕ) → SomePlaceIn (standing (guest_at self.old g t).guest) address count q →
+            is_wanted access (kind_at (pages_at self.old g t) q) ≡ false →
+            page_at (pages_at self.new g t) q ≡ page_at (pages_at self.old g t) q }
+        ensures stop { IfErr result (λ error. IfStopped error (WhyHalted S.failed S.honest self.old self.new)) }
         ensures never_full { IsErrOf result (DebugError.Stop RunStop.LogFull) → ⊥ }
         ensures hints { self.new.shares.hints ≡ self.old.shares.hints }
         ensures frames { self.new.frames ≡ self.old.frames }
@@ -204,19 +199,18 @@ impl<S: SwapStore> World<S> {
         requires some { 0 < length bytes.old }
         requires few { length bytes.old ≤ 1024 }
         ensures read { OnOk result (S.true_to_digests self.old.store → (t : TenantIs) →
-            bytes_at (view_of (slice_index_or self.old.tenants g t).guest) address (length bytes.old) ≡ Some bytes.new) }
+            bytes_at (view_at self.old g t) address (length bytes.old) ≡ Some bytes.new) }
         ensures no_place { S.true_to_digests self.old.store → (t : TenantIs) → (IsErrOf result DebugError.NoPlace
-            ↔ (bytes_at (view_of (slice_index_or self.old.tenants g t).guest) address (length bytes.old) ≡ None)) }
+            ↔ (bytes_at (view_at self.old g t) address (length bytes.old) ≡ None)) }
         ensures nothing { IsErrOf result DebugError.NoPlace → self.new ≡ self.old }
         ensures unchanged { OnErr result (bytes.new ≡ bytes.old) }
         ensures moves { OnlyPagesMove self.old.tenants self.new.tenants }
-        ensures ready { OnOk result ((t : TenantIs) (q : ℕ) → SomePlaceIn (standing (slice_index_or self.old.tenants g t).guest) address (length bytes.old) q →
-            IsReady Access.Read (page_at (pages_in (slice_index_or self.old.tenants g t)) q) (page_at (pages_in (slice_index_or self.new.tenants g t)) q)) }
-        ensures stays { (t : TenantIs) (q : ℕ) → SomePlaceIn (standing (slice_index_or self.old.tenants g t).guest) address (length bytes.old) q →
-            kind_at (pages_in (slice_index_or self.old.tenants g t)) q ≢ PageKind.Swapped →
-            page_at (pages_in (slice_index_or self.new.tenants g t)) q ≡ page_at (pages_in (slice_index_or self.old.tenants g t)) q }
-        ensures stop { IfErr result (λ error. IfStopped error (WhyStopped self.new.pool self.new.slots (map stat_of self.new.tenants)
-            (S.failed self.new.store ≡ one_more (S.failed self.old.store)) (S.honest self.old.store → ⊥))) }
+        ensures ready { OnOk result ((t : TenantIs) (q : ℕ) → SomePlaceIn (standing (guest_at self.old g t).guest) address (length bytes.old) q →
+            IsReady Access.Read (page_at (pages_at self.old g t) q) (page_at (pages_at self.new g t) q)) }
+        ensures stays { (t : TenantIs) (q : ℕ) → SomePlaceIn (standing (guest_at self.old g t).guest) address (length bytes.old) q →
+            kind_at (pages_at self.old g t) q ≢ PageKind.Swapped →
+            page_at (pages_at self.new g t) q ≡ page_at (pages_at self.old g t) q }
+        ensures stop { IfErr result (λ error. IfStopped error (WhyHalted S.failed S.honest self.old self.new)) }
         ensures never_full { IsErrOf result (DebugError.Stop RunStop.LogFull) → ⊥ }
         ensures hints { self.new.shares.hints ≡ self.old.shares.hints }
         ensures frames { self.new.frames ≡ self.old.frames }
@@ -260,15 +254,14 @@ impl<S: SwapStore> World<S> {
         ensures limits { LimitsStay self.old.tenants self.new.tenants }
         ensures blocked { BlockedStay self.old.tenants self.new.tenants }
         ensures accepted { OnOk result (S.true_to_digests self.old.store → (t : TenantIs) →
-            accepts (What.Write address bytes.items) (view_of (slice_index_or self.old.tenants g t).guest) ≡ true) }
+            accepts (What.Write address bytes.items) (view_at self.old g t) ≡ true) }
         ensures no_place { S.true_to_digests self.old.store → (t : TenantIs) → (IsErrOf result DebugError.NoPlace
-            ↔ (accepts (What.Write address bytes.items) (view_of (slice_index_or self.old.tenants g t).guest) ≡ false)) }
+            ↔ (accepts (What.Write address bytes.items) (view_at self.old g t) ≡ false)) }
         ensures nothing { IsErrOf result DebugError.NoPlace → self.new ≡ self.old }
         ensures unchanged { OnErr result (OnlyPagesAndRoom g self.old.tenants self.new.tenants) }
-        ensures stop { IfErr result (λ error. IfStopped error (WhyStopped self.new.pool self.new.slots (map stat_of self.new.tenants)
-            (S.failed self.new.store ≡ one_more (S.failed self.old.store)) (S.honest self.old.store → ⊥))) }
-        ensures full { IsErrOf result (DebugError.Stop RunStop.LogFull) → (t : TenantIs) → IsFull (slice_index_or self.old.tenants g t).guest.log }
-        ensures room { OnOk result ((t : TenantIs) → IsFull (slice_index_or self.old.tenants g t).guest.log → ⊥) }
+        ensures stop { IfErr result (λ error. IfStopped error (WhyHalted S.failed S.honest self.old self.new)) }
+        ensures full { IsErrOf result (DebugError.Stop RunStop.LogFull) → (t : TenantIs) → IsFull (guest_at self.old g t).guest.log }
+        ensures room { OnOk result ((t : TenantIs) → IsFull (guest_at self.old g t).guest.log → ⊥) }
         ensures hints { self.new.shares.hints ≡ self.old.shares.hints }
         ensures frames { self.new.frames ≡ self.old.frames }
         ensures level { self.new.level ≡ self.old.level }
@@ -287,19 +280,19 @@ impl<S: SwapStore> World<S> {
     fn write(&mut self, g: usize, address: u32, bytes: Vec<u8>) -> Result<(), DebugError>
         requires guest { g < length self.old.tenants }
         requires few { length bytes.items ≤ 1024 }
-        requires placed { (t : TenantIs) → bytes_at (standing (slice_index_or self.old.tenants g t).guest) address (length bytes.items) ≡ None → ⊥ }
-        requires there { (t : TenantIs) (q : ℕ) → SomePlaceIn (standing (slice_index_or self.old.tenants g t).guest) address (length bytes.items) q →
-            is_wanted Access.Write (kind_at (pages_in (slice_index_or self.old.tenants g t)) q) ≡ false }
+        requires placed { (t : TenantIs) → bytes_at (standing (guest_at self.old g t).guest) address (length bytes.items) ≡ None → ⊥ }
+        requires there { (t : TenantIs) (q : ℕ) → SomePlaceIn (standing (guest_at self.old g t).guest) address (length bytes.items) q →
+            is_wanted Access.Write (kind_at (pages_at self.old g t) q) ≡ false }
         ensures logs { (h : ℕ) → log_at self.new.tenants h ≡ log_at self.old.tenants h ++ written_items h g address bytes.items result }
         ensures boots { map boot_of self.new.tenants ≡ map boot_of self.old.tenants }
         ensures limits { LimitsStay self.old.tenants self.new.tenants }
         ensures blocked { BlockedStay self.old.tenants self.new.tenants }
         ensures accepted { OnOk result (S.true_to_digests self.old.store → (t : TenantIs) →
-            accepts (What.Write address bytes.items) (view_of (slice_index_or self.old.tenants g t).guest) ≡ true) }
+            accepts (What.Write address bytes.items) (view_at self.old g t) ≡ true) }
         ensures placed { IsErrOf result DebugError.NoPlace → ⊥ }
         ensures unchanged { OnErr result (Changes NothingHappens g self.old.tenants self.new.tenants) }
         ensures stop { IfErr result (λ error. IfStopped error IsForRoom) }
-        ensures full { (t : TenantIs) → (IsErrOf result (DebugError.Stop RunStop.LogFull) ↔ IsFull (slice_index_or self.old.tenants g t).guest.log) }
+        ensures full { (t : TenantIs) → (IsErrOf result (DebugError.Stop RunStop.LogFull) ↔ IsFull (guest_at self.old g t).guest.log) }
         ensures around { SameAround self.old self.new }
     {
         let item = Item {

@@ -128,18 +128,15 @@ pub(crate) fn stats_of(alloc: Global, tenants: &[Tenant]) -> Result<Vec<Stat>, A
 }
 
 impl<S: SwapStore> World<S> {
-    ghost use Rattle.std.specs.Prelude.{◌≡◌, ◌+◌, ◌<◌, ◌↔◌, ℕ, [], Some, None, OnOk, IfErr, length, map, slice_index_or};
-    ghost use Rattle.mips_step.specs.Accesses.{accesses, first_lack};
+    ghost use Rattle.std.specs.Prelude.{◌≡◌, ◌+◌, ◌<◌, ◌↔◌, ℕ, [], Some, None, OnOk, IfErr, length, map};
     ghost use Rattle.mips_step.specs.declared.access.Why.{Why};
-    ghost use Rattle.paged_bus.specs.Lacking.{lacks_in};
-    ghost use Rattle.guest.specs.Guests.{view_of};
     ghost use Rattle.physmap.specs.declared.page.PageKind.{PageKind};
     ghost use Rattle.physmap.specs.Pages.{kind_at};
-    ghost use Rattle.swapstore.specs.Failures.{one_more};
     ghost use Rattle.tenant.specs.Tenants.{TenantIs, pages_in};
     ghost use Rattle.world.specs.Admission.{IsAdmitted, IsNoRoom};
-    ghost use Rattle.world.specs.Victims.{IsPolicys, OnlyPagesMove, SparedStay, OtherSparedStay, WhyLacking, all_resident};
+    ghost use Rattle.world.specs.Victims.{IsPolicys, OnlyPagesMove, SparedStay, OtherSparedStay, WhyLacking, WhyUnsupplied, all_resident};
     ghost use Rattle.tenant.specs.Tenants.{stat_of};
+    ghost use Rattle.world.specs.Worlds.{guest_at, pages_at, needed_by, FailsOnce};
 
     /// A page of the policy's victim leaves its frame for a slot: of the guests with more resident pages than their minimum the victim
     /// is the one of the least ratio of shares to pages, taxed for idle ones, and its page is the first resident one at or after the
@@ -158,7 +155,7 @@ impl<S: SwapStore> World<S> {
         ensures policy { OnOk result (IsPolicys tax.percent (R.stream rng.old) None self.old.tenants self.new.tenants self.old.slots) }
         ensures fewer { OnOk result (all_resident self.new.tenants + 1 ≡ all_resident self.old.tenants) }
         ensures err { IfErr result
-            (WhyLacking self.new.pool self.new.slots (map stat_of self.new.tenants) (S.failed self.new.store ≡ one_more (S.failed self.old.store)) ⊥) }
+            (WhyLacking self.new.pool self.new.slots (map stat_of self.new.tenants) (FailsOnce S.failed self.old self.new) ⊥) }
         ensures no_failure { OnOk result (S.failed self.new.store ≡ S.failed self.old.store) }
         ensures hints { self.new.shares.hints ≡ self.old.shares.hints }
         ensures frames { self.new.frames ≡ self.old.frames }
@@ -184,7 +181,7 @@ impl<S: SwapStore> World<S> {
         ensures spared { SparedStay spared.now self.old.tenants self.new.tenants }
         ensures fewer { OnOk result (all_resident self.new.tenants + 1 ≡ all_resident self.old.tenants) }
         ensures err { IfErr result
-            (WhyLacking self.new.pool self.new.slots (map stat_of self.new.tenants) (S.failed self.new.store ≡ one_more (S.failed self.old.store)) ⊥) }
+            (WhyLacking self.new.pool self.new.slots (map stat_of self.new.tenants) (FailsOnce S.failed self.old self.new) ⊥) }
         ensures no_failure { OnOk result (S.failed self.new.store ≡ S.failed self.old.store) }
         ensures hints { self.new.shares.hints ≡ self.old.shares.hints }
         ensures frames { self.new.frames ≡ self.old.frames }
@@ -219,7 +216,7 @@ impl<S: SwapStore> World<S> {
         ensures spared { SparedStay spared.now self.old.tenants self.new.tenants }
         ensures room { OnOk result (0 < length self.new.pool.free) }
         ensures err { IfErr result
-            (WhyLacking self.new.pool self.new.slots (map stat_of self.new.tenants) (S.failed self.new.store ≡ one_more (S.failed self.old.store)) ⊥) }
+            (WhyLacking self.new.pool self.new.slots (map stat_of self.new.tenants) (FailsOnce S.failed self.old self.new) ⊥) }
         ensures no_failure { OnOk result (S.failed self.new.store ≡ S.failed self.old.store) }
         ensures hints { self.new.shares.hints ≡ self.old.shares.hints }
         ensures frames { self.new.frames ≡ self.old.frames }
@@ -246,12 +243,11 @@ impl<S: SwapStore> World<S> {
         rng: &mut R,
     ) -> Result<(), FaultError>
         requires guest { g < length self.old.tenants }
-        requires page { (t : TenantIs) → p < length (pages_in (slice_index_or self.old.tenants g t)) }
+        requires page { (t : TenantIs) → p < length (pages_at self.old g t) }
         ensures moves { OnlyPagesMove self.old.tenants self.new.tenants }
-        ensures private { OnOk result ((t : TenantIs) → kind_at (pages_in (slice_index_or self.new.tenants g t)) p ≡ PageKind.Private) }
+        ensures private { OnOk result ((t : TenantIs) → kind_at (pages_at self.new g t) p ≡ PageKind.Private) }
         ensures others { OtherSparedStay g p spared.now self.old.tenants self.new.tenants }
-        ensures err { IfErr result (WhyLacking self.new.pool self.new.slots (map stat_of self.new.tenants)
-            (S.failed self.new.store ≡ one_more (S.failed self.old.store)) (S.honest self.old.store → ⊥)) }
+        ensures err { IfErr result (WhyUnsupplied S.failed S.honest self.old self.new) }
         ensures no_failure { OnOk result (S.failed self.new.store ≡ S.failed self.old.store) }
         ensures hints { self.new.shares.hints ≡ self.old.shares.hints }
         ensures frames { self.new.frames ≡ self.old.frames }
@@ -288,17 +284,15 @@ impl<S: SwapStore> World<S> {
         requires { g < length self.old.tenants }
         ensures moves { OnlyPagesMove self.old.tenants self.new.tenants }
         ensures supplied { OnOk result (S.true_to_digests self.old.store → (t : TenantIs) (p : ℕ) (why : Why) →
-            first_lack (lacks_in (pages_in (slice_index_or self.old.tenants g t)))
-            (accesses (view_of (slice_index_or self.old.tenants g t).guest)) ≡ Some (p, why) →
-            kind_at (pages_in (slice_index_or self.new.tenants g t)) p ≡ PageKind.Private) }
+            needed_by (guest_at self.old g t) ≡ Some (p, why) →
+            kind_at (pages_at self.new g t) p ≡ PageKind.Private) }
         ensures nothing { S.true_to_digests self.old.store → (t : TenantIs) →
-            first_lack (lacks_in (pages_in (slice_index_or self.old.tenants g t))) (accesses (view_of (slice_index_or self.old.tenants g t).guest)) ≡ None →
+            needed_by (guest_at self.old g t) ≡ None →
             self.new ≡ self.old }
-        ensures err { IfErr result (WhyLacking self.new.pool self.new.slots (map stat_of self.new.tenants)
-            (S.failed self.new.store ≡ one_more (S.failed self.old.store)) (S.honest self.old.store → ⊥)) }
+        ensures err { IfErr result (WhyUnsupplied S.failed S.honest self.old self.new) }
         ensures no_failure { OnOk result (S.failed self.new.store ≡ S.failed self.old.store) }
         ensures room { IsAdmitted self.old.frames (S.slots self.old.store) self.old.tenants →
-            IfErr result (IsNoRoom (S.failed self.new.store ≡ one_more (S.failed self.old.store))) }
+            IfErr result (IsNoRoom (FailsOnce S.failed self.old self.new)) }
         ensures hints { self.new.shares.hints ≡ self.old.shares.hints }
         ensures frames { self.new.frames ≡ self.old.frames }
         ensures level { self.new.level ≡ self.old.level }

@@ -76,19 +76,14 @@ fn for_room(stop: Stop) -> RunStop
 }
 
 impl<S: SwapStore> World<S> {
-    ghost use Rattle.std.specs.Prelude.{◌≡◌, ◌≢◌, ◌<◌, ◌≤◌, ◌↔◌, ◌++◌, ℕ, Some, None, IsSome, IfOk, IfErr, OnOk, OnErr, IsErrOf, length, map, slice_index_or};
+    ghost use Rattle.std.specs.Prelude.{◌≡◌, ◌≢◌, ◌<◌, ◌≤◌, ◌↔◌, ◌++◌, ℕ, Some, None, IsSome, IfOk, IfErr, OnOk, OnErr, IsErrOf, length, map};
     ghost use Rattle.guest_log.specs.Logs.{IsFull};
-    ghost use Rattle.mips_step.specs.Accesses.{accesses, first_lack};
     ghost use Rattle.mips_step.specs.declared.access.Why.{Why};
-    ghost use Rattle.paged_bus.specs.Lacking.{lacks_in};
-    ghost use Rattle.guest.specs.Guests.{view_of};
-    ghost use Rattle.swapstore.specs.Failures.{one_more};
-    ghost use Rattle.world.specs.Events.{steps_for, IfStop, IsForRoom, IsSupplied, WhyStopped};
+    ghost use Rattle.world.specs.Events.{steps_for, IfStop, IsForRoom, IsSupplied, WhyHalted};
     ghost use Rattle.guest_log.specs.declared.stop.Stop.{Stop};
-    ghost use Rattle.tenant.specs.Tenants.{TenantIs, pages_in, Stays, AddsSteps, NothingHappens};
-    ghost use Rattle.tenant.specs.Tenants.{stat_of};
+    ghost use Rattle.tenant.specs.Tenants.{TenantIs, Stays, AddsSteps, NothingHappens};
     ghost use Rattle.world.specs.Admission.{LimitsStay, BlockedStay};
-    ghost use Rattle.world.specs.Worlds.{Changes, SameAround, boot_of, log_at};
+    ghost use Rattle.world.specs.Worlds.{Changes, SameAround, boot_of, log_at, guest_at, needed_by};
 
     // At most `count` steps of a guest, up to one that needs a page or gave one to the balloon (`stepping::run_in`).
     #[inline]
@@ -99,11 +94,10 @@ impl<S: SwapStore> World<S> {
         ensures some { IfOk result (λ made. made.1 ≡ None → 0 < made.0) }
         ensures short { IfOk result (λ made. IsSome made.1 → made.0 < count) }
         ensures need { S.true_to_digests self.old.store → (t : TenantIs) → IfOk result (λ made. (p : ℕ) (why : Why) → made.1 ≡ Some (p, why) →
-            first_lack (lacks_in (pages_in (slice_index_or self.new.tenants g t)))
-            (accesses (view_of (slice_index_or self.new.tenants g t).guest)) ≡ Some (p, why)) }
-        ensures room { (t : TenantIs) → IfOk result (λ made. IsSome made.1 → IsFull (slice_index_or self.new.tenants g t).guest.log → ⊥) }
+            needed_by (guest_at self.new g t) ≡ Some (p, why)) }
+        ensures room { (t : TenantIs) → IfOk result (λ made. IsSome made.1 → IsFull (guest_at self.new g t).guest.log → ⊥) }
         ensures adds { IfOk result (λ made. Changes (λ t t'. AddsSteps t made.0 t') g self.old.tenants self.new.tenants) }
-        ensures full { (t : TenantIs) → (IsErrOf result Stop.LogFull ↔ IsFull (slice_index_or self.old.tenants g t).guest.log) }
+        ensures full { (t : TenantIs) → (IsErrOf result Stop.LogFull ↔ IsFull (guest_at self.old g t).guest.log) }
         ensures nothing { IfOk result (λ made. made.0 ≡ 0 → Changes NothingHappens g self.old.tenants self.new.tenants × SameAround self.old self.new) }
         ensures unchanged { OnErr result (Changes NothingHappens g self.old.tenants self.new.tenants × SameAround self.old self.new) }
         ensures stays { Changes Stays g self.old.tenants self.new.tenants }
@@ -134,10 +128,9 @@ impl<S: SwapStore> World<S> {
         ensures boots { map boot_of self.new.tenants ≡ map boot_of self.old.tenants }
         ensures early { IsErrOf result End.Done → ⊥ }
         ensures need { S.true_to_digests self.old.store → (p : ℕ) (why : Why) → IsErrOf result (End.Need p why) → (t : TenantIs) →
-            first_lack (lacks_in (pages_in (slice_index_or self.new.tenants g t)))
-            (accesses (view_of (slice_index_or self.new.tenants g t).guest)) ≡ Some (p, why) }
-        ensures full { IsErrOf result (End.Stop RunStop.LogFull) → (t : TenantIs) → IsFull (slice_index_or self.new.tenants g t).guest.log }
-        ensures room { IfErr result (λ end. end ≢ End.Stop RunStop.LogFull → (t : TenantIs) → IsFull (slice_index_or self.new.tenants g t).guest.log → ⊥) }
+            needed_by (guest_at self.new g t) ≡ Some (p, why) }
+        ensures full { IsErrOf result (End.Stop RunStop.LogFull) → (t : TenantIs) → IsFull (guest_at self.new g t).guest.log }
+        ensures room { IfErr result (λ end. end ≢ End.Stop RunStop.LogFull → (t : TenantIs) → IsFull (guest_at self.new g t).guest.log → ⊥) }
         ensures stop { IfErr result (λ end. IfStop end IsForRoom) }
         ensures hints { self.new.shares.hints ≡ self.old.shares.hints }
         ensures store { self.new.store ≡ self.old.store }
@@ -167,11 +160,10 @@ impl<S: SwapStore> World<S> {
         ensures most { result.steps ≤ count }
         ensures done { result.end ≡ End.Done ↔ result.steps ≡ count }
         ensures need { S.true_to_digests self.old.store → (p : ℕ) (why : Why) → result.end ≡ End.Need p why → (t : TenantIs) →
-            first_lack (lacks_in (pages_in (slice_index_or self.new.tenants g t)))
-            (accesses (view_of (slice_index_or self.new.tenants g t).guest)) ≡ Some (p, why) }
-        ensures full { result.end ≡ End.Stop RunStop.LogFull → (t : TenantIs) → IsFull (slice_index_or self.new.tenants g t).guest.log }
+            needed_by (guest_at self.new g t) ≡ Some (p, why) }
+        ensures full { result.end ≡ End.Stop RunStop.LogFull → (t : TenantIs) → IsFull (guest_at self.new g t).guest.log }
         ensures room { result.end ≢ End.Done → result.end ≢ End.Stop RunStop.LogFull → (t : TenantIs) →
-            IsFull (slice_index_or self.new.tenants g t).guest.log → ⊥ }
+            IsFull (guest_at self.new g t).guest.log → ⊥ }
         ensures stop { IfStop result.end IsForRoom }
         ensures nothing { result.steps ≡ 0 → Changes NothingHappens g self.old.tenants self.new.tenants × SameAround self.old self.new }
         ensures stays { Changes Stays g self.old.tenants self.new.tenants }
@@ -214,14 +206,12 @@ impl<S: SwapStore> World<S> {
         ensures blocked { BlockedStay self.old.tenants self.new.tenants }
         ensures early { IsErrOf result End.Done → ⊥ }
         ensures need { S.true_to_digests self.old.store → (p : ℕ) (why : Why) → IsErrOf result (End.Need p why) → (t : TenantIs) →
-            first_lack (lacks_in (pages_in (slice_index_or self.new.tenants g t)))
-            (accesses (view_of (slice_index_or self.new.tenants g t).guest)) ≡ Some (p, why) }
+            needed_by (guest_at self.new g t) ≡ Some (p, why) }
         ensures supplied { S.true_to_digests self.old.store → (p : ℕ) (why : Why) → IsErrOf result (End.Need p why) → (t : TenantIs) →
-            IsSupplied p (slice_index_or self.new.tenants g t) }
-        ensures full { IsErrOf result (End.Stop RunStop.LogFull) → (t : TenantIs) → IsFull (slice_index_or self.new.tenants g t).guest.log }
-        ensures room { IfErr result (λ end. end ≢ End.Stop RunStop.LogFull → (t : TenantIs) → IsFull (slice_index_or self.new.tenants g t).guest.log → ⊥) }
-        ensures stop { IfErr result (λ end. IfStop end (WhyStopped self.new.pool self.new.slots (map stat_of self.new.tenants)
-            (S.failed self.new.store ≡ one_more (S.failed self.old.store)) (S.honest self.old.store → ⊥))) }
+            IsSupplied p (guest_at self.new g t) }
+        ensures full { IsErrOf result (End.Stop RunStop.LogFull) → (t : TenantIs) → IsFull (guest_at self.new g t).guest.log }
+        ensures room { IfErr result (λ end. end ≢ End.Stop RunStop.LogFull → (t : TenantIs) → IsFull (guest_at self.new g t).guest.log → ⊥) }
+        ensures stop { IfErr result (λ end. IfStop end (WhyHalted S.failed S.honest self.old self.new)) }
         ensures no_failure { OnOk result (S.failed self.new.store ≡ S.failed self.old.store) }
         ensures hints { self.new.shares.hints ≡ self.old.shares.hints }
         ensures frames { self.new.frames ≡ self.old.frames }
@@ -264,15 +254,13 @@ impl<S: SwapStore> World<S> {
         ensures most { result.steps ≤ count }
         ensures done { result.end ≡ End.Done ↔ result.steps ≡ count }
         ensures need { S.true_to_digests self.old.store → (p : ℕ) (why : Why) → result.end ≡ End.Need p why → (t : TenantIs) →
-            first_lack (lacks_in (pages_in (slice_index_or self.new.tenants g t)))
-            (accesses (view_of (slice_index_or self.new.tenants g t).guest)) ≡ Some (p, why) }
+            needed_by (guest_at self.new g t) ≡ Some (p, why) }
         ensures supplied { S.true_to_digests self.old.store → (p : ℕ) (why : Why) → result.end ≡ End.Need p why → (t : TenantIs) →
-            IsSupplied p (slice_index_or self.new.tenants g t) }
-        ensures full { result.end ≡ End.Stop RunStop.LogFull → (t : TenantIs) → IsFull (slice_index_or self.new.tenants g t).guest.log }
+            IsSupplied p (guest_at self.new g t) }
+        ensures full { result.end ≡ End.Stop RunStop.LogFull → (t : TenantIs) → IsFull (guest_at self.new g t).guest.log }
         ensures room { result.end ≢ End.Done → result.end ≢ End.Stop RunStop.LogFull → (t : TenantIs) →
-            IsFull (slice_index_or self.new.tenants g t).guest.log → ⊥ }
-        ensures stop { IfStop result.end (WhyStopped self.new.pool self.new.slots (map stat_of self.new.tenants)
-            (S.failed self.new.store ≡ one_more (S.failed self.old.store)) (S.honest self.old.store → ⊥)) }
+            IsFull (guest_at self.new g t).guest.log → ⊥ }
+        ensures stop { IfStop result.end (WhyHalted S.failed S.honest self.old self.new) }
         ensures hints { self.new.shares.hints ≡ self.old.shares.hints }
         ensures frames { self.new.frames ≡ self.old.frames }
         ensures level { self.new.level ≡ self.old.level }

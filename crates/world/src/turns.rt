@@ -32,17 +32,15 @@ impl Turn {
 }
 
 impl<S: SwapStore> World<S> {
-    ghost use Rattle.std.specs.Prelude.{◌≡◌, ◌+◌, ◌<◌, ◌↔◌, ℕ, None, Some, IfOk, IfErr, OnOk, OnErr, length, slice_index_or};
+    ghost use Rattle.std.specs.Prelude.{◌≡◌, ◌<◌, ◌↔◌, ℕ, None, IfOk, IfErr, OnOk, OnErr, length, slice_index_or};
     ghost use Rattle.rand_core.specs.Stream.{next_u32};
     ghost use Rattle.physmap.specs.Holdings.{resident_pages};
-    ghost use Rattle.swapstore.specs.Failures.{one_more};
-    ghost use Rattle.paging.specs.Moves.{SameNumbers};
     ghost use Rattle.reclaim.specs.declared.turn.Action.{Action};
     ghost use Rattle.tenant.specs.Lent.{WhyStays};
-    ghost use Rattle.tenant.specs.Tenants.{TenantIs, pages_in};
+    ghost use Rattle.tenant.specs.Tenants.{TenantIs};
     ghost use Rattle.world.specs.Turns.{IsTurned, AreTurned, LosesPages, MayLose, AreFewer, AreCutShort, IsTurn};
     ghost use Rattle.world.specs.Victims.{OnlyPagesMove};
-    ghost use Rattle.world.specs.Worlds.{Changes, SameAround};
+    ghost use Rattle.world.specs.Worlds.{Changes, SameAround, guest_at, pages_at, FailsOnce};
 
     // What a turn does to a guest beside swapping out.
     fn turn_guest(&mut self, g: usize, action: Action) -> Aim
@@ -71,10 +69,10 @@ impl<S: SwapStore> World<S> {
     // A page of a guest leaves its frame for a slot: the one that the generator's next word draws.
     fn swap_out<R: Rng>(&mut self, g: usize, rng: &mut R) -> Result<(), EvictError>
         requires guest { g < length self.old.tenants }
-        requires more { (t : TenantIs) → (slice_index_or self.old.tenants g t).minimum < resident_pages (pages_in (slice_index_or self.old.tenants g t)) }
+        requires more { (t : TenantIs) → (guest_at self.old g t).minimum < resident_pages (pages_at self.old g t) }
         ensures loses { OnOk result (Changes (LosesPages 1) g self.old.tenants self.new.tenants) }
         ensures unchanged { OnErr result (self.new.tenants ≡ self.old.tenants) }
-        ensures err { IfErr result (WhyStays self.new.slots (S.failed self.new.store ≡ one_more (S.failed self.old.store))) }
+        ensures err { IfErr result (WhyStays self.new.slots (FailsOnce S.failed self.old self.new)) }
         ensures no_failure { OnOk result (S.failed self.new.store ≡ S.failed self.old.store) }
         ensures rest { R.stream rng.new ≡ (next_u32 (R.stream rng.old)).1 }
         ensures hints { self.new.shares.hints ≡ self.old.shares.hints }
@@ -96,10 +94,10 @@ impl<S: SwapStore> World<S> {
         rng: &mut R,
     ) -> Result<(), EvictError>
         requires guest { g < length self.old.tenants }
-        requires more { (t : TenantIs) → MayLose count (slice_index_or self.old.tenants g t) }
+        requires more { (t : TenantIs) → MayLose count (guest_at self.old g t) }
         ensures loses { OnOk result (Changes (LosesPages count) g self.old.tenants self.new.tenants) }
         ensures fewer { OnErr result ((lost : ℕ) × (lost < count) × Changes (LosesPages lost) g self.old.tenants self.new.tenants) }
-        ensures err { IfErr result (WhyStays self.new.slots (S.failed self.new.store ≡ one_more (S.failed self.old.store))) }
+        ensures err { IfErr result (WhyStays self.new.slots (FailsOnce S.failed self.old self.new)) }
         ensures no_failure { OnOk result (S.failed self.new.store ≡ S.failed self.old.store) }
         ensures hints { self.new.shares.hints ≡ self.old.shares.hints }
         ensures frames { self.new.frames ≡ self.old.frames }
@@ -118,11 +116,11 @@ impl<S: SwapStore> World<S> {
     fn swap_out_each<R: Rng>(&mut self, actions: &[Action], rng: &mut R) -> Result<(), EvictError>
         requires count { length actions.now ≡ length self.old.tenants }
         requires more { (g : ℕ) (t : TenantIs) (a : Action) → g < length self.old.tenants →
-            MayLose (slice_index_or actions.now g a).swap_out (slice_index_or self.old.tenants g t) }
+            MayLose (slice_index_or actions.now g a).swap_out (guest_at self.old g t) }
         ensures moves { OnlyPagesMove self.old.tenants self.new.tenants }
         ensures all { OnOk result (AreFewer actions.now (length self.old.tenants) self.old.tenants self.new.tenants) }
         ensures short { OnErr result (AreCutShort actions.now self.old.tenants self.new.tenants) }
-        ensures err { IfErr result (WhyStays self.new.slots (S.failed self.new.store ≡ one_more (S.failed self.old.store))) }
+        ensures err { IfErr result (WhyStays self.new.slots (FailsOnce S.failed self.old self.new)) }
         ensures hints { self.new.shares.hints ≡ self.old.shares.hints }
         ensures frames { self.new.frames ≡ self.old.frames }
         ensures level { self.new.level ≡ self.old.level }
@@ -157,7 +155,7 @@ impl<S: SwapStore> World<S> {
         tax: Tax,
         rng: &mut R,
     ) -> Result<Turn, AllocError>
-        ensures turn { IfOk result (λ turn. IsTurn tax.percent (S.failed self.new.store ≡ one_more (S.failed self.old.store)) self.old turn self.new) }
+        ensures turn { IfOk result (λ turn. IsTurn tax.percent (FailsOnce S.failed self.old self.new) self.old turn self.new) }
         ensures unchanged { OnErr result (self.new ≡ self.old) }
         ensures hints { self.new.shares.hints ≡ self.old.shares.hints }
         ensures frames { self.new.frames ≡ self.old.frames }

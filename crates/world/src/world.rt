@@ -69,14 +69,12 @@ impl<S: SwapStore> World<S> {
     ghost use Rattle.elf32.specs.Images.{FitsPages};
     ghost use Rattle.guest_log.specs.Logs.{IsFull};
     ghost use Rattle.mips_tlb.specs.declared.kind.Kind.TheVariants.{Store};
-    ghost use Rattle.mips_step.specs.Accesses.{accesses, first_lack};
     ghost use Rattle.mips_step.specs.Answer.{need_of};
     ghost use Rattle.flatvm.specs.Answers.{replied};
     ghost use Rattle.flatvm.specs.Items.{accepts, reply};
     ghost use Rattle.sharetab.specs.Entries.{AllFit};
     ghost use Rattle.sharetab.specs.Maps.{at_page};
     ghost use Rattle.sharetab.specs.declared.guest_page.GuestPage.{GuestPage};
-    ghost use Rattle.swapstore.specs.Failures.{one_more};
     ghost use Rattle.physmap.specs.declared.page.PageKind.{PageKind};
     ghost use Rattle.physmap.specs.Pages.{page_at, kind_at, is_resident, shown};
     ghost use Rattle.paging.specs.Moves.{SameNumbers};
@@ -84,13 +82,13 @@ impl<S: SwapStore> World<S> {
     ghost use Rattle.paging.specs.Supplies.{WhyAway};
     ghost use Rattle.paged_bus.specs.Lacking.{lacks_in};
     ghost use Rattle.paged_bus.specs.Writes.{WritesTo};
-    ghost use Rattle.guest.specs.Guests.{view_of, standing};
+    ghost use Rattle.guest.specs.Guests.{standing};
     ghost use Rattle.world.specs.Evictions.{Became};
     ghost use Rattle.tenant.specs.Lent.{WhyStays};
     ghost use Rattle.tenant.specs.Loading.{FramesFirst, IsOfLoading};
     ghost use Rattle.tenant.specs.Tenants.{TenantIs, pages_in, IsBooted, Stays, Adds, NothingHappens};
     ghost use Rattle.reclaim.specs.declared.level.Level.{Level};
-    ghost use Rattle.world.specs.Worlds.{WorldIs, Sound, Changes, PagesMove, SameAround};
+    ghost use Rattle.world.specs.Worlds.{WorldIs, Sound, Changes, PagesMove, SameAround, guest_at, pages_at, view_at, needed_by, FailsOnce};
 
     /// A world of no guest, with this many frames, all free, and the slots of a store, all free, at the level high. The store comes back where a
     /// request for memory was refused.
@@ -279,9 +277,9 @@ impl<S: SwapStore> World<S> {
     /// Where a page of a guest is; None exactly where it has no such page.
     pub fn kind(&self, g: usize, p: Ppn) -> Option<PageKind>
         requires { g < length self.now.tenants }
-        ensures kind { IfSome result (λ kind. (t : TenantIs) → kind ≡ kind_at (pages_in (slice_index_or self.now.tenants g t)) p) }
-        ensures there { IfSome result (λ kind. (t : TenantIs) → p < length (pages_in (slice_index_or self.now.tenants g t))) }
-        ensures none { IfNone result ((t : TenantIs) → length (pages_in (slice_index_or self.now.tenants g t)) ≤ p) }
+        ensures kind { IfSome result (λ kind. (t : TenantIs) → kind ≡ kind_at (pages_at self.now g t) p) }
+        ensures there { IfSome result (λ kind. (t : TenantIs) → p < length (pages_at self.now g t)) }
+        ensures none { IfNone result ((t : TenantIs) → length (pages_at self.now g t) ≤ p) }
     {
         let tenant = self.guest(g);
         if p.number() < tenant.count() {
@@ -299,10 +297,10 @@ impl<S: SwapStore> World<S> {
     pub fn step(&mut self, g: usize) -> Result<StepOut, Stop>
         requires { g < length self.old.tenants }
         ensures need { S.true_to_digests self.old.store → (t : TenantIs) → IfOk result (λ s. need_of s ≡
-            first_lack (lacks_in (pages_in (slice_index_or self.old.tenants g t))) (accesses (view_of (slice_index_or self.old.tenants g t).guest))) }
+            needed_by (guest_at self.old g t)) }
         ensures adds { IfOk result (λ s. need_of s ≡ None → Changes (λ t t'. Adds t (step_by 0) t') g self.old.tenants self.new.tenants) }
         ensures needs { IfOk result (λ s. need_of s ≢ None → Changes NothingHappens g self.old.tenants self.new.tenants × SameAround self.old self.new) }
-        ensures full { (t : TenantIs) → (IsErrOf result Stop.LogFull ↔ IsFull (slice_index_or self.old.tenants g t).guest.log) }
+        ensures full { (t : TenantIs) → (IsErrOf result Stop.LogFull ↔ IsFull (guest_at self.old g t).guest.log) }
         ensures unchanged { OnErr result (Changes NothingHappens g self.old.tenants self.new.tenants × SameAround self.old self.new) }
         ensures stays { Changes Stays g self.old.tenants self.new.tenants }
         ensures hints { self.new.shares.hints ≡ self.old.shares.hints }
@@ -324,19 +322,19 @@ impl<S: SwapStore> World<S> {
         requires input { is_step item.what ≡ false }
         ensures adds { OnOk result (Changes (λ t t'. Adds t item t') g self.old.tenants self.new.tenants) }
         ensures accepted { OnOk result
-            (S.true_to_digests self.old.store → (t : TenantIs) → accepts item.what (view_of (slice_index_or self.old.tenants g t).guest) ≡ true) }
+            (S.true_to_digests self.old.store → (t : TenantIs) → accepts item.what (view_at self.old g t) ≡ true) }
         ensures reply { IfOk result
-            (λ r. S.true_to_digests self.old.store → (t : TenantIs) → replied r ≡ reply item.what (view_of (slice_index_or self.old.tenants g t).guest)) }
+            (λ r. S.true_to_digests self.old.store → (t : TenantIs) → replied r ≡ reply item.what (view_at self.old g t)) }
         ensures refused { IsErrOf result Refused.Machine → S.true_to_digests self.old.store → (t : TenantIs) →
-            accepts item.what (view_of (slice_index_or self.old.tenants g t).guest) ≡ false }
+            accepts item.what (view_at self.old g t) ≡ false }
         ensures refused_as_it_stands { IsErrOf result Refused.Machine → (t : TenantIs) →
-            accepts item.what (standing (slice_index_or self.old.tenants g t).guest) ≡ false }
-        ensures reply_as_it_stands { IfOk result (λ r. (t : TenantIs) → replied r ≡ reply item.what (standing (slice_index_or self.old.tenants g t).guest)) }
+            accepts item.what (standing (guest_at self.old g t).guest) ≡ false }
+        ensures reply_as_it_stands { IfOk result (λ r. (t : TenantIs) → replied r ≡ reply item.what (standing (guest_at self.old g t).guest)) }
         ensures away { (page : ℕ) → IsErrOf result (Refused.Away page) → (t : TenantIs) →
-            lacks_in (pages_in (slice_index_or self.old.tenants g t)) page Store ≢ None }
+            lacks_in (pages_at self.old g t) page Store ≢ None }
         ensures its_page { (page : ℕ) → IsErrOf result (Refused.Away page) → (t : TenantIs) →
-            WritesTo item.what (standing (slice_index_or self.old.tenants g t).guest) page }
-        ensures full { (t : TenantIs) → (IsErrOf result (Refused.Stop Stop.LogFull) ↔ IsFull (slice_index_or self.old.tenants g t).guest.log) }
+            WritesTo item.what (standing (guest_at self.old g t).guest) page }
+        ensures full { (t : TenantIs) → (IsErrOf result (Refused.Stop Stop.LogFull) ↔ IsFull (guest_at self.old g t).guest.log) }
         ensures unchanged { OnErr result (Changes NothingHappens g self.old.tenants self.new.tenants) }
         ensures stays { Changes Stays g self.old.tenants self.new.tenants }
         ensures around { SameAround self.old self.new }
@@ -352,12 +350,12 @@ impl<S: SwapStore> World<S> {
     /// store never does. Then nothing has moved.
     pub fn supply(&mut self, alloc: Global, g: usize, p: Ppn) -> Result<(), SupplyError>
         requires guest { g < length self.old.tenants }
-        requires page { (t : TenantIs) → p < length (pages_in (slice_index_or self.old.tenants g t)) }
+        requires page { (t : TenantIs) → p < length (pages_at self.old g t) }
         ensures moves { Changes PagesMove g self.old.tenants self.new.tenants }
-        ensures private { OnOk result ((t : TenantIs) → kind_at (pages_in (slice_index_or self.new.tenants g t)) p ≡ PageKind.Private) }
+        ensures private { OnOk result ((t : TenantIs) → kind_at (pages_at self.new g t) p ≡ PageKind.Private) }
         ensures others { (t : TenantIs) (other : ℕ) → (other ≡ p → ⊥) →
-            page_at (pages_in (slice_index_or self.new.tenants g t)) other ≡ page_at (pages_in (slice_index_or self.old.tenants g t)) other }
-        ensures err { IfErr result (WhyAway self.old.pool (S.failed self.new.store ≡ one_more (S.failed self.old.store)) (S.honest self.old.store → ⊥)) }
+            page_at (pages_at self.new g t) other ≡ page_at (pages_at self.old g t) other }
+        ensures err { IfErr result (WhyAway self.old.pool (FailsOnce S.failed self.old self.new) (S.honest self.old.store → ⊥)) }
         ensures no_failure { OnOk result (S.failed self.new.store ≡ S.failed self.old.store) }
         ensures unchanged { OnErr result (self.new.tenants ≡ self.old.tenants) }
         ensures pool_unchanged { OnErr result (SameNumbers self.old.pool self.new.pool) }
@@ -384,12 +382,12 @@ impl<S: SwapStore> World<S> {
     // A resident page leaves its frame.
     pub(crate) fn evict_of(&mut self, g: usize, p: Ppn) -> Result<(), EvictError>
         requires guest { g < length self.old.tenants }
-        requires page { (t : TenantIs) → p < length (pages_in (slice_index_or self.old.tenants g t)) }
-        requires resident { (t : TenantIs) → IsTrue (is_resident (kind_at (pages_in (slice_index_or self.old.tenants g t)) p)) }
+        requires page { (t : TenantIs) → p < length (pages_at self.old g t) }
+        requires resident { (t : TenantIs) → IsTrue (is_resident (kind_at (pages_at self.old g t) p)) }
         ensures moves { Changes PagesMove g self.old.tenants self.new.tenants }
         ensures page { OnOk result ((t : TenantIs) →
-            Became p Evicted.Done (pages_in (slice_index_or self.old.tenants g t)) (pages_in (slice_index_or self.new.tenants g t)) self.old.slots) }
-        ensures err { IfErr result (WhyStays self.old.slots (S.failed self.new.store ≡ one_more (S.failed self.old.store))) }
+            Became p Evicted.Done (pages_at self.old g t) (pages_at self.new g t) self.old.slots) }
+        ensures err { IfErr result (WhyStays self.old.slots (FailsOnce S.failed self.old self.new)) }
         ensures no_failure { OnOk result (S.failed self.new.store ≡ S.failed self.old.store) }
         ensures unchanged { OnErr result (self.new.tenants ≡ self.old.tenants) }
         ensures pool_unchanged { OnErr result (self.new.pool ≡ self.old.pool) }
@@ -420,8 +418,8 @@ impl<S: SwapStore> World<S> {
         requires { g < length self.old.tenants }
         ensures moves { Changes PagesMove g self.old.tenants self.new.tenants }
         ensures page { IfOk result (λ evicted. (t : TenantIs) →
-            Became p evicted (pages_in (slice_index_or self.old.tenants g t)) (pages_in (slice_index_or self.new.tenants g t)) self.old.slots) }
-        ensures err { IfErr result (WhyStays self.old.slots (S.failed self.new.store ≡ one_more (S.failed self.old.store))) }
+            Became p evicted (pages_at self.old g t) (pages_at self.new g t) self.old.slots) }
+        ensures err { IfErr result (WhyStays self.old.slots (FailsOnce S.failed self.old self.new)) }
         ensures no_failure { OnOk result (S.failed self.new.store ≡ S.failed self.old.store) }
         ensures unchanged { OnErr result (self.new.tenants ≡ self.old.tenants) }
         ensures pool_unchanged { OnErr result (self.new.pool ≡ self.old.pool) }
@@ -452,12 +450,12 @@ impl<S: SwapStore> World<S> {
         requires guest { g < length self.old.tenants }
         requires small { g < 2 ^ 32 }
         ensures moves { Changes PagesMove g self.old.tenants self.new.tenants }
-        ensures answer { (t : TenantIs) → Answered self.old.shares (pages_in (slice_index_or self.old.tenants g t)) (record { guest = g; page = p }) result }
+        ensures answer { (t : TenantIs) → Answered self.old.shares (pages_at self.old g t) (record { guest = g; page = p }) result }
         ensures hints { (t : TenantIs) →
-            HintsAfter self.old.shares.hints (sha256 (shown (page_at (pages_in (slice_index_or self.old.tenants g t)) p)))
+            HintsAfter self.old.shares.hints (sha256 (shown (page_at (pages_at self.old g t) p)))
             (record { guest = g; page = p }) result self.new.shares.hints }
-        ensures comes { (t : TenantIs) → (came_free : List ℕ) × Comes self.old.shares.entries (pages_in (slice_index_or self.old.tenants g t)) p result
-            self.new.shares.entries (pages_in (slice_index_or self.new.tenants g t)) came_free }
+        ensures comes { (t : TenantIs) → (came_free : List ℕ) × Comes self.old.shares.entries (pages_at self.old g t) p result
+            self.new.shares.entries (pages_at self.new g t) came_free }
         ensures slots { self.new.slots ≡ self.old.slots }
         ensures store { self.new.store ≡ self.old.store }
         ensures frames { self.new.frames ≡ self.old.frames }
