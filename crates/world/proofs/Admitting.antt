@@ -33,8 +33,8 @@ use Rattle.world.specs.Samples.{OnlySamplesChange}
 use Rattle.world.specs.declared.turns.Turn.{Turn}
 use Rattle.world.specs.Turns.{AreTurned, IsTurn, actions_in}
 use Rattle.world.specs.Victims.{OnlyPagesMove, WhyLacking, all_resident}
-use Rattle.world.specs.Answers.{IsAnswered, FailsOnce}
-use Rattle.world.specs.Worlds.{WorldIs, Sound, Changes, PagesMove}
+use Rattle.world.specs.Answers.{IsAnswered}
+use Rattle.world.specs.Worlds.{WorldIs, Sound, Changes, PagesMove, FailsOnce}
 use Rattle.world.proofs.Sampling.{stays, same_map}
 use Rattle.world.proofs.Victims.{map_same, some_tenant, only_pages, stays_beside}
 
