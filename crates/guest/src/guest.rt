@@ -9,7 +9,7 @@ use elf32::Image;
 use flatvm::{Reply, Unreached, View};
 use items::Item;
 use journal::Journal;
-use mips_run::DecodeCache;
+use mips_run::RunCache;
 use mips_step::{Cpu, Ppn, Why};
 use paged_bus::{InputError, PagedBus};
 use rand_core::Rng;
@@ -27,8 +27,8 @@ use std::sync::Arc;
 pub struct Guest {
     pub(crate) cpu: Cpu,
     pub(crate) bus: PagedBus,
-    /// What words of its memory encode, for `mips_run`. No clause speaks of it: it holds nothing between runs.
-    pub(crate) decoded: DecodeCache,
+    /// What a run of many steps keeps, for `mips_run`. No clause speaks of it: it holds nothing between runs.
+    pub(crate) cache: RunCache,
     /// What the guest has booted, with as many pages: the view begins there.
     pub(crate) image: Arc<Image, Global>,
     pub(crate) pages: u32,
@@ -102,11 +102,11 @@ impl Guest {
         ensures seats { IfOk result (λ g. g.seats ≡ 0) }
     {
         let journal = Journal::new(alloc, log_runs)?;
-        let decoded = DecodeCache::new(alloc)?;
+        let cache = RunCache::new(alloc)?;
         Ok(Guest {
             cpu: Cpu::boot(image.entry),
             bus: PagedBus::new(alloc, pages)?,
-            decoded,
+            cache,
             image,
             pages,
             journal,
@@ -334,7 +334,7 @@ impl Guest {
         ensures unchanged { result.steps ≡ 0 → (self.new ≡ self.old) × (seat.new ≡ seat.old) }
     {
         let most = self.journal.steps_with_room(seat, count);
-        let progress = run_pages(&mut self.cpu, &mut self.bus, &mut self.decoded, most);
+        let progress = run_pages(&mut self.cpu, &mut self.bus, &mut self.cache, most);
         whole(&self.bus);
         if progress.steps > 0 {
             self.journal.steps(seat, progress.steps);
@@ -443,14 +443,14 @@ impl Guest {
         let Guest {
             cpu,
             bus,
-            decoded,
+            cache,
             image,
             pages: _,
             journal,
         } = self;
         drop(cpu);
         drop(image);
-        drop(decoded);
+        drop(cache);
         drop(journal);
         bus.close();
     }

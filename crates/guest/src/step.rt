@@ -28,7 +28,7 @@ ghost use Rattle.guest.specs.Views.{pages_seen, Shows};
 use crate::{Pause, Progress, Stepped};
 use flatvm::{Reply, Unreached, debug};
 use items::What;
-use mips_run::DecodeCache;
+use mips_run::RunCache;
 use mips_step::{Cpu, Ppn, StepOut, Why};
 use paged_bus::{InputError, PagedBus};
 use physmap::Returned;
@@ -114,7 +114,7 @@ fn step_or_pause(cpu: &mut Cpu, bus: &mut PagedBus) -> Option<Pause>
 pub(crate) fn run_pages(
     cpu: &mut Cpu,
     bus: &mut PagedBus,
-    decoded: &mut DecodeCache,
+    cache: &mut RunCache,
     count: u32,
 ) -> Progress
     requires settled { IsSettled bus.old }
@@ -133,7 +133,7 @@ pub(crate) fn run_pages(
 {
     let mut made = 0;
     while made < count {
-        made += run_quietly(cpu, bus, decoded, count - made);
+        made += run_quietly(cpu, bus, cache, count - made);
         if made == count {
             return Progress {
                 steps: count,
@@ -157,7 +157,7 @@ pub(crate) fn run_pages(
 /// Some steps of a processor over pages, at most `count`, as `mips_run::run` makes them, and how many: none of them needs a page that is
 /// lacking or gives one. Where processor and pages were those of a machine, they are those of that machine after so many steps.
 #[inline(always)]
-fn run_quietly(cpu: &mut Cpu, bus: &mut PagedBus, decoded: &mut DecodeCache, count: u32) -> u32
+fn run_quietly(cpu: &mut Cpu, bus: &mut PagedBus, cache: &mut RunCache, count: u32) -> u32
     requires settled { IsSettled bus.old }
     ensures few { result ≤ count }
     ensures shows { (seat : ℕ) (m : Machine) → GivenAreZeros m.world → Shows m cpu.old bus.old → Shows (run (steps_of seat result) m) cpu.new bus.new }
@@ -168,7 +168,7 @@ fn run_quietly(cpu: &mut Cpu, bus: &mut PagedBus, decoded: &mut DecodeCache, cou
     ensures settled { IsSettled bus.new }
 {
     whole(bus);
-    let made = mips_run::run(cpu, bus, decoded, count);
+    let made = mips_run::run(cpu, bus, cache, count);
     whole(bus);
     made
 }

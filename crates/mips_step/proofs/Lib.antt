@@ -9,6 +9,7 @@ pub mod Lacking
 pub mod Operations
 pub mod OtherPages
 pub mod Pages
+pub mod Shown
 pub mod StepGiven
 pub mod Stores
 pub mod Worlds

@@ -10,5 +10,6 @@ pub mod Operations
 pub mod Places
 pub mod Poking
 pub mod Processor
+pub mod Shown
 pub mod Step
 pub mod World

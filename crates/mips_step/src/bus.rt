@@ -3,7 +3,7 @@ ghost use Rattle.std.specs.Prelude.{◌≡◌, ◌≢◌, ℕ, ◌<◌, ◌%◌,
 ghost use Rattle.word32.specs.Pages.{page_number};
 ghost use Rattle.mips_tlb.specs.declared.kind.Kind.{Kind};
 ghost use Rattle.mips_step.specs.declared.access.Why.{Why};
-ghost use Rattle.mips_step.specs.World.{World, reach, value_in, reached_value, touched, world_loaded, world_stored, lines_of, limit_of};
+ghost use Rattle.mips_step.specs.World.{World, reach, value_in, reached_value, touched, world_loaded, world_stored, memory_stored, lines_of, limit_of};
 ghost use Rattle.mips_step.specs.Given.{reached_given};
 ghost use Rattle.mips_step.specs.Places.{alignment};
 ghost use Rattle.mips_step.specs.Bus.{readiness, IsReady, IsPlain};
@@ -73,6 +73,24 @@ pub trait PhysBus {
         ensures value { result ≡ reached_value (reach (world self.old) Kind.Load size at) size at (world self.old) }
         ensures small { result < limit_of size }
         ensures world { world self.new ≡ world_loaded (reach (world self.old) Kind.Load size at) at (world self.old) }
+        ensures kept { kept self.new ≡ kept self.old }
+        ensures settled { waiting self.new None };
+
+    /// Loads a value where the access is plain. It does nothing beside that: a bus that notes which pages are accessed has noted an access
+    /// that `load` made of the page before.
+    fn load_plain(&self, at: u32, size: Size) -> u32
+        requires settled { waiting self.now None }
+        requires aligned { at % alignment size ≡ 0 }
+        requires plain { IsPlain (world self.now) (lacks (kept self.now)) Kind.Load size at }
+        ensures value { result ≡ value_in (world self.now).memory size at }
+        ensures small { result < limit_of size };
+
+    /// Stores a value where the access is plain, as `load_plain` loads one.
+    fn store_plain(&mut self, at: u32, size: Size, value: u32)
+        requires settled { waiting self.old None }
+        requires aligned { at % alignment size ≡ 0 }
+        requires plain { IsPlain (world self.old) (lacks (kept self.old)) Kind.Store size at }
+        ensures world { world self.new ≡ memory_stored size value at (world self.old) }
         ensures kept { kept self.new ≡ kept self.old }
         ensures settled { waiting self.new None };
 

@@ -3,7 +3,7 @@ ghost use Rattle.std.specs.Prelude.{◌≡◌, ◌%◌, IfSome, IfOk, Ok};
 ghost use Rattle.mips_step.specs.Processor.{Processor, reg, with_reg, boot_processor};
 ghost use Rattle.mips_step.specs.Places.{alignment, place, data_address};
 
-use self::counter::Counter;
+pub use self::counter::Counter;
 use crate::Size;
 use crate::sign::extended;
 use mips_cp0::{Cp0, Exc};
@@ -12,7 +12,7 @@ use mips_tlb::{Kind, Tlb, direct_address};
 use std::marker::Model;
 
 mod control;
-mod counter;
+pub mod counter;
 mod debug;
 mod system;
 
@@ -156,7 +156,7 @@ impl Cpu {
 }
 
 /// What the address of an access is a multiple of.
-fn alignment(size: Size) -> u32
+pub(crate) fn alignment(size: Size) -> u32
     ensures { result ≡ alignment size }
 {
     match size {

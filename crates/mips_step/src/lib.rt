@@ -26,7 +26,7 @@ mod transfer;
 pub use access::{Refusal, Size, StepOut, Why};
 pub use bus::PhysBus;
 pub use clockless::Performed;
-pub use cpu::Cpu;
+pub use cpu::{Counter, Cpu};
 pub use decoded::Decoded;
 pub use mips_tlb::Kind;
 pub use word32::Ppn;

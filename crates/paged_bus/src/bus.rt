@@ -334,6 +334,17 @@ impl PhysBus for PagedBus {
     }
 
     #[inline(always)]
+    fn load_plain(&self, at: u32, size: Size) -> u32 {
+        value(&self.map, size, at)
+    }
+
+    #[inline(always)]
+    #[tactic(auto, using(mips_step::proofs::Shown::plain_memory_stored))]
+    fn store_plain(&mut self, at: u32, size: Size, value: u32) {
+        put_value(&mut self.map, size, at, value);
+    }
+
+    #[inline(always)]
     fn lines(&self) -> u8 {
         self.devices.lines()
     }

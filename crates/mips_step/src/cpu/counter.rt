@@ -1,13 +1,16 @@
 //! The program counter.
 ghost use Rattle.std.specs.Prelude.{◌≡◌, None, Some, is_some};
-ghost use Rattle.mips_instr.specs.Targets.{slot_address};
-ghost use Rattle.mips_step.specs.Processor.{follower, after_slot};
+ghost use Rattle.mips_instr.specs.Targets.{slot_address, branch_target};
+ghost use Rattle.mips_step.specs.Processor.{Processor, at_counter, follower, after_slot};
+ghost use Rattle.mips_step.specs.Operations.{branched};
 
+use crate::sign::extended;
 use std::marker::Model;
 
-/// PC and the address that follows it, so that going on asks nothing. In clauses it is PC and, in a delay slot, what follows it.
+/// The program counter: PC and the address that follows it, so that going on asks nothing. In clauses it is PC and, in a delay slot, what
+/// follows it. A run of many steps has it apart from the processor, in registers of the host.
 #[derive(Drop)]
-pub(crate) struct Counter {
+pub struct Counter {
     pc: u32,
     next: u32,
     in_slot: bool,
@@ -38,9 +41,21 @@ impl Counter {
         }
     }
 
-    /// PC.
+    /// The same counter once more.
     #[inline(always)]
-    pub(crate) fn pc(&self) -> u32
+    pub(crate) fn again(&self) -> Counter
+        ensures { result ≡ self.now }
+    {
+        Counter {
+            pc: self.pc,
+            next: self.next,
+            in_slot: self.in_slot,
+        }
+    }
+
+    /// PC: the virtual address of the next instruction.
+    #[inline(always)]
+    pub fn pc(&self) -> u32
         ensures { result ≡ self.now.pc }
     {
         self.pc
@@ -60,6 +75,14 @@ impl Counter {
         ensures { result ≡ is_some self.now.slot }
     {
         self.in_slot
+    }
+
+    /// The address after the delay slot of the instruction at PC.
+    #[inline(always)]
+    pub(crate) fn after_slot(&self) -> u32
+        ensures { result ≡ after_slot self.now.pc }
+    {
+        self.pc.wrapping_add(8)
     }
 
     /// Goes on to what follows.
@@ -91,5 +114,31 @@ impl Counter {
         if !self.in_slot {
             self.next = self.pc.wrapping_add(4);
         }
+    }
+
+    /// Goes on as a branch does, of which only a likely one that is not taken executes no delay slot.
+    #[inline(always)]
+    pub(crate) fn branch(&mut self, taken: bool, likely: bool, offset: u16)
+        ensures { (cpu : Processor) → at_counter self.new cpu ≡ branched taken likely offset (at_counter self.old cpu) }
+    {
+        if taken {
+            let target = self.branch_target(offset);
+            self.jump(target);
+        } else if likely {
+            self.skip();
+        } else {
+            let follower = self.after_slot();
+            self.jump(follower);
+        }
+    }
+
+    /// Where a branch at PC leads, as `mips_instr::branch_target_of` has it.
+    #[inline(always)]
+    fn branch_target(&self, offset: u16) -> u32
+        ensures { result ≡ branch_target self.now.pc offset }
+    {
+        self.pc
+            .wrapping_add(4)
+            .wrapping_add(extended(offset).wrapping_mul(4))
     }
 }

@@ -41,11 +41,17 @@ impl Cpu {
         self.advance();
     }
 
-    pub(crate) fn put_hi_lo(&mut self, value: HiLo)
-        ensures { self.new ≡ with_hi_lo value self.old }
+    pub(crate) fn set_hi_lo(&mut self, value: HiLo)
+        ensures { self.new ≡ record self.old { hi = value.hi; lo = value.lo } }
     {
         self.hi = value.hi;
         self.lo = value.lo;
+    }
+
+    pub(crate) fn put_hi_lo(&mut self, value: HiLo)
+        ensures { self.new ≡ with_hi_lo value self.old }
+    {
+        self.set_hi_lo(value);
         self.advance();
     }
 

@@ -10,7 +10,7 @@ use super::expect;
 use super::sparse::Sparse;
 use case::Case;
 use mips_isa::Reg;
-use mips_run::{DecodeCache, run};
+use mips_run::{RunCache, run};
 use mips_step::Cpu;
 use mips_tlb::ENTRIES;
 use std::process::Abort;
@@ -81,7 +81,7 @@ fn check_same(rt: &impl Abort, name: &str, machine: &Machine, twin: &Machine) {
 /// at once either, and nothing is changed until it is made by itself.
 fn check_split<R: AllocGlobal + Abort>(
     rt: &R,
-    cache: &mut DecodeCache,
+    cache: &mut RunCache,
     case: &Case,
     first: u32,
 ) -> Result<(), Fail> {
@@ -109,7 +109,7 @@ fn check_split<R: AllocGlobal + Abort>(
 
 fn check_case<R: AllocGlobal + Abort>(
     rt: &R,
-    cache: &mut DecodeCache,
+    cache: &mut RunCache,
     case: &Case,
 ) -> Result<(), Fail> {
     for first in 0..case.made.saturating_add(1) {
@@ -120,7 +120,7 @@ fn check_case<R: AllocGlobal + Abort>(
 
 /// Checks each case over the words that were decoded for those before.
 fn check_cases<R: AllocGlobal + Abort>(rt: &R, cases: &[Case]) -> Result<(), Fail> {
-    let mut cache = DecodeCache::new(rt.alloc())?;
+    let mut cache = RunCache::new(rt.alloc())?;
     for case in cases {
         check_case(rt, &mut cache, case)?;
     }

@@ -205,6 +205,15 @@ impl PhysBus for Sparse {
         }
     }
 
+    fn load_plain(&self, at: u32, size: Size) -> u32 {
+        value_at(&self.bytes, size, at)
+    }
+
+    #[tactic(auto, using(mips_step::proofs::Shown::plain_memory_stored))]
+    fn store_plain(&mut self, at: u32, size: Size, value: u32) {
+        put_value(&mut self.bytes, size, at, value);
+    }
+
     fn lines(&self) -> u8 {
         self.devices.lines()
     }
