@@ -1,8 +1,11 @@
 -- The text of a dump.
 use Rattle.std.specs.Prelude.{ℕ, ◌+◌, List, [], ◌∷◌, ◌++◌, codes, decimal, flat_map, Option, Some, None}
 use Rattle.mips_instr.specs.Operands.{hex_byte}
+use Rattle.mips_cp0.specs.Access.{register_value}
+use Rattle.mips_cp0.specs.declared.register.SystemRegister.TheVariants.{Cause}
 use Rattle.mips_step.specs.Processor.{Processor, reg}
 use Rattle.mips_step.specs.Step.{Machine}
+use Rattle.mips_step.specs.World.{lines_of}
 use Rattle.masm.specs.Disassembly.{hex_word}
 use Rattle.guest_log.specs.declared.stop.Stop.{Stop}
 use Rattle.guest_log.specs.Stops.{stop_number}
@@ -34,9 +37,10 @@ upper_registers_text cpu =
 abbrev pub control_text : Processor → List ℕ
 control_text cpu = field_text (codes "pc ") cpu.pc ++ field_text (codes " hi ") cpu.hi ++ field_text (codes " lo ") cpu.lo ++ codes "\n"
 
-abbrev pub system_text : Processor → List ℕ
-system_text cpu =
-    field_text (codes "sr ") cpu.cp0.status ++ field_text (codes " cause ") cpu.cp0.cause
+-- of Cause it has what MFC0 reads while these interrupt lines are raised
+abbrev pub system_text : ℕ → Processor → List ℕ
+system_text lines cpu =
+    field_text (codes "sr ") cpu.cp0.status ++ field_text (codes " cause ") (register_value lines Cause cpu.cp0)
     ++ field_text (codes " epc ") cpu.cp0.epc ++ field_text (codes " badva ") cpu.cp0.bad_vaddr ++ codes "\n"
 
 -- bytes as digits, or a dash where there are none
@@ -58,8 +62,9 @@ stop_text (Some stop) = codes "stop " ++ decimal (stop_number stop) ++ codes "\n
 abbrev pub steps_text : ℕ → List ℕ
 steps_text steps = codes "steps " ++ decimal steps ++ codes "\n"
 
--- the dump of a machine after so many steps: its processor, what its console's output has, and why it made no more
+-- the dump of a machine after so many steps: its processor, with the interrupt lines that its devices raise, what its console's
+-- output has, and why it made no more
 abbrev pub dump_text : Machine → ℕ → Option Stop → List ℕ
 dump_text m steps stop =
-    steps_text steps ++ control_text m.cpu ++ lower_registers_text m.cpu ++ upper_registers_text m.cpu ++ system_text m.cpu
+    steps_text steps ++ control_text m.cpu ++ lower_registers_text m.cpu ++ upper_registers_text m.cpu ++ system_text (lines_of m.world) m.cpu
     ++ output_text m.world.devices.console.output ++ stop_text stop

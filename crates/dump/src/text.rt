@@ -6,6 +6,7 @@ ghost use Rattle.dump.specs.Dumps as spec;
 use flatvm::View;
 use guest_log::Stop;
 use masm::{HexByte, HexWord};
+use mips_cp0::SystemRegister;
 use mips_instr::Reg;
 use mips_step::Cpu;
 use std::alloc::{AllocError, Global};
@@ -23,20 +24,21 @@ pub fn dump(
 {
     let mut out = String::new(alloc);
     writeln!(out, "steps {steps}")?;
-    push_cpu(&mut out, view.cpu)?;
+    push_cpu(&mut out, view.cpu, view.devices.lines())?;
     push_output(&mut out, &view.devices.copy_output()?)?;
     push_stop(&mut out, stop)?;
     Ok(out)
 }
 
-fn push_cpu(out: &mut String, cpu: &Cpu) -> Result<(), AllocError>
+/// The processor's lines, while these interrupt lines are raised.
+fn push_cpu(out: &mut String, cpu: &Cpu, lines: u8) -> Result<(), AllocError>
     ensures { OnOk result (string_bytes out.new ≡ string_bytes out.old ++ spec.control_text cpu.now ++ spec.lower_registers_text cpu.now
-        ++ spec.upper_registers_text cpu.now ++ spec.system_text cpu.now) }
+        ++ spec.upper_registers_text cpu.now ++ spec.system_text lines cpu.now) }
 {
     push_control(out, cpu)?;
     push_lower_registers(out, cpu)?;
     push_upper_registers(out, cpu)?;
-    push_system_registers(out, cpu)
+    push_system_registers(out, cpu, lines)
 }
 
 /// A word behind its label.
@@ -98,12 +100,13 @@ fn push_pair(out: &mut String, a: u32, b: u32) -> Result<(), AllocError>
     push_field(out, " ", b)
 }
 
-fn push_system_registers(out: &mut String, cpu: &Cpu) -> Result<(), AllocError>
-    ensures { OnOk result (string_bytes out.new ≡ string_bytes out.old ++ spec.system_text cpu.now) }
+/// The line of the system registers, of which Cause is as MFC0 reads it while these interrupt lines are raised.
+fn push_system_registers(out: &mut String, cpu: &Cpu, lines: u8) -> Result<(), AllocError>
+    ensures { OnOk result (string_bytes out.new ≡ string_bytes out.old ++ spec.system_text lines cpu.now) }
 {
     let cp0 = cpu.cp0();
     push_field(out, "sr ", cp0.status())?;
-    push_field(out, " cause ", cp0.cause())?;
+    push_field(out, " cause ", cp0.value(SystemRegister::Cause, lines))?;
     push_field(out, " epc ", cp0.epc())?;
     push_field(out, " badva ", cp0.bad_vaddr())?;
     out.push_str("\n")
