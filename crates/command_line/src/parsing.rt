@@ -21,7 +21,7 @@ pub enum Order<'a> {
     Sim(Sim<'a>),
 }
 
-/// What the command line asks for, with console input as its text.
+/// What the command line asks for, with console input as its text; or what is wrong with a value that clap takes.
 #[derive(Clone, Copy)]
 enum Asked<'a> {
     Asm(Asm<'a>),
@@ -29,6 +29,7 @@ enum Asked<'a> {
     Exec(Exec<'a>, &'a str),
     Replay(Replay<'a>),
     Sim(Sim<'a>),
+    Refused(&'static str),
 }
 
 /// What the words ask for. The name of the program is not among them.
@@ -54,6 +55,7 @@ fn order_in<'a>(
             Some(input) => Ok(Order::Exec(exec, input)),
             None => Err(command.error(ErrorKind::ValueValidation, INPUT_REFUSED)?),
         },
+        Some(Asked::Refused(reason)) => Err(command.error(ErrorKind::ValueValidation, reason)?),
         None => Err(command.error(ErrorKind::MissingSubcommand, "no command")?),
     }
 }
@@ -78,8 +80,29 @@ fn asked_of<'a>(matches: &ArgMatches<'a>) -> Option<Asked<'a>> {
         (DIS, of_dis) => Some(Asked::Dis(dis_of(of_dis)?)),
         (REPLAY, of_replay) => Some(Asked::Replay(replay_of(of_replay)?)),
         (SIM, of_sim) => Some(Asked::Sim(sim_of(of_sim)?)),
-        (_, of_exec) => Some(Asked::Exec(exec_of(of_exec)?, of_exec.get_str(INPUT)?)),
+        (_, of_exec) => exec_asked(of_exec),
     }
+}
+
+/// What is wrong with a number that is more than decimal digits, which clap takes where it is a sign and digits.
+const PAGES_REFUSED: &str = "the value of '--pages <P>' is not decimal digits alone";
+
+const STEPS_REFUSED: &str = "the value of '--steps <N>' is not decimal digits alone";
+
+/// What the matches of `exec` ask for, or which of its numbers is refused.
+fn exec_asked<'a>(matches: &ArgMatches<'a>) -> Option<Asked<'a>> {
+    if !is_digits(matches.get_str(PAGES)?) {
+        return Some(Asked::Refused(PAGES_REFUSED));
+    }
+    if !is_digits(matches.get_str(STEPS)?) {
+        return Some(Asked::Refused(STEPS_REFUSED));
+    }
+    Some(Asked::Exec(exec_of(matches)?, matches.get_str(INPUT)?))
+}
+
+/// Whether a text is decimal digits alone.
+fn is_digits(text: &str) -> bool {
+    text.bytes().all(|byte| byte.is_ascii_digit())
 }
 
 const NAME: &str = "vmhost";
@@ -96,6 +119,11 @@ const SIM: &str = "sim";
 
 /// The option that gives console input.
 const INPUT: &str = "in";
+
+/// The options that give numbers.
+const PAGES: &str = "pages";
+
+const STEPS: &str = "steps";
 
 fn whole_command<'a>(alloc: Global) -> Result<Command<'a>, AllocError> {
     let command = with_subcommand(bare_command(alloc)?, asm_command(alloc))?;
@@ -193,10 +221,10 @@ fn with_texts<'a>(alloc: Global, command: Command<'a>) -> Result<Command<'a>, Al
 
 fn with_numbers<'a>(alloc: Global, command: Command<'a>) -> Result<Command<'a>, AllocError> {
     command
-        .arg(number(alloc, "pages", "P", "16").help(
+        .arg(number(alloc, PAGES, "P", "16").help(
             "Pages of memory, of 4,096 bytes each: 2 to 16384",
         ))?
-        .arg(number(alloc, "steps", "N", "1000").help(
+        .arg(number(alloc, STEPS, "N", "1000").help(
             "Steps to make, an instruction or an exception each: 0 to 4294967295",
         ))
 }
@@ -242,8 +270,8 @@ fn exec_of<'a>(matches: &ArgMatches<'a>) -> Option<Exec<'a>> {
         } else {
             MachineKind::Guest
         },
-        pages: matches.get_one("pages")?,
-        steps: matches.get_one("steps")?,
+        pages: matches.get_one(PAGES)?,
+        steps: matches.get_one(STEPS)?,
         log: matches.get_str("log"),
     })
 }
