@@ -19,17 +19,29 @@ use Rattle.commands.specs.declared.fault.LogRefusal.TheVariants as log
 use Rattle.commands.specs.declared.fault.Fault.{Fault}
 use Rattle.commands.specs.declared.fault.Fault.TheVariants.{File, Asm, Elf, Raw, Script, Boot, Log, Memory}
 use Rattle.script.specs.Scripts as scripts
-use Rattle.tenant.specs.declared.loading.BootError.TheVariants.{Limits}
+use Rattle.tenant.specs.declared.loading.BootError.{BootError}
+use Rattle.tenant.specs.declared.loading.BootError.TheVariants as unbooted
 use Rattle.commands.specs.Raw.{IsPageCount}
 use Rattle.commands.specs.Sims.{IsKnown}
 
 -- memory may be wanted by each command; of the other faults it has those that are named
 
+-- why a machine of so many pages, which hold its image, is not booted: the number is outside its limits, or the boot is refused
+-- memory
+abbrev pub IsNotBooted : ℕ → BootError → Type 0
+IsNotBooted pages error = ((error ≡ unbooted.Limits) × ¬ IsPageCount pages) ⊎ (error ≡ unbooted.Memory)
+
+-- of a machine that is booted and run, or booted and shown: the boot is refused memory, or what follows it is
+abbrev pub IsWant : Fault → Type 0
+IsWant (Boot error) = error ≡ unbooted.Memory
+IsWant Memory = Unit {0}
+IsWant other = ⊥
+
 -- of a raw image: its file can't be read, the file is empty or too long, or the number of pages is outside its limits
 abbrev pub IsRawFault : Exec → Fault → Type 0
 IsRawFault order (File name) = name ≡ order.image
 IsRawFault order Raw = Unit {0}
-IsRawFault order (Boot error) = (error ≡ Limits) × ¬ IsPageCount order.pages
+IsRawFault order (Boot error) = (error ≡ unbooted.Limits) × ¬ IsPageCount order.pages
 IsRawFault order Memory = Unit {0}
 IsRawFault order other = ⊥
 
@@ -47,12 +59,12 @@ IsElfRefusal all pages (Elf fault) = first_fault all pages ≡ Some fault
 IsElfRefusal all pages Memory = Unit {0}
 IsElfRefusal all pages other = ⊥
 
--- of the image that is run: one of the file, by its format, or the number of pages is outside its limits
+-- of the image that is run: one of the file, by its format, or the machine is not booted
 abbrev pub IsImageFault : Exec → Fault → Type 0
 IsImageFault order (File name) = name ≡ order.image
 IsImageFault order (Elf fault) = order.format ≡ format.Elf
 IsImageFault order Raw = order.format ≡ format.Raw
-IsImageFault order (Boot error) = (error ≡ Limits) × ¬ IsPageCount order.pages
+IsImageFault order (Boot error) = IsNotBooted order.pages error
 IsImageFault order Memory = Unit {0}
 IsImageFault order other = ⊥
 
@@ -60,7 +72,7 @@ IsImageFault order other = ⊥
 abbrev pub IsElfRunFault : Exec → Fault → Type 0
 IsElfRunFault order (File name) = name ≡ order.image
 IsElfRunFault order (Elf fault) = Unit {0}
-IsElfRunFault order (Boot error) = (error ≡ Limits) × ¬ IsPageCount order.pages
+IsElfRunFault order (Boot error) = (error ≡ unbooted.Limits) × ¬ IsPageCount order.pages
 IsElfRunFault order Memory = Unit {0}
 IsElfRunFault order other = ⊥
 
@@ -75,16 +87,18 @@ abbrev pub IsExecFault : Exec → Fault → Type 0
 IsExecFault order (File name) = (name ≡ order.image) ⊎ (order.log ≡ Some name)
 IsExecFault order (Elf fault) = order.format ≡ format.Elf
 IsExecFault order Raw = order.format ≡ format.Raw
-IsExecFault order (Boot error) = (error ≡ Limits) × ¬ IsPageCount order.pages
+IsExecFault order (Boot error) = IsNotBooted order.pages error
 IsExecFault order (Log refusal) = (refusal ≡ log.Flat) × (order.kind ≡ machine.Flat) × (is_some order.log ≡ true)
 IsExecFault order Memory = Unit {0}
 IsExecFault order other = ⊥
 
--- of a replay: a file can't be read, the image is refused for the pages of the log, or the log is refused
+-- of a replay: a file can't be read, the image is refused for the pages of the log, the log is refused, or the boot is refused
+-- memory
 abbrev pub IsReplayFault : Replay → Fault → Type 0
 IsReplayFault order (File name) = (name ≡ order.image) ⊎ (name ≡ order.log)
 IsReplayFault order (Elf fault) = order.format ≡ format.Elf
 IsReplayFault order Raw = order.format ≡ format.Raw
+IsReplayFault order (Boot error) = error ≡ unbooted.Memory
 IsReplayFault order (Log refusal) = Unit {0}
 IsReplayFault order Memory = Unit {0}
 IsReplayFault order other = ⊥

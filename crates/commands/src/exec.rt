@@ -6,11 +6,11 @@ ghost use Rattle.elf32.specs.Files.{StandsFor};
 ghost use Rattle.elf32.specs.Images.{FitsPages};
 ghost use Rattle.flatvm.specs.Boot.{boot_machine};
 ghost use Rattle.dump.specs.Dumps.{dump_text};
-ghost use Rattle.commands.specs.Faults.{IsElfRunFault, IsExecFault, IsImageFault, IsRunFault};
+ghost use Rattle.commands.specs.Faults.{IsElfRunFault, IsExecFault, IsImageFault, IsRunFault, IsWant};
 ghost use Rattle.commands.specs.Raw.{IsPageCount};
 ghost use Rattle.commands.specs.Runs.{after_run, IsImageOf, IsReport, IsReportOf};
 
-use crate::fault::{Fault, LogRefusal, of_file};
+use crate::fault::{Fault, LogRefusal, of_boot, of_file};
 use crate::hosted::HostedGuest;
 use crate::image_file::{Loaded, elf_image, is_page_count, raw_image};
 use crate::log_file::write_log;
@@ -50,8 +50,8 @@ pub struct Done {
 ///
 /// An error is `Log` where the table machine is asked for a log; `File` where the image's file can't be read or the log's
 /// written, and where both are one; `Elf` with the first fault of a file that is no executable for so many pages; `Raw`
-/// where a raw image is empty or longer than the pages; `Boot` where the number of pages is outside its limits; `Memory`
-/// where a request for memory was refused.
+/// where a raw image is empty or longer than the pages; `Boot` where the number of pages is outside its limits, or the
+/// boot was refused memory; `Memory` where another request for memory was refused.
 pub fn run_image<'a, R: Files + AllocGlobal>(
     rt: &R,
     order: Exec<'a>,
@@ -116,12 +116,14 @@ pub fn run_file<'a, F: Read + Drop>(
     }
 }
 
-fn run_guest(
+/// Boots a guest of the image, and runs it. An error is `Boot` where the boot was refused memory, and `Memory` where another
+/// request was.
+fn run_guest<'a>(
     alloc: Global,
     loaded: Loaded,
-    order: Exec<'_>,
+    order: Exec<'a>,
     input: &ConsoleInput,
-) -> Result<Done, AllocError>
+) -> Result<Done, Fault<'a>>
     requires fits { FitsPages loaded.image order.pages }
     requires legal { IsPageCount order.pages }
     ensures report { IfOk result (λ done. IsReport (boot_machine loaded.image order.entry.pages) input.now order.entry.steps done.report) }
@@ -129,9 +131,10 @@ fn run_guest(
     ensures guest { IfOk result
         (λ done. IfSome done.runner (λ r. r.machine ≡ after_run done.report.ran input.now (boot_machine loaded.image order.entry.pages))) }
     ensures runner { IfOk result (λ done. done.runner ≢ None) }
+    ensures faults { IfErr result IsWant }
 {
     let Loaded { image, digest } = loaded;
-    let mut runner = HostedGuest::boot(alloc, image, order.pages)?;
+    let mut runner = of_boot(HostedGuest::boot(alloc, image, order.pages))?;
     let ran = run(&mut runner, input.as_slice(), order.steps);
     let report = report_of(alloc, &runner, ran)?;
     Ok(Done {
@@ -141,19 +144,21 @@ fn run_guest(
     })
 }
 
-fn run_flat(
+/// Boots the table machine with the image, and runs it. The errors are those of `run_guest`.
+fn run_flat<'a>(
     alloc: Global,
     loaded: Loaded,
-    order: Exec<'_>,
+    order: Exec<'a>,
     input: &ConsoleInput,
-) -> Result<Done, AllocError>
+) -> Result<Done, Fault<'a>>
     requires fits { FitsPages loaded.image order.pages }
     requires legal { IsPageCount order.pages }
     ensures report { IfOk result (λ done. IsReport (boot_machine loaded.image order.entry.pages) input.now order.entry.steps done.report) }
     ensures digest { IfOk result (λ done. done.digest ≡ loaded.digest) }
     ensures never_stops { IfOk result (λ done. done.report.ran.stop ≡ None) }
+    ensures faults { IfErr result IsWant }
 {
-    let mut machine = Flat::boot(alloc, &loaded.image, order.pages)?;
+    let mut machine = of_boot(Flat::boot(alloc, &loaded.image, order.pages))?;
     let ran = run(&mut machine, input.as_slice(), order.steps);
     let report = report_of(alloc, &machine, ran)?;
     Ok(Done {

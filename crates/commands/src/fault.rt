@@ -1,5 +1,5 @@
 //! Why a command is refused.
-ghost use Rattle.std.specs.Prelude.{◌≡◌, ◌≢◌, ◌⊎◌, Err, IfErr, IfOk, Ok};
+ghost use Rattle.std.specs.Prelude.{◌≡◌, ◌≢◌, ◌⊎◌, Err, IfErr, IfOk, Ok, OnErr};
 ghost use Rattle.std.specs.IoError.{error_kind};
 ghost use Rattle.commands.specs.Faults.{fault_of, log_fault_of, log_refusal_number};
 ghost use Rattle.commands.specs.declared.fault.Fault.TheVariants.{Memory};
@@ -128,5 +128,20 @@ pub fn of_file<'a, T: Drop>(name: &'a str, given: io::Result<T>) -> Result<T, Fa
     match given {
         Ok(value) => Ok(value),
         Err(error) => Err(file_fault(name, &error)),
+    }
+}
+
+/// A machine or a world whose boot was asked for: where the boot was refused memory, the fault is `Boot`.
+pub fn of_boot<'a, T: Drop>(booted: Result<T, AllocError>) -> Result<T, Fault<'a>>
+    ensures value { IfOk booted (λ value. result ≡ Ok value) }
+    ensures memory { OnErr booted (result ≡ Err (Fault.Boot BootError.Memory)) }
+    ensures given { IfOk result (λ value. booted ≡ Ok value) }
+    ensures faults { IfErr result (λ fault. fault ≡ Fault.Boot BootError.Memory) }
+{
+    match booted {
+        Ok(value) => Ok(value),
+        Err(_) => Err(Fault::Boot {
+            error: BootError::Memory,
+        }),
     }
 }

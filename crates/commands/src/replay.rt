@@ -12,7 +12,7 @@ ghost use Rattle.dump.specs.Steps.{step_count};
 ghost use Rattle.commands.specs.Replays.{IsReplay};
 ghost use Rattle.commands.specs.Runs.{IsImageOf};
 
-use crate::fault::{Fault, LogRefusal, log_file_fault, of_file};
+use crate::fault::{Fault, LogRefusal, log_file_fault, of_boot, of_file};
 use crate::image_file::{image_in, raw_image_in, whole_file};
 use crate::order::{Format, Replay};
 use dump::dump;
@@ -38,7 +38,8 @@ pub enum Halt {
 ///
 /// An error is `File` where a file can't be read, the image's before the log's; `Log` with the first fault of the log's
 /// header; `Elf` or `Raw` where the image is refused for the log's pages; `Log` with the first fault of the log's items, of
-/// which that of an item that the machine refuses is the last; `Memory` where a request for memory was refused.
+/// which that of an item that the machine refuses is the last; `Boot` where the boot was refused memory, and `Memory` where
+/// another request was.
 pub fn replay_log<'a, R: Files + AllocGlobal>(
     rt: &R,
     order: Replay<'a>,
@@ -86,7 +87,7 @@ fn replay_on<'a>(
 {
     let image = image_of(alloc, image, order, pages)?;
     let entries = read_entries(alloc, log)?;
-    let mut flat = Flat::boot(alloc, &image, pages)?;
+    let mut flat = of_boot(Flat::boot(alloc, &image, pages))?;
     match replay_entries(&mut flat, &entries) {
         Ok(steps) => Ok(dump(alloc, flat.view(), steps, None)?),
         Err(Halt::Item) => Err(Fault::Log {
