@@ -1,10 +1,12 @@
 -- A guest whose pages have left their places.
-use Rattle.std.proofs.Common.{ℕ, ◌≡◌, ◌*◌, List, [], length, sym, ap, subst, ◌∙◌}
+use Rattle.std.proofs.Common.{ℕ, ◌≡◌, ◌*◌, List, [], Option, length, sym, ap, subst, ◌∙◌}
 use Rattle.items.specs.declared.item.Item.{Item}
+use Rattle.mips_step.specs.Processor.{Processor}
 use Rattle.mips_step.specs.Step.{Machine}
 use Rattle.flatvm.specs.Items.{run, AllAccepted}
-use Rattle.paging.specs.Faith.{Faithful}
-use Rattle.guest.specs.Guests.{GuestIs, view_of, without_pages, Intact}
+use Rattle.paging.specs.Faith.{Faithful, Kept}
+use Rattle.paged_bus.specs.Buses.{PagedBusIs}
+use Rattle.guest.specs.Guests.{GuestIs, view_of, without_pages, LogsOnly, Intact}
 use Rattle.guest.specs.Views.{pages_seen, Shows}
 
 pub same_view : (g g' : GuestIs) → without_pages g' ≡ without_pages g → view_of g' ≡ view_of g
@@ -32,3 +34,28 @@ booted_intact g none cpu devices size pages =
       shows = subst (λ (m : Machine). Shows m g.cpu g.bus) (sym view) (record { cpu = cpu; devices = devices; size = size; pages = pages });
       accepted = subst (λ (items : List Item). AllAccepted items g.boot) (sym none) tt;
     }
+
+-- what is so of a guest, is so where only the room in its log has changed
+module _ (g g' : GuestIs) (only : LogsOnly g g') (items : g'.log.items ≡ g.log.items) where
+  still_so : (So : Processor → PagedBusIs → Machine → List Item → Type 0) → So g.cpu g.bus g.boot g.log.items → So g'.cpu g'.bus g'.boot g'.log.items
+  still_so So so =
+      subst (λ (c : Processor). So c g'.bus g'.boot g'.log.items) (sym only.cpu)
+      (subst (λ (b : PagedBusIs). So g.cpu b g'.boot g'.log.items) (sym only.bus)
+      (subst (λ (m : Machine). So g.cpu g.bus m g'.log.items) (sym only.boot)
+      (subst (So g.cpu g.bus g.boot) (sym items) so)))
+
+  pub was_so : (So : Processor → PagedBusIs → Machine → List Item → Type 0) → So g'.cpu g'.bus g'.boot g'.log.items → So g.cpu g.bus g.boot g.log.items
+  was_so So so =
+      subst (λ (c : Processor). So c g.bus g.boot g.log.items) only.cpu
+      (subst (λ (b : PagedBusIs). So g'.cpu b g.boot g.log.items) only.bus
+      (subst (λ (m : Machine). So g'.cpu g'.bus m g.log.items) only.boot
+      (subst (So g'.cpu g'.bus g'.boot) items so)))
+
+  pub roomy_intact : Intact g → Intact g'
+  roomy_intact intact = record {
+    shows = still_so (λ (c : Processor) (b : PagedBusIs) (m : Machine) (xs : List Item). Shows (run xs m) c b) intact.shows;
+    accepted = still_so (λ (c : Processor) (b : PagedBusIs) (m : Machine) (xs : List Item). AllAccepted xs m) intact.accepted;
+  }
+
+  pub roomy_kept : (held : ℕ → Option (List ℕ)) → Kept held (pages_seen (view_of g)) g.bus.pages → Kept held (pages_seen (view_of g')) g'.bus.pages
+  roomy_kept held = still_so (λ (c : Processor) (b : PagedBusIs) (m : Machine) (xs : List Item). Kept held (pages_seen (run xs m)) b.pages)

@@ -1,5 +1,6 @@
 -- Many steps of a guest, none of which needs a page that is lacking or gives one.
-use Rattle.std.proofs.Common.{ℕ, zero, suc, ◌≡◌, ◌≢◌, ◌+◌, ◌*◌, ◌-◌, ◌<◌, inr, Bool, true, false, IsTrue, All, List, length, min, get_or, Option, Some, None, refl, sym, ap, subst, ◌∙◌, arith}
+use Rattle.std.proofs.Common.{ℕ, zero, suc, ◌≡◌, ◌+◌, ◌*◌, ◌-◌, inl, inr, Bool, true, false, IsTrue, All, List, length, min, Option, Some, None, refl, sym, ap, subst, ◌∙◌, arith}
+use Rattle.std.proofs.lemmas.Bool.{cases_lt}
 use Rattle.word32.specs.Zeros.{zeros}
 use Rattle.items.specs.declared.item.Item.{Item}
 use Rattle.items.specs.Entries.{steps_of}
@@ -10,7 +11,7 @@ use Rattle.mips_step.specs.Bus.{Lacks}
 use Rattle.mips_step.specs.Processor.{Processor}
 use Rattle.mips_step.specs.World.{World, is_given_page}
 use Rattle.mips_step.specs.Step.{Machine, in_world, step}
-use Rattle.mips_step.specs.Accesses.{Access, accesses}
+use Rattle.mips_step.specs.Accesses.{Access, accesses, first_lack}
 use Rattle.mips_step.specs.Agreeing.{Agree, Within, StoresTo, GivenAreZeros}
 use Rattle.mips_step.specs.Given.{step_given}
 use Rattle.mips_step.proofs.Agreeing.{step_alike}
@@ -34,16 +35,17 @@ use Rattle.guest.specs.declared.progress.Pause.TheVariants as pause
 use Rattle.guest.specs.Guests.{IsMade, steps_by}
 use Rattle.guest.specs.Views.{pages_seen, Shows, here}
 use Rattle.guest.proofs.Showing.{here_not_swapped, settled_already, shows_agree, shows_after, kept_after, Happened}
+use Rattle.guest.proofs.SameGiven.{given_alike}
 use Rattle.guest.proofs.Stepping.{within_here, same_lacks}
 use Rattle.guest.proofs.Running.{no_step, one_more}
 
 -- What is so of a processor over pages and of the machine whose they are, after as many steps of both: `first` is the machine before them.
-record Together (pages : List Page) (first a m : Machine) : Type 0 where
-  cpu : a.cpu ≡ m.cpu
-  agree : Agree (here pages) a.world m.world
-  zeros_given : GivenAreZeros m.world
-  size : length m.world.memory ≡ length first.world.memory
-  away : (p : ℕ) → kind_at pages p ≡ Swapped → pages_seen m p ≡ pages_seen first p
+pub record Together (pages : List Page) (first a m : Machine) : Type 0 where
+  pub cpu : a.cpu ≡ m.cpu
+  pub agree : Agree (here pages) a.world m.world
+  pub zeros_given : GivenAreZeros m.world
+  pub size : length m.world.memory ≡ length first.world.memory
+  pub away : (p : ℕ) → kind_at pages p ≡ Swapped → pages_seen m p ≡ pages_seen first p
 
 -- one step more
 module _ (pages : List Page) (first a m : Machine) (before : Together pages first a m) (quiet : IsQuiet (lacks_in pages) a) where
@@ -98,12 +100,27 @@ module _ (pages : List Page) (first a m : Machine) (before : Together pages firs
   }
 
 -- after so many
-together_after : (pages : List Page) (k : ℕ) (a m : Machine) → Together pages m a m → AreQuiet (lacks_in pages) k a → Together pages m (steps k a) (steps k m)
+pub together_after : (pages : List Page) (k : ℕ) (a m : Machine) → Together pages m a m → AreQuiet (lacks_in pages) k a → Together pages m (steps k a) (steps k m)
 together_after pages zero a m begun quiet = begun
 together_after pages (suc k) a m begun quiet =
     together_on pages m (steps k a) (steps k m)
     (together_after pages k a m begun (λ j below. quiet j (omega (arith, below))))
     (quiet k (omega arith))
+
+-- a step accesses the same pages, and gives the same
+module _ (pages : List Page) (first a m : Machine) (together : Together pages first a m) (none : first_lack (lacks_in pages) (accesses a) ≡ None) where
+  within_these : Within (here pages) (accesses a)
+  within_these = within_here pages (accesses a) none
+
+  with_memory : in_world a.cpu m.world ≡ m
+  with_memory = ap (λ (c : Processor). in_world c m.world) together.cpu
+
+  pub same_accesses : accesses m ≡ accesses a
+  same_accesses =
+      ap accesses (sym with_memory) ∙ (step_alike (here pages) a.cpu a.world m.world together.agree within_these).accesses
+
+  pub same_given : step_given m ≡ step_given a
+  same_given = ap step_given (sym with_memory) ∙ given_alike (here pages) a.cpu a.world m.world together.agree within_these
 
 -- the steps of a seat's items are steps
 pub steps_are_run : (seat k : ℕ) (m : Machine) → steps k m ≡ run (steps_of seat k) m
@@ -167,6 +184,8 @@ pub record GoneOn (cpu cpu' : Processor) (b b' : PagedBusIs) (k : ℕ) : Type 0 
   pub shows : (seat : ℕ) (m : Machine) → GivenAreZeros m.world → Shows m cpu b → Shows (run (steps_of seat k) m) cpu' b'
   pub kept : (seat : ℕ) (m : Machine) → GivenAreZeros m.world → Shows m cpu b → (held : ℕ → Option (List ℕ)) → Kept held (pages_seen m) b.pages
       → Kept held (pages_seen (run (steps_of seat k) m)) b'.pages
+  pub moves : in_world cpu' (world_of b') ≡ steps k (in_world cpu (world_of b))
+  pub quiet : AreQuiet (lacks_in b.pages) k (in_world cpu (world_of b))
   pub same : outline b'.pages ≡ outline b.pages
   pub settled : IsSettled b'
   pub at_first : k ≡ 0 → (cpu' ≡ cpu) × (b' ≡ b)
@@ -175,6 +194,8 @@ pub not_gone : (cpu : Processor) (b : PagedBusIs) → IsSettled b → GoneOn cpu
 not_gone cpu b settled = record {
   shows = λ seat m zeros s. subst (λ (n : Machine). Shows n cpu b) (sym (no_step seat m)) s;
   kept = λ seat m zeros s held k. subst (λ (n : Machine). Kept held (pages_seen n) b.pages) (sym (no_step seat m)) k;
+  moves = refl;
+  quiet = λ j below. absurd (omega (arith, below));
   same = refl;
   settled = settled;
   at_first = λ first. (refl, refl);
@@ -185,14 +206,41 @@ one_step seat m = one_more seat 0 m ∙ ap step (no_step seat m)
 
 pub gone_one : (cpu cpu' : Processor) (b b' : PagedBusIs) → ((m : Machine) → GivenAreZeros m.world → Shows m cpu b → Shows (step m) cpu' b')
     → ((m : Machine) → GivenAreZeros m.world → Shows m cpu b → (held : ℕ → Option (List ℕ)) → Kept held (pages_seen m) b.pages → Kept held (pages_seen (step m)) b'.pages)
+    → in_world cpu' (world_of b') ≡ step (in_world cpu (world_of b)) → IsQuiet (lacks_in b.pages) (in_world cpu (world_of b))
     → outline b'.pages ≡ outline b.pages → IsSettled b' → GoneOn cpu cpu' b b' 1
-gone_one cpu cpu' b b' shows kept same settled = record {
+gone_one cpu cpu' b b' shows kept moves quiet same settled = record {
   shows = λ seat m zeros s. subst (λ (n : Machine). Shows n cpu' b') (sym (one_step seat m)) (shows m zeros s);
   kept = λ seat m zeros s held k. subst (λ (n : Machine). Kept held (pages_seen n) b'.pages) (sym (one_step seat m)) (kept m zeros s held k);
+  moves = moves;
+  quiet = λ j below.
+      let first : 0 ≡ j = omega (arith, below) in
+      subst (λ (n : ℕ). IsQuiet (lacks_in b.pages) (steps n (in_world cpu (world_of b)))) first quiet;
   same = same;
   settled = settled;
   at_first = λ first. absurd (omega (arith, first));
 }
+
+-- some steps, and then more
+steps_join : (j k : ℕ) (m : Machine) → steps k (steps j m) ≡ steps (j + k) m
+steps_join j zero m =
+    let e : j ≡ j + 0 = omega arith in
+    ap (λ (n : ℕ). steps n m) e
+steps_join j (suc k) m =
+    let e : suc (j + k) ≡ j + suc k = omega arith in
+    ap step (steps_join j k m) ∙ ap (λ (n : ℕ). steps n m) e
+
+-- pages lack what pages that are where they are lack
+pub lacks_alike : (pages pages' : List Page) → outline pages' ≡ outline pages → lacks_in pages' ≡ lacks_in pages
+lacks_alike pages pages' same = sym (same_lacks pages') ∙ ap lacks_in same ∙ same_lacks pages
+
+quiet_further : (lacks lacks' : Lacks) (j k : ℕ) (m m' : Machine) → lacks' ≡ lacks → m' ≡ steps j m → AreQuiet lacks j m → AreQuiet lacks' k m' → AreQuiet lacks (j + k) m
+quiet_further lacks lacks' j k m m' same moves one two i below = elim (cases_lt i j) [
+  | inl before ↦ one i before
+  | inr after ↦
+      let e : j + (i - j) ≡ i = omega (arith, after) in
+      subst (λ (n : Machine). IsQuiet lacks n) (ap (steps (i - j)) moves ∙ steps_join j (i - j) m ∙ ap (λ (n : ℕ). steps n m) e)
+      (subst (λ (l : Lacks). IsQuiet l (steps (i - j) m')) same (two (i - j) (omega (arith, below, after))))
+]
 
 pub gone_further : (cpu cpu' cpu'' : Processor) (b b' b'' : PagedBusIs) (j k : ℕ) → GoneOn cpu cpu' b b' j → GoneOn cpu' cpu'' b' b'' k → GoneOn cpu cpu'' b b'' (j + k)
 gone_further cpu cpu' cpu'' b b' b'' j k one two = record {
@@ -200,6 +248,9 @@ gone_further cpu cpu' cpu'' b b' b'' j k one two = record {
       (two.shows seat (run (steps_of seat j) m) (run_zeros (steps_of seat j) m zeros) (one.shows seat m zeros s));
   kept = λ seat m zeros s held h. subst (λ (n : Machine). Kept held (pages_seen n) b''.pages) (sym (run_join seat j k m))
       (two.kept seat (run (steps_of seat j) m) (run_zeros (steps_of seat j) m zeros) (one.shows seat m zeros s) held (one.kept seat m zeros s held h));
+  moves = two.moves ∙ ap (steps k) one.moves ∙ steps_join j k (in_world cpu (world_of b));
+  quiet = quiet_further (lacks_in b.pages) (lacks_in b'.pages) j k (in_world cpu (world_of b)) (in_world cpu' (world_of b'))
+      (lacks_alike b.pages b'.pages one.same) one.moves one.quiet two.quiet;
   same = two.same ∙ one.same;
   settled = two.settled;
   at_first = λ first.

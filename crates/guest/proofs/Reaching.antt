@@ -1,5 +1,5 @@
 -- The pages that a step accesses are pages of the memory.
-use Rattle.std.proofs.Common.{ℕ, ◌≡◌, ◌+◌, ◌*◌, ◌/◌, ◌<◌, ◌≤◌, Bool, true, false, leb-true, if◌then◌else◌, All, List, [], ◌∷◌, length, Option, Some, None, IfSome, Result, Ok, Err, refl, sym, ap, subst, ◌∙◌, arith}
+use Rattle.std.proofs.Common.{ℕ, ◌≡◌, ◌+◌, ◌*◌, ◌/◌, ◌<◌, Bool, true, false, leb-true, if◌then◌else◌, All, List, [], ◌∷◌, length, Option, Some, None, IfSome, Result, Ok, Err, refl, sym, ap, subst, ◌∙◌, arith}
 use Rattle.std.proofs.lemmas.List.Elements.{All-nil, All-cons, All-head, All-tail}
 use Rattle.word32.specs.Pages.{page_number}
 use Rattle.mips_cp0.specs.declared.exception.Exc.{Exc}
@@ -10,15 +10,15 @@ use Rattle.mips_step.specs.declared.access.Size.{Size}
 use Rattle.mips_step.specs.declared.access.Size.TheVariants.{Byte, Half, Word, Left, Right}
 use Rattle.mips_step.specs.declared.access.Why.{Why}
 use Rattle.mips_step.specs.Processor.{Processor, clocked}
-use Rattle.mips_step.specs.World.{World, Reach, is_in_memory, device_reach, register_reach, is_register_access, reach, value_in, lines_of}
-use Rattle.mips_step.specs.World.Reach.{InMemory, AtRegister, Nowhere}
+use Rattle.mips_step.specs.World.{World, is_in_memory, device_reach, register_reach, is_register_access, value_in, lines_of}
+use Rattle.mips_step.specs.World.Reach.{InMemory, Nowhere}
 use Rattle.devices.specs.declared.register.DeviceRegister.{DeviceRegister}
 use Rattle.devices.specs.Registers.{device_register_at}
 use Rattle.mips_step.specs.Places.{fetch_place}
 use Rattle.mips_step.specs.Operations.{Operation, word_operation}
 use Rattle.mips_step.specs.Operations.Operation.{OnProcessor, Loads, Stores}
 use Rattle.mips_step.specs.Step.{Machine, in_world, load_size, load_place, store_size, store_place, is_given_up}
-use Rattle.mips_step.specs.Accesses.{Access, reached, placed_accesses, data_accesses, word_accesses, fetch_accesses, accesses_after_tick, accesses, first_lack}
+use Rattle.mips_step.specs.Accesses.{Access, reached, placed_accesses, data_accesses, word_accesses, fetch_accesses, accesses, first_lack}
 use Rattle.physmap.specs.Pages.{AreWhole}
 use Rattle.physmap.proofs.Memory.{length_of_memory}
 use Rattle.paged_bus.specs.Buses.{PagedBusIs, IsSettled, world_of}

@@ -6,6 +6,7 @@ use Rattle.items.proofs.Runs.{steps_of-none, steps_of-one, steps_of-join, length
 use Rattle.std.proofs.lemmas.Bool.{cases_eq}
 use Rattle.mips_step.specs.Processor.{Processor}
 use Rattle.mips_step.specs.Step.{Machine, step}
+use Rattle.mips_step.specs.Given.{step_given}
 use Rattle.flatvm.specs.Items.{run, AllAccepted}
 use Rattle.flatvm.proofs.Runs.{run_append, accepted_append}
 use Rattle.guest_log.specs.Logs.{LogIs, HasRoomFor, IsFull}
@@ -16,7 +17,7 @@ use Rattle.physmap.specs.Outline.{outline}
 use Rattle.guest.specs.declared.progress.Pause.{Pause}
 use Rattle.guest.specs.declared.progress.Pause.TheVariants as pause
 use Rattle.paged_bus.specs.Buses.{PagedBusIs}
-use Rattle.guest.specs.Guests.{HasPaused, IsMade, steps_by}
+use Rattle.guest.specs.Guests.{last_given, HasPaused, IsMade, steps_by}
 
 -- a machine after no step, and after one more
 pub no_step : (seat : ℕ) (m : Machine) → run (steps_of seat 0) m ≡ m
@@ -75,11 +76,17 @@ not_full_before log log' seat most count room fewer items limit full = elim full
     by_runs (inr some) runs = omega (arith, runs, ap run_count items, run_count-run log.items seat count (omega (arith, some)), limit, fit room.more some)
 
 -- pages that are where they were have paused as pages before them
-pub paused_later : (old now new : List Page) (o : Option Pause) → outline now ≡ outline old → HasPaused now o new → HasPaused old o new
-paused_later old now new None same paused = paused ∙ same
-paused_later old now new (Some (pause.Need page why)) same paused = paused ∙ same
-paused_later old now new (Some (pause.Gave returned)) same paused =
+pub paused_later : (given : Option ℕ) (old now new : List Page) (o : Option Pause) → outline now ≡ outline old → HasPaused given now o new → HasPaused given old o new
+paused_later given old now new None same paused = (paused.0, paused.1 ∙ same)
+paused_later given old now new (Some (pause.Need page why)) same paused = (paused.0, paused.1 ∙ same)
+paused_later given old now new (Some (pause.Gave returned)) same paused =
     (paused.0, record { before = paused.1.before; same = paused.1.same ∙ same; pages = paused.1.pages; what = paused.1.what })
+
+-- the page that the last of some steps gives, and one more
+pub last_of_more : (seat count : ℕ) (m : Machine) → last_given seat (count + 1) m ≡ step_given (run (steps_of seat count) m)
+last_of_more seat count m =
+    let e : count + 1 ≡ suc count = omega arith in
+    ap (λ (n : ℕ). last_given seat n m) e
 
 -- What is so of a machine after some steps, with a processor and a bus, is so after the step at which a run pauses: that step is made, or
 -- nothing has changed.

@@ -1,9 +1,11 @@
 -- What is seen of a guest, and what becomes of it.
-use Rattle.std.specs.Prelude.{◌≡◌, ℕ, ◌*◌, Option, Some, None, List, [], length}
+use Rattle.std.specs.Prelude.{◌≡◌, ◌≢◌, ℕ, zero, suc, ◌*◌, Option, Some, None, List, [], length}
 use Rattle.word32.specs.Pages.{page_number}
 use Rattle.items.specs.declared.item.Item.{Item}
+use Rattle.items.specs.Entries.{steps_of}
 use Rattle.mips_step.specs.Processor.{Processor}
 use Rattle.mips_step.specs.Step.{Machine, in_world}
+use Rattle.mips_step.specs.Given.{step_given}
 use Rattle.flatvm.specs.Items.{run, AllAccepted}
 use Rattle.flatvm.specs.Replies.{probe}
 use Rattle.guest_log.specs.Logs.{LogIs}
@@ -80,12 +82,17 @@ abbrev pub HandsBack : Option ℕ → List Page → Stepped → List Page → Ty
 HandsBack given old (Done returned) new = Gives given old returned new
 HandsBack given old (Need page why) new = new ≡ old
 
--- What has become of the pages, and what came back, in a run of steps of which the last one alone may have given a page: where they
--- pause because it did, that page is given now; else each page is where it was.
-abbrev pub HasPaused : List Page → Option Pause → List Page → Type 0
-HasPaused old None new = outline new ≡ outline old
-HasPaused old (Some (pause.Need page why)) new = outline new ≡ outline old
-HasPaused old (Some (pause.Gave returned)) new = (given : Option ℕ) × Gives given old returned new
+-- the page that the last of so many steps of a seat gives, where it gives one
+abbrev pub last_given : ℕ → ℕ → Machine → Option ℕ
+last_given seat zero m = None
+last_given seat (suc before) m = step_given (run (steps_of seat before) m)
+
+-- What has become of the pages, and what came back, in a run of steps of which the last one alone may have given a page, and gave this
+-- one, if any: where they pause because it did, that page is given now; else it gave none, and each page is where it was.
+abbrev pub HasPaused : Option ℕ → List Page → Option Pause → List Page → Type 0
+HasPaused given old None new = (given ≡ None) × (outline new ≡ outline old)
+HasPaused given old (Some (pause.Need page why)) new = (given ≡ None) × (outline new ≡ outline old)
+HasPaused given old (Some (pause.Gave returned)) new = (given ≢ None) × Gives given old returned new
 
 -- how many steps were made by the one at which a run pauses
 abbrev pub steps_by : Pause → ℕ

@@ -79,7 +79,7 @@ impl Guest {
     ghost use Rattle.mips_step.specs.declared.access.Why.{Why};
     ghost use Rattle.physmap.specs.declared.page.Returned.{Returned};
     ghost use Rattle.guest.specs.Guests.{GuestIs, view_of, standing, Intact, IsSized, need_of, without_pages};
-    ghost use Rattle.guest.specs.Guests.{HandsBack, HasPaused, Logs, LogsSteps, LogsOnly};
+    ghost use Rattle.guest.specs.Guests.{HandsBack, last_given, HasPaused, Logs, LogsSteps, LogsOnly};
     ghost use Rattle.guest.specs.declared.progress.Pause.{Pause};
     ghost use Rattle.guest.specs.Views.{pages_seen};
 
@@ -179,6 +179,9 @@ impl Guest {
         ensures full { IsErrOf result Stop.LogFull ↔ IsFull self.old.log }
         ensures taken { TakesRoom self.old.log self.new.log }
         ensures unchanged { LogsOnly self.old self.new }
+        ensures intact { Intact self.old → Intact self.new }
+        ensures kept { (held : ℕ → Option (List ℕ)) →
+            Kept held (pages_seen (view_of self.old)) self.old.bus.pages → Kept held (pages_seen (view_of self.new)) self.new.bus.pages }
     {
         self.journal.make_room()
     }
@@ -310,7 +313,8 @@ impl Guest {
     /// less. It takes no memory; room for the first step is the caller's condition, and `log_room` makes it.
     ///
     /// It pauses before a step that needs a page, as of `step`, and then that step has changed nothing; and after a step that gave a page
-    /// to the balloon, where what the page was in comes back. Else as many steps are made as were wanted, or the log is full. The
+    /// to the balloon, where what the page was in comes back. Else as many steps are made as were wanted, or the log is full. So no step
+    /// that is made accesses a page that is lacking by where the pages were, and only the last may give one, which then is the view's. The
     /// view has moved by the steps that are made, and the log has them more; the seat has made them and has seen the whole log, for
     /// which it is legal, and every seat that looks from now on may see them.
     #[inline]
@@ -323,6 +327,7 @@ impl Guest {
         ensures gave { (returned : Returned) → result.pause ≡ Some (Pause.Gave returned) → 0 < result.steps }
         ensures need { Intact self.old → (p : ℕ) (why : Why) → result.pause ≡ Some (Pause.Need p why) →
             first_lack (lacks_in self.new.bus.pages) (accesses (view_of self.new)) ≡ Some (p, why) }
+        ensures there { (p : ℕ) (why : Why) → result.pause ≡ Some (Pause.Need p why) → p < length self.old.bus.pages }
         ensures short { (p : ℕ) (why : Why) → result.pause ≡ Some (Pause.Need p why) → result.steps < count }
         ensures room { (p : ℕ) (why : Why) → result.pause ≡ Some (Pause.Need p why) → IsFull self.new.log → ⊥ }
         ensures logs { 0 < result.steps → LogsSteps self.old seat.old result.steps self.new seat.new }
@@ -330,8 +335,18 @@ impl Guest {
         ensures intact { Intact self.old → Intact self.new }
         ensures kept { Intact self.old → (held : ℕ → Option (List ℕ)) →
             Kept held (pages_seen (view_of self.old)) self.old.bus.pages → Kept held (pages_seen (view_of self.new)) self.new.bus.pages }
-        ensures paused { HasPaused self.old.bus.pages result.pause self.new.bus.pages }
+        ensures quiet { Intact self.old → (k : ℕ) → k < result.steps →
+            first_lack (lacks_in self.old.bus.pages) (accesses (run (steps_of seat.old.number k) (view_of self.old))) ≡ None }
+        ensures gives_last { Intact self.old → (k : ℕ) → k + 1 < result.steps →
+            step_given (run (steps_of seat.old.number k) (view_of self.old)) ≡ None }
+        ensures paused { HasPaused (last_given seat.old.number result.steps (standing self.old)) self.old.bus.pages result.pause self.new.bus.pages }
+        ensures given { Intact self.old →
+            last_given seat.old.number result.steps (standing self.old) ≡ last_given seat.old.number result.steps (view_of self.old) }
         ensures unchanged { result.steps ≡ 0 → (self.new ≡ self.old) × (seat.new ≡ seat.old) }
+        // What a lock that holds the guest has to know, whether or not a step was made.
+        ensures boot { self.new.boot ≡ self.old.boot }
+        ensures head { (self.new.head ≡ self.old.head) × (self.new.seats ≡ self.old.seats) }
+        ensures limit { self.new.log.limit ≡ self.old.log.limit }
     {
         let most = self.journal.steps_with_room(seat, count);
         let progress = run_pages(&mut self.cpu, &mut self.bus, &mut self.cache, most);

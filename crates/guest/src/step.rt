@@ -1,6 +1,6 @@
 //! A processor over pages: its steps, what else happens to it, and what is read of it, all as of the machine whose processor
 //! and pages they are.
-ghost use Rattle.std.specs.Prelude.{◌≡◌, ◌≢◌, ◌↔◌, ◌<◌, ◌≤◌, ℕ, true, false, List, length, Option, Some, None, OnOk, OnErr, IfOk, IfSome, IsErrOf};
+ghost use Rattle.std.specs.Prelude.{◌≡◌, ◌≢◌, ◌↔◌, ◌+◌, ◌<◌, ◌≤◌, ℕ, true, false, List, length, Option, Some, None, OnOk, OnErr, IfOk, IfSome, IsErrOf};
 ghost use Rattle.items.specs.Entries.{steps_of};
 ghost use Rattle.items.specs.Items.{is_step};
 ghost use Rattle.items.specs.declared.item.What.TheVariants.{Drain};
@@ -12,6 +12,7 @@ ghost use Rattle.mips_step.specs.Step.{Machine, in_world, step};
 ghost use Rattle.flatvm.specs.Answers.{replied};
 ghost use Rattle.flatvm.specs.Items.{accepts, after, reply, run};
 ghost use Rattle.flatvm.specs.Replies.{bytes_at, SomePlaceIn};
+ghost use Rattle.mips_run.specs.Runs.{steps, AreQuiet};
 ghost use Rattle.physmap.specs.declared.page.PageKind.{PageKind};
 ghost use Rattle.physmap.specs.declared.page.Returned.{Returned};
 ghost use Rattle.physmap.specs.Pages.{kind_at, AreWhole};
@@ -21,7 +22,7 @@ ghost use Rattle.paged_bus.specs.Buses.{IsSettled, world_of, after_settling, pag
 ghost use Rattle.paged_bus.specs.Lacking.{lacks_in};
 ghost use Rattle.paged_bus.specs.Writes.{WritesTo};
 ghost use Rattle.mips_step.specs.declared.access.Why.{Why};
-ghost use Rattle.guest.specs.Guests.{need_of, HandsBack, HasPaused, IsMade};
+ghost use Rattle.guest.specs.Guests.{need_of, HandsBack, last_given, HasPaused, IsMade};
 ghost use Rattle.guest.specs.declared.progress.Pause.{Pause};
 ghost use Rattle.guest.specs.Views.{pages_seen, Shows};
 
@@ -84,10 +85,13 @@ fn step_or_pause(cpu: &mut Cpu, bus: &mut PagedBus) -> Option<Pause>
     requires settled { IsSettled bus.old }
     ensures need { (p : ℕ) (why : Why) → result ≡ Some (Pause.Need p why) →
         first_lack (lacks_in bus.old.pages) (accesses (in_world cpu.old (world_of bus.old))) ≡ Some (p, why) }
+    ensures there { (p : ℕ) (why : Why) → result ≡ Some (Pause.Need p why) → p < length bus.old.pages }
+    ensures lacking { IsMade result → first_lack (lacks_in bus.old.pages) (accesses (in_world cpu.old (world_of bus.old))) ≡ None }
+    ensures moves { IsMade result → in_world cpu.new (world_of bus.new) ≡ step (in_world cpu.old (world_of bus.old)) }
     ensures shows { IsMade result → (m : Machine) → GivenAreZeros m.world → Shows m cpu.old bus.old → Shows (step m) cpu.new bus.new }
     ensures kept { IsMade result → (m : Machine) → GivenAreZeros m.world → Shows m cpu.old bus.old →
         (held : ℕ → Option (List ℕ)) → Kept held (pages_seen m) bus.old.pages → Kept held (pages_seen (step m)) bus.new.pages }
-    ensures paused { HasPaused bus.old.pages result bus.new.pages }
+    ensures paused { IsMade result → HasPaused (step_given (in_world cpu.old (world_of bus.old))) bus.old.pages result bus.new.pages }
     ensures unchanged { (IsMade result → ⊥) → (cpu.new ≡ cpu.old) × (bus.new ≡ bus.old) }
     ensures settled { IsSettled bus.new }
 {
@@ -123,14 +127,21 @@ pub(crate) fn run_pages(
     ensures gave { (returned : Returned) → result.pause ≡ Some (Pause.Gave returned) → 0 < result.steps }
     ensures need { (p : ℕ) (why : Why) → result.pause ≡ Some (Pause.Need p why) →
         first_lack (lacks_in bus.new.pages) (accesses (in_world cpu.new (world_of bus.new))) ≡ Some (p, why) }
+    ensures there { (p : ℕ) (why : Why) → result.pause ≡ Some (Pause.Need p why) → p < length bus.old.pages }
     ensures short { (p : ℕ) (why : Why) → result.pause ≡ Some (Pause.Need p why) → result.steps < count }
     ensures shows { (seat : ℕ) (m : Machine) → GivenAreZeros m.world → Shows m cpu.old bus.old → Shows (run (steps_of seat result.steps) m) cpu.new bus.new }
     ensures kept { (seat : ℕ) (m : Machine) → GivenAreZeros m.world → Shows m cpu.old bus.old → (held : ℕ → Option (List ℕ)) →
         Kept held (pages_seen m) bus.old.pages → Kept held (pages_seen (run (steps_of seat result.steps) m)) bus.new.pages }
-    ensures paused { HasPaused bus.old.pages result.pause bus.new.pages }
+    ensures lacking { (seat k : ℕ) → k < result.steps →
+        first_lack (lacks_in bus.old.pages) (accesses (run (steps_of seat k) (in_world cpu.old (world_of bus.old)))) ≡ None }
+    ensures gives_last { (seat k : ℕ) → k + 1 < result.steps → step_given (run (steps_of seat k) (in_world cpu.old (world_of bus.old))) ≡ None }
+    ensures paused { (seat : ℕ) →
+        HasPaused (last_given seat result.steps (in_world cpu.old (world_of bus.old))) bus.old.pages result.pause bus.new.pages }
     ensures unchanged { result.steps ≡ 0 → (cpu.new ≡ cpu.old) × (bus.new ≡ bus.old) }
     ensures settled { IsSettled bus.new }
+    ensures whole { AreWhole bus.old.pages }
 {
+    whole(bus);
     let mut made = 0;
     while made < count {
         made += run_quietly(cpu, bus, cache, count - made);
@@ -163,6 +174,8 @@ fn run_quietly(cpu: &mut Cpu, bus: &mut PagedBus, cache: &mut RunCache, count: u
     ensures shows { (seat : ℕ) (m : Machine) → GivenAreZeros m.world → Shows m cpu.old bus.old → Shows (run (steps_of seat result) m) cpu.new bus.new }
     ensures kept { (seat : ℕ) (m : Machine) → GivenAreZeros m.world → Shows m cpu.old bus.old → (held : ℕ → Option (List ℕ)) →
         Kept held (pages_seen m) bus.old.pages → Kept held (pages_seen (run (steps_of seat result) m)) bus.new.pages }
+    ensures moves { in_world cpu.new (world_of bus.new) ≡ steps result (in_world cpu.old (world_of bus.old)) }
+    ensures quiet { AreQuiet (lacks_in bus.old.pages) result (in_world cpu.old (world_of bus.old)) }
     ensures same { outline bus.new.pages ≡ outline bus.old.pages }
     ensures unchanged { result ≡ 0 → (cpu.new ≡ cpu.old) × (bus.new ≡ bus.old) }
     ensures settled { IsSettled bus.new }

@@ -78,9 +78,12 @@ fn supply(rt: &impl Abort, alloc: Global, guest: &mut Guest, pool: &mut Pool, nu
         PageKind::Zero | PageKind::Given => {}
         other => panic!(rt; "page {number} is {other:?}"),
     }
-    match supply_first(alloc, guest, p, pool) {
+    let Some(no) = pool.take() else {
+        panic!(rt; "no frame is free");
+    };
+    match supply_first(alloc, guest, p, no) {
         Ok(()) => {}
-        Err(error) => panic!(rt; "page {number}: {error:?}"),
+        Err(no) => panic!(rt; "no memory for frame {}", no.close()),
     }
 }
 
@@ -210,9 +213,12 @@ fn restore(
     if swap.slots.used() == 0 {
         panic!(rt; "no slot is used");
     }
-    match supply_swapped(alloc, guest, p, pool, &mut swap.slots, &mut swap.store) {
-        Ok(()) => {}
-        Err(error) => panic!(rt; "page {number}: {error:?}"),
+    let Some(no) = pool.take() else {
+        panic!(rt; "no frame is free");
+    };
+    match supply_swapped(alloc, guest, p, no, &mut swap.store) {
+        Ok(slot) => swap.slots.give(slot),
+        Err((no, error)) => panic!(rt; "page {number}, frame {}: {error:?}", no.close()),
     }
 }
 

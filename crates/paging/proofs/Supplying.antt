@@ -11,7 +11,9 @@ use Rattle.physmap.specs.declared.page.Page.TheVariants as page
 use Rattle.physmap.specs.declared.page.PageKind.TheVariants.{Zero, Given, Shared, Swapped}
 use Rattle.physmap.specs.Pages.{kind_of, page_at, kind_at, shown, ticket_of, own_frame}
 use Rattle.physmap.specs.Holdings.{frame_in, ticket_in, slot_in, one_private, one_swapped, frames_held, tickets_held, slots_held, private_pages, swapped_pages}
-use Rattle.paging.specs.Moves.{Takes, SameNumbers, MovesTickets, Conserves, Reads, Covered}
+use Rattle.physmap.specs.declared.page.Returned.TheVariants as returned
+use Rattle.paging.specs.Moves.{Takes, SameNumbers, MovesFrames, MovesSlots, MovesTickets, Conserves, Reads, Covered}
+use Rattle.paging.specs.Returns.{Frees}
 use Rattle.paging.specs.Faith.{IsFaithful, Faithful, Kept}
 use Rattle.paging.specs.Supplies.{Supplies}
 use Rattle.paging.proofs.Exchanging.{shared_is, holds_nothing, frames_by_page, slots_by_page, tickets_by_page, same_bytes, new_at, faithful_by_page, kept_by_page, reads_by_page}
@@ -88,20 +90,37 @@ same_shown_kept held view ps ps' p frame there apart is bytes k =
 
 -- ---- a shared page
 
-pub copy_conserves : (ps ps' : List Page) (pool mid pool' book : FreeList) (es es' : EntriesAre) (p : ℕ) (frame : FrameIs)
-    → p < length ps → kind_at ps p ≡ Shared → ps' ≡ set ps p (page.Private frame) → Takes pool frame.number mid
-    → ((k : ℕ) → count_of k pool'.free + frames_shared k es' ≡ count_of k mid.free + frames_shared k es) → pool'.out + entry_count es ≡ mid.out + entry_count es'
-    → Leaves es (ticket_of (page_at ps p)) es'
-    → Conserves ps pool book es ps' pool' book es'
-copy_conserves ps ps' pool mid pool' book es es' p frame there kind is takes numbers out leaves =
+pub copy_frames : (ps ps' : List Page) (pool rest : FreeList) (es es' : EntriesAre) (came : List ℕ) (p : ℕ) (frame : FrameIs)
+    → p < length ps → kind_at ps p ≡ Shared → ps' ≡ set ps p (page.Private frame) → Takes pool frame.number rest
+    → Frees (returned.Ticket (ticket_of (page_at ps p))) es es' came
+    → MovesFrames ps pool es ps' rest es' came
+copy_frames ps ps' pool rest es es' came p frame there kind is takes frees =
+    let own = shared_is (page_at ps p) kind in
+    let q = page.Private frame in
+    frames_by_page ps pool es ps' rest es' came p q there is
+    (λ k. omega (arith, ap (frame_in k) own, takes.numbers k, frees.frames k)) (omega (arith, ap one_private own, takes.out, frees.frames_out))
+
+pub copy_slots : (ps ps' : List Page) (book : FreeList) (p : ℕ) (frame : FrameIs)
+    → p < length ps → kind_at ps p ≡ Shared → ps' ≡ set ps p (page.Private frame) → MovesSlots ps book ps' book []
+copy_slots ps ps' book p frame there kind is =
+    let own = shared_is (page_at ps p) kind in
+    slots_by_page ps book ps' book [] p (page.Private frame) there is (λ k. omega (arith, ap (slot_in k) own)) (omega (arith, ap one_swapped own))
+
+pub copy_tickets : (ps ps' : List Page) (es es' : EntriesAre) (p : ℕ) (frame : FrameIs)
+    → p < length ps → kind_at ps p ≡ Shared → ps' ≡ set ps p (page.Private frame) → Leaves es (ticket_of (page_at ps p)) es'
+    → MovesTickets ps es ps' es'
+copy_tickets ps ps' es es' p frame there kind is leaves =
     let own = shared_is (page_at ps p) kind in
     let t = ticket_of (page_at ps p) in
-    let q = page.Private frame in
-    record {
-      frames = frames_by_page ps pool es ps' pool' es' [] p q there is (λ k. omega (arith, ap (frame_in k) own, takes.numbers k, numbers k)) (omega (arith, ap one_private own, takes.out, out));
-      slots = slots_by_page ps book ps' book [] p q there is (λ k. omega (arith, ap (slot_in k) own)) (omega (arith, ap one_swapped own));
-      tickets = tickets_by_page ps es ps' es' p q there is (λ k. omega (arith, ap (ticket_in k) own, leave_tickets k t es es' leaves)) (leave_bytes t es es' leaves) (leave_places t es es' leaves);
-    }
+    tickets_by_page ps es ps' es' p (page.Private frame) there is
+    (λ k. omega (arith, ap (ticket_in k) own, leave_tickets k t es es' leaves)) (leave_bytes t es es' leaves) (leave_places t es es' leaves)
+
+-- where nothing has changed, no slot and no ticket has moved
+pub no_slots_move : (ps : List Page) (book : FreeList) → MovesSlots ps book ps book []
+no_slots_move ps book = record { numbers = λ k. omega arith; out = omega arith }
+
+pub no_tickets_move : (ps : List Page) (es : EntriesAre) → MovesTickets ps es ps es
+no_tickets_move ps es = record { numbers = λ k. refl; bytes = same_bytes es; places = refl }
 
 pub private_reads : (es es' : EntriesAre) (ps ps' : List Page) (p : ℕ) (frame : FrameIs) → p < length ps → ps' ≡ set ps p (page.Private frame)
     → MovesTickets ps es ps' es' → Covered es ps → Reads es ps → Reads es' ps'

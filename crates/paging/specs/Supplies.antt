@@ -31,6 +31,13 @@ WhyUnread failed damaged Memory = ⊥
 WhyUnread failed damaged SwapRead = failed
 WhyUnread failed damaged SwapDamaged = damaged
 
+-- why a page stays in its slot though a frame is in hand: a request for memory was refused, the read failed, or what was read is damaged
+abbrev pub WhyStillAway : Type 0 → Type 0 → SupplyError → Type 0
+WhyStillAway failed damaged NoFrame = ⊥
+WhyStillAway failed damaged Memory = Unit {0}
+WhyStillAway failed damaged SwapRead = failed
+WhyStillAway failed damaged SwapDamaged = damaged
+
 -- where a page in a slot gets a frame: one of both
 abbrev pub WhyAway : FreeList → Type 0 → Type 0 → SupplyError → Type 0
 WhyAway pool failed damaged NoFrame = pool.free ≡ []

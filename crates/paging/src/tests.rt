@@ -122,9 +122,12 @@ fn first(rt: &impl Abort, alloc: Global, parts: &mut Parts<MemStore>, p: u32)
         PageKind::Zero => {}
         other => panic!(rt; "page {p} is {other:?}"),
     }
-    match supply_first(alloc, &mut parts.map, page, &mut parts.pool) {
+    let Some(no) = parts.pool.take() else {
+        panic!(rt; "no frame is free");
+    };
+    match supply_first(alloc, &mut parts.map, page, no) {
         Ok(()) => {}
-        Err(error) => panic!(rt; "page {p}: {error:?}"),
+        Err(no) => panic!(rt; "no memory for frame {}", no.close()),
     }
 }
 
@@ -204,14 +207,19 @@ fn back(
     if slot >= parts.store.slot_count() {
         panic!(rt; "no slot {slot}");
     }
-    supply_swapped(
-        alloc,
-        &mut parts.map,
-        page,
-        &mut parts.pool,
-        &mut parts.slots,
-        &mut parts.store,
-    )
+    let Some(no) = parts.pool.take() else {
+        panic!(rt; "no frame is free");
+    };
+    match supply_swapped(alloc, &mut parts.map, page, no, &mut parts.store) {
+        Ok(slot) => {
+            parts.slots.give(slot);
+            Ok(())
+        }
+        Err((no, error)) => {
+            parts.pool.give(no);
+            Err(error)
+        }
+    }
 }
 
 /// All bits of the first byte of slot 0 are inverted.

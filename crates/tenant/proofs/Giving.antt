@@ -1,7 +1,7 @@
 -- A step that gave a page to the balloon.
-use Rattle.std.proofs.Common.{ℕ, ◌≡◌, ◌<◌, inl, inr, List, length, refl, sym, ap, subst, ◌∙◌, arith, Option, Some, None}
+use Rattle.std.proofs.Common.{ℕ, ◌≡◌, ◌<◌, inl, inr, List, length, set, refl, sym, ap, subst, ◌∙◌, arith, Option, Some, None}
 use Rattle.std.proofs.lemmas.Bool.{cases_lt}
-use Rattle.std.proofs.lemmas.List.{set_past, get_or_past}
+use Rattle.std.proofs.lemmas.List.{set_past, get_or_past, map-set}
 use Rattle.frames.specs.FreeList.{FreeList}
 use Rattle.sharetab.specs.Entries.{EntriesAre, HasBytes, entry_at}
 use Rattle.physmap.specs.declared.page.Page.{Page}
@@ -18,7 +18,9 @@ use Rattle.paging.specs.Returns.{IsOut, GoesBack}
 use Rattle.paging.proofs.Exchanging.{reads_by_page, same_bytes, ticket_held}
 use Rattle.paging.proofs.GoingBack.{given_conserves}
 use Rattle.paged_bus.specs.Buses.{pages_settled, page_returned}
-use Rattle.guest.specs.Guests.{Gives}
+use Rattle.guest.specs.declared.progress.Pause.{Pause}
+use Rattle.guest.specs.declared.progress.Pause.TheVariants as pause
+use Rattle.guest.specs.Guests.{Gives, HasPaused}
 use Rattle.tenant.specs.Lent.{Lent}
 
 -- ---- pages with one outline hold the same
@@ -81,6 +83,21 @@ module _ (ps ps' : List Page) (same : outline ps' ≡ outline ps) where
 
   pub outline_out : (pool book : FreeList) (es : EntriesAre) (p : ℕ) → IsOut pool book es (handed_back (page_at ps p)) → IsOut pool book es (handed_back (page_at ps' p))
   outline_out pool book es p out = out_same pool book es (page_at ps' p) (page_at ps p) (outlined_at p) out
+
+-- ---- the page that the last step of a run gave
+
+settled_outline : (given : Option ℕ) (ps ps' : List Page) → outline ps' ≡ outline ps → outline (pages_settled given ps') ≡ outline (pages_settled given ps)
+settled_outline None ps ps' same = same
+settled_outline (Some p) ps ps' same =
+    map-set outlined ps' p page.Given ∙ ap (λ (l : List Page). set l p page.Given) same ∙ sym (map-set outlined ps p page.Given)
+
+pub paused_outline : (given other : Option ℕ) (old new : List Page) (o : Option Pause) → given ≡ other → HasPaused given old o new → outline new ≡ outline (pages_settled other old)
+paused_outline given other old new None e paused =
+    paused.1 ∙ ap (λ (g : Option ℕ). outline (pages_settled g old)) (sym paused.0 ∙ e)
+paused_outline given other old new (Some (pause.Need page why)) e paused =
+    paused.1 ∙ ap (λ (g : Option ℕ). outline (pages_settled g old)) (sym paused.0 ∙ e)
+paused_outline given other old new (Some (pause.Gave returned)) e paused =
+    ap outline paused.1.pages ∙ settled_outline given old paused.1.before paused.1.same ∙ ap (λ (g : Option ℕ). outline (pages_settled g old)) e
 
 -- ---- one move after another
 

@@ -7,16 +7,15 @@ use Rattle.frames.proofs.Counting.{one_same}
 use Rattle.items.specs.declared.item.Item.{Item}
 use Rattle.mips_step.specs.Processor.{Processor}
 use Rattle.mips_step.specs.Step.{Machine}
-use Rattle.flatvm.specs.Items.{run, AllAccepted}
 use Rattle.physmap.specs.declared.page.Page.{Page}
 use Rattle.physmap.specs.declared.page.Page.TheVariants as page
 use Rattle.physmap.specs.Pages.{page_at}
 use Rattle.physmap.specs.Holdings.{slot_in, slots_held}
 use Rattle.paging.specs.Faith.{IsHeld, Kept}
 use Rattle.paged_bus.specs.Buses.{PagedBusIs}
-use Rattle.guest.specs.Guests.{view_of, without_pages, LogsOnly}
-use Rattle.guest.specs.Views.{pages_seen, Shows}
-use Rattle.guest.proofs.Keeping.{same_view, still_intact}
+use Rattle.guest.specs.Guests.{GuestIs, view_of, without_pages, LogsOnly}
+use Rattle.guest.specs.Views.{pages_seen}
+use Rattle.guest.proofs.Keeping.{same_view, still_intact, was_so, roomy_intact, roomy_kept}
 use Rattle.tenant.specs.Lent.{UsedStay}
 use Rattle.tenant.specs.Tenants.{TenantIs, pages_in, beside_pages, IsKept}
 
@@ -32,24 +31,18 @@ moved_kept held held' t t' beside count moves k =
       pages = subst (λ (m : Machine). Kept held' (pages_seen m) (pages_in t')) (sym view) now;
     }
 
--- what of a guest is kept
-record KeptAs (held : ℕ → Option (List ℕ)) (cpu : Processor) (bus : PagedBusIs) (boot : Machine) (items : List Item) : Type 0 where
-  shows : Shows (run items boot) cpu bus
-  accepted : AllAccepted items boot
-  pages : Kept held (pages_seen (run items boot)) bus.pages
-
 -- a guest of which only the room in its log has changed
 pub still_kept : (held : ℕ → Option (List ℕ)) (t t' : TenantIs) → LogsOnly t.guest t'.guest → t'.guest.log.items ≡ t.guest.log.items → IsKept held t → IsKept held t'
-still_kept held t t' l items k =
-    let g = t.guest in
-    let g' = t'.guest in
-    let old : KeptAs held g.cpu g.bus g.boot g.log.items = record { shows = k.intact.shows; accepted = k.intact.accepted; pages = k.pages } in
-    let new : KeptAs held g'.cpu g'.bus g'.boot g'.log.items =
-    subst (λ (c : Processor). KeptAs held c g'.bus g'.boot g'.log.items) (sym l.cpu)
-    (subst (λ (b : PagedBusIs). KeptAs held g.cpu b g'.boot g'.log.items) (sym l.bus)
-    (subst (λ (m : Machine). KeptAs held g.cpu g.bus m g'.log.items) (sym l.boot)
-    (subst (KeptAs held g.cpu g.bus g.boot) (sym items) old))) in
-    record { intact = record { shows = new.shows; accepted = new.accepted }; pages = new.pages }
+still_kept held t t' only items k = record {
+  intact = roomy_intact t.guest t'.guest only items k.intact;
+  pages = roomy_kept t.guest t'.guest only items held k.pages;
+}
+
+-- what is so of such a guest and of its seat 0 was so before
+pub seat_was_so : (So : ℕ → Processor → PagedBusIs → Machine → List Item → Type 0) (g g' : GuestIs) (seat : ℕ) → LogsOnly g g' → g'.log.items ≡ g.log.items → seat ≡ 0
+    → So seat g'.cpu g'.bus g'.boot g'.log.items → So 0 g.cpu g.bus g.boot g.log.items
+seat_was_so So g g' seat only items first so =
+    was_so g g' only items (So 0) (subst (λ (n : ℕ). So n g'.cpu g'.bus g'.boot g'.log.items) first so)
 
 -- each slot that isn't free holds what it held, so what a guest has in slots lies there
 pub used_held : (book : FreeList) (held held' : ℕ → Option (List ℕ)) (b : List ℕ) (q : Page) → UsedStay book held held' → ((slot : ℕ) → 0 < slot_in slot q → count_of slot book.free ≡ 0)

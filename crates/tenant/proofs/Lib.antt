@@ -1,4 +1,5 @@
 pub mod Booting
 pub mod Giving
 pub mod Keeping
+pub mod Lending
 pub mod Moving

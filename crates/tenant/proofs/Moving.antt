@@ -9,11 +9,11 @@ use Rattle.frames.proofs.Counting.{one_same}
 use Rattle.paging.specs.Moves.{Takes, MovesFrames, MovesSlots, MovesTickets, Conserves}
 use Rattle.paging.proofs.Booking.{frame_given, slot_taken}
 
-pub frames_back : (pages pages' : List Page) (pool pool' : FreeList) (es es' : EntriesAre) (number : ℕ)
+pub frames_back : (pages pages' : List Page) (before pool pool' : FreeList) (es es' : EntriesAre) (number : ℕ)
     → ((k : ℕ) → count_of k pool'.free ≡ count_of k pool.free + one_at k number) → pool'.out + 1 ≡ pool.out
-    → MovesFrames pages pool es pages' pool es' (number ∷ []) → MovesFrames pages pool es pages' pool' es' []
-frames_back pages pages' pool pool' es es' number given out m =
-    frame_given pages pool es pages' pool pool' es' number m (record { numbers = given; out = out })
+    → MovesFrames pages before es pages' pool es' (number ∷ []) → MovesFrames pages before es pages' pool' es' []
+frames_back pages pages' before pool pool' es es' number given out m =
+    frame_given pages before es pages' pool pool' es' number m (record { numbers = given; out = out })
 
 -- a slot that was free is nobody's
 pub was_free : (free mid : List ℕ) (slot : ℕ) → ((k : ℕ) → count_of k free ≡ count_of k mid + one_at k slot) → 0 < count_of slot free

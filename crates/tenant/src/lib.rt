@@ -7,9 +7,11 @@
 //! `evict_page`, `scan_page` and `loaded` nothing is lost or made (`Conserves`), and the guest is still its run.
 #![tactic(auto)]
 
+pub mod laws;
 pub mod loading;
 mod moves;
 mod stepping;
+mod supplying;
 pub mod tenant;
 pub mod turning;
 

@@ -19,10 +19,11 @@ ghost use Rattle.tenant.specs.Tenants.{TenantIs, pages_in, beside_pages, IsKept,
 
 use crate::Tenant;
 use crate::moves::{EvictError, store_page};
+use crate::supplying::supply_first_from;
 use elf32::Image;
 use framepool::Pool;
 use guest::{Guest, load_image_page, reaches};
-use paging::{Pages, SupplyError, supply_first};
+use paging::{Pages, SupplyError};
 use std::alloc::{AllocError, Global};
 use std::sync::Arc;
 use swapstore::{SlotBook, SwapStore};
@@ -84,7 +85,7 @@ fn load_in_frame(
     ensures some { OnOk result (0 < length pool.old.free) }
     ensures err { IfErr result (WantsFrame pool.old) }
 {
-    supply_first(alloc, tenant, p, pool)?;
+    supply_first_from(alloc, tenant, p, pool)?;
     tenant.load_page(image, p);
     Ok(())
 }

@@ -15,12 +15,10 @@ ghost use Rattle.paging.specs.Scans.{Answered, Comes, HintsAfter};
 ghost use Rattle.paging.specs.Supplies.{WhyAway, IsDamaged};
 ghost use Rattle.tenant.specs.Lent.{Lent, UsedStay, WhyStays};
 
+use crate::supplying::{supply_copy_from, supply_first_from, supply_swapped_from};
 use framepool::Pool;
 use frames::FrameNo;
-use paging::{
-    Pages, Scan, SupplyError, evict_in, scan_in, store_first, supply_copy, supply_first,
-    supply_swapped,
-};
+use paging::{Pages, Scan, SupplyError, evict_in, scan_in, store_first};
 use physmap::PageKind;
 use sharetab::{GuestNo, Shares};
 use std::alloc::Global;
@@ -36,13 +34,13 @@ pub enum EvictError {
     SwapWrite,
 }
 
-// A frame that came free, where one did, goes to the pool.
+/// A frame that came free, where one did, goes to the pool.
 #[tactic(auto, using(crate::proofs::Moving::frames_back))]
-fn frame_back(came_free: Option<FrameNo>, pool: &mut Pool)
+pub(crate) fn frame_back(came_free: Option<FrameNo>, pool: &mut Pool)
     requires out { (number : ℕ) → came_free ≡ Some number → 0 < pool.old.out }
-    ensures { (pages pages' : List Page) (entries entries' : EntriesAre) →
-        MovesFrames pages pool.old entries pages' pool.old entries' (option_to_list came_free) →
-        MovesFrames pages pool.old entries pages' pool.new entries' [] }
+    ensures { (pages pages' : List Page) (before : FreeList) (entries entries' : EntriesAre) →
+        MovesFrames pages before entries pages' pool.old entries' (option_to_list came_free) →
+        MovesFrames pages before entries pages' pool.new entries' [] }
 {
     match came_free {
         Some(number) => pool.give(number),
@@ -180,11 +178,11 @@ pub fn supply_page<P: Pages, S: SwapStore>(
     ensures true_to_digests { S.true_to_digests store.new ↔ S.true_to_digests store.old }
 {
     match pages.kind(p) {
-        PageKind::Zero => supply_first(alloc, pages, p, pool),
-        PageKind::Given => supply_first(alloc, pages, p, pool),
+        PageKind::Zero => supply_first_from(alloc, pages, p, pool),
+        PageKind::Given => supply_first_from(alloc, pages, p, pool),
         PageKind::Private => Ok(()),
-        PageKind::Shared => supply_copy(alloc, pages, p, pool, shares),
-        PageKind::Swapped => supply_swapped(alloc, pages, p, pool, slots, store),
+        PageKind::Shared => supply_copy_from(alloc, pages, p, pool, shares),
+        PageKind::Swapped => supply_swapped_from(alloc, pages, p, pool, slots, store),
     }
 }
 

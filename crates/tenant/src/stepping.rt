@@ -1,12 +1,16 @@
 //! A step of a guest, with what lies around its pages.
-ghost use Rattle.std.specs.Prelude.{◌≡◌, ◌≢◌, ◌↔◌, ◌<◌, ◌≤◌, ℕ, List, Option, None, Some, IfOk, OnErr, IsErrOf, IsSome};
-ghost use Rattle.items.specs.Entries.{step_by};
+ghost use Rattle.std.specs.Prelude.{◌≡◌, ◌≢◌, ◌↔◌, ◌+◌, ◌<◌, ◌≤◌, ℕ, List, length, Option, None, Some, IfOk, OnErr, IsErrOf, IsSome};
+ghost use Rattle.items.specs.Entries.{step_by, steps_of};
+ghost use Rattle.flatvm.specs.Items.{run};
 ghost use Rattle.guest_log.specs.Logs.{IsFull};
 ghost use Rattle.mips_step.specs.Accesses.{accesses, first_lack};
 ghost use Rattle.mips_step.specs.Answer.{need_of};
+ghost use Rattle.mips_step.specs.Given.{step_given};
+ghost use Rattle.physmap.specs.Outline.{outline};
 ghost use Rattle.paging.specs.Moves.{Conserves, Reads};
 ghost use Rattle.paged_bus.specs.Lacking.{lacks_in};
-ghost use Rattle.guest.specs.Guests.{view_of};
+ghost use Rattle.paged_bus.specs.Buses.{pages_settled};
+ghost use Rattle.guest.specs.Guests.{view_of, last_given};
 ghost use Rattle.tenant.specs.Lent.{Lent};
 ghost use Rattle.mips_step.specs.declared.access.Why.{Why};
 ghost use Rattle.tenant.specs.Tenants.{pages_in, IsKept, Stays, Adds, AddsSteps, NothingHappens};
@@ -52,7 +56,8 @@ pub fn step_in(
 }
 
 /// At most `count` steps, one after another, with room made for them in the log: those up to one that needs a page, which comes back
-/// with why, or that gave one to the balloon, where what the page was in goes where it belongs.
+/// with why, or that gave one to the balloon, where what the page was in goes where it belongs. So no step that is made accesses a page
+/// that is lacking by where the pages were, and each page is where it was but for the one, if any, that the last step gave.
 #[inline]
 pub fn run_in(
     tenant: &mut Tenant,
@@ -70,8 +75,15 @@ pub fn run_in(
     ensures short { IfOk result (λ made. IsSome made.1 → made.0 < count) }
     ensures need { (held : ℕ → Option (List ℕ)) → IsKept held tenant.old → IfOk result (λ made. (page : ℕ) (why : Why) →
         made.1 ≡ Some (page, why) → first_lack (lacks_in (pages_in tenant.new)) (accesses (view_of tenant.new.guest)) ≡ Some (page, why)) }
+    ensures there { IfOk result (λ made. (page : ℕ) (why : Why) → made.1 ≡ Some (page, why) → page < length (pages_in tenant.old)) }
     ensures room { IfOk result (λ made. IsSome made.1 → IsFull tenant.new.guest.log → ⊥) }
     ensures adds { IfOk result (λ made. AddsSteps tenant.old made.0 tenant.new) }
+    ensures quiet { (held : ℕ → Option (List ℕ)) → IsKept held tenant.old → IfOk result (λ made. (k : ℕ) → k < made.0 →
+        first_lack (lacks_in (pages_in tenant.old)) (accesses (run (steps_of 0 k) (view_of tenant.old.guest))) ≡ None) }
+    ensures gives_last { (held : ℕ → Option (List ℕ)) → IsKept held tenant.old → IfOk result (λ made. (k : ℕ) → k + 1 < made.0 →
+        step_given (run (steps_of 0 k) (view_of tenant.old.guest)) ≡ None) }
+    ensures given { (held : ℕ → Option (List ℕ)) → IsKept held tenant.old → IfOk result (λ made.
+        outline (pages_in tenant.new) ≡ outline (pages_settled (last_given 0 made.0 (view_of tenant.old.guest)) (pages_in tenant.old))) }
     ensures nothing { IfOk result (λ made. made.0 ≡ 0 → NothingHappens tenant.old tenant.new) }
     ensures full { IsErrOf result Stop.LogFull ↔ IsFull tenant.old.guest.log }
     ensures unchanged { OnErr result (NothingHappens tenant.old tenant.new) }

@@ -48,18 +48,18 @@ impl Model for Tenant {
 }
 
 impl Tenant {
-    ghost use Rattle.std.specs.Prelude.{◌≡◌, ◌≢◌, ◌<◌, ◌≤◌, ◌^◌, ℕ, true, false, List, Option, None, Some, OnOk, OnErr, IfOk, IfSome, IfNone, IsErrOf, ◌↔◌};
+    ghost use Rattle.std.specs.Prelude.{◌≡◌, ◌≢◌, ◌+◌, ◌<◌, ◌≤◌, ◌^◌, ℕ, true, false, List, Option, None, Some, OnOk, OnErr, IfOk, IfSome, IfNone, IsErrOf, ◌↔◌};
     ghost use Rattle.std.specs.Prelude.{length, slice_set};
     ghost use Rattle.elf32.specs.Images.{FitsPages};
     ghost use Rattle.items.specs.Items.{is_step};
-    ghost use Rattle.items.specs.Entries.{step_by};
+    ghost use Rattle.items.specs.Entries.{step_by, steps_of};
     ghost use Rattle.guest_log.specs.Logs.{IsFull};
     ghost use Rattle.mips_step.specs.Given.{step_given};
     ghost use Rattle.mips_step.specs.Accesses.{accesses, first_lack};
     ghost use Rattle.mips_step.specs.World.{page_bytes};
     ghost use Rattle.flatvm.specs.Answers.{replied};
     ghost use Rattle.flatvm.specs.Boot.{boot_memory};
-    ghost use Rattle.flatvm.specs.Items.{accepts, reply};
+    ghost use Rattle.flatvm.specs.Items.{accepts, reply, run};
     ghost use Rattle.mips_tlb.specs.declared.kind.Kind.TheVariants.{Store};
     ghost use Rattle.physmap.specs.declared.page.Page.{Page};
     ghost use Rattle.physmap.specs.declared.page.PageKind.{PageKind};
@@ -70,7 +70,7 @@ impl Tenant {
     ghost use Rattle.paged_bus.specs.Writes.{WritesTo};
     ghost use Rattle.mips_step.specs.declared.access.Why.{Why};
     ghost use Rattle.physmap.specs.declared.page.Returned.{Returned};
-    ghost use Rattle.guest.specs.Guests.{view_of, standing, need_of, HandsBack, HasPaused};
+    ghost use Rattle.guest.specs.Guests.{view_of, standing, need_of, HandsBack, last_given, HasPaused};
     ghost use Rattle.guest.specs.declared.progress.Pause.{Pause};
     ghost use Rattle.tenant.specs.Tenants.{TenantIs, pages_in, beside_pages, IsKept, Stays, Adds, AddsSteps, NothingHappens};
     ghost use Rattle.tenant.specs.Tenants.{stat_of, IsUnsampled, IsSampled};
@@ -257,7 +257,8 @@ impl Tenant {
         Ok(self.guest.step(&mut self.runner))
     }
 
-    /// At most `count` steps of it, with room made for them in the log, by `Guest::log_room` and `Guest::run`.
+    /// At most `count` steps of it, with room made for them in the log, by `Guest::log_room` and `Guest::run`: none of them accesses a page
+    /// that is lacking, and only the last may give one.
     #[inline]
     pub fn run(&mut self, count: u32) -> Result<Progress, Stop>
         ensures few { IfOk result (λ p. p.steps ≤ count) }
@@ -266,9 +267,16 @@ impl Tenant {
         ensures short { IfOk result (λ p. (page : ℕ) (why : Why) → p.pause ≡ Some (Pause.Need page why) → p.steps < count) }
         ensures need { (held : ℕ → Option (List ℕ)) → IsKept held self.old → IfOk result (λ p. (page : ℕ) (why : Why) →
             p.pause ≡ Some (Pause.Need page why) → first_lack (lacks_in (pages_in self.new)) (accesses (view_of self.new.guest)) ≡ Some (page, why)) }
+        ensures there { IfOk result (λ p. (page : ℕ) (why : Why) → p.pause ≡ Some (Pause.Need page why) → page < length (pages_in self.old)) }
         ensures room { IfOk result (λ p. (page : ℕ) (why : Why) → p.pause ≡ Some (Pause.Need page why) → IsFull self.new.guest.log → ⊥) }
         ensures adds { IfOk result (λ p. AddsSteps self.old p.steps self.new) }
-        ensures paused { IfOk result (λ p. HasPaused (pages_in self.old) p.pause (pages_in self.new)) }
+        ensures quiet { (held : ℕ → Option (List ℕ)) → IsKept held self.old → IfOk result (λ p. (k : ℕ) → k < p.steps →
+            first_lack (lacks_in (pages_in self.old)) (accesses (run (steps_of 0 k) (view_of self.old.guest))) ≡ None) }
+        ensures gives_last { (held : ℕ → Option (List ℕ)) → IsKept held self.old → IfOk result (λ p. (k : ℕ) → k + 1 < p.steps →
+            step_given (run (steps_of 0 k) (view_of self.old.guest)) ≡ None) }
+        ensures paused { IfOk result (λ p. HasPaused (last_given 0 p.steps (standing self.old.guest)) (pages_in self.old) p.pause (pages_in self.new)) }
+        ensures given { (held : ℕ → Option (List ℕ)) → IsKept held self.old → IfOk result (λ p.
+            last_given 0 p.steps (standing self.old.guest) ≡ last_given 0 p.steps (view_of self.old.guest)) }
         ensures nothing { IfOk result (λ p. p.steps ≡ 0 → NothingHappens self.old self.new) }
         ensures full { IsErrOf result Stop.LogFull ↔ IsFull self.old.guest.log }
         ensures unchanged { OnErr result (NothingHappens self.old self.new) }

@@ -294,6 +294,7 @@ module _ {Kept : Type 0} (trusted : Kept → Type 0) (failures : Kept → ℕ) (
       → IsAdmitted w'.frames (slots w'.store) w'.tenants → FindsRoom (FailsOnce failures w w') a
   room_of e (answer.Stepped stepped) is sound fit admitted = tt
   room_of e (answer.Input done) is sound fit admitted = tt
+  room_of e (answer.Fed fed) is sound fit admitted = tt
   room_of e (answer.Probed (Ok bytes)) is sound fit admitted = tt
   room_of e (answer.Written (Ok done)) is sound fit admitted = tt
   room_of e (answer.Supplied done) is sound fit admitted = tt
@@ -308,6 +309,7 @@ module _ {Kept : Type 0} (trusted : Kept → Type 0) (failures : Kept → ℕ) (
   room_of (event.Steps g count) (answer.Ran ran) is sound fit admitted = for_its_log (FailsOnce failures w w') ran.end (is (one_of admitted)).0.stop
   room_of (event.Run g count) (answer.Ran ran) is sound fit admitted = ends_with_room w'.frames (slots w'.store) (trusted w'.store) (held w'.store) w'.tenants w'.pool w'.slots w'.shares.entries sound fit admitted (FailsOnce failures w w') (honest w.store → ⊥) ran.end (is (one_of admitted)).0.stop
   room_of (event.Input g item) (answer.Ran ran) is sound fit admitted = absurd is
+  room_of (event.Feed g bytes) (answer.Ran ran) is sound fit admitted = absurd is
   room_of (event.Probe g address count) (answer.Ran ran) is sound fit admitted = absurd is
   room_of (event.Write g address bytes) (answer.Ran ran) is sound fit admitted = absurd is
   room_of (event.Supply g p) (answer.Ran ran) is sound fit admitted = absurd is
@@ -320,6 +322,7 @@ module _ {Kept : Type 0} (trusted : Kept → Type 0) (failures : Kept → ℕ) (
   room_of (event.Steps g count) (answer.Probed (Err error)) is sound fit admitted = absurd is
   room_of (event.Run g count) (answer.Probed (Err error)) is sound fit admitted = absurd is
   room_of (event.Input g item) (answer.Probed (Err error)) is sound fit admitted = absurd is
+  room_of (event.Feed g bytes) (answer.Probed (Err error)) is sound fit admitted = absurd is
   room_of (event.Probe g address count) (answer.Probed (Err error)) is sound fit admitted = access_with_room w'.frames (slots w'.store) (trusted w'.store) (held w'.store) w'.tenants w'.pool w'.slots w'.shares.entries sound fit admitted (FailsOnce failures w w') (honest w.store → ⊥) error (is (one_of admitted)).stop
   room_of (event.Write g address bytes) (answer.Probed (Err error)) is sound fit admitted = absurd is
   room_of (event.Supply g p) (answer.Probed (Err error)) is sound fit admitted = absurd is
@@ -332,6 +335,7 @@ module _ {Kept : Type 0} (trusted : Kept → Type 0) (failures : Kept → ℕ) (
   room_of (event.Steps g count) (answer.Written (Err error)) is sound fit admitted = absurd is
   room_of (event.Run g count) (answer.Written (Err error)) is sound fit admitted = absurd is
   room_of (event.Input g item) (answer.Written (Err error)) is sound fit admitted = absurd is
+  room_of (event.Feed g bytes) (answer.Written (Err error)) is sound fit admitted = absurd is
   room_of (event.Probe g address count) (answer.Written (Err error)) is sound fit admitted = absurd is
   room_of (event.Write g address bytes) (answer.Written (Err error)) is sound fit admitted = access_with_room w'.frames (slots w'.store) (trusted w'.store) (held w'.store) w'.tenants w'.pool w'.slots w'.shares.entries sound fit admitted (FailsOnce failures w w') (honest w.store → ⊥) error (is (one_of admitted)).stop
   room_of (event.Supply g p) (answer.Written (Err error)) is sound fit admitted = absurd is
@@ -344,6 +348,7 @@ module _ {Kept : Type 0} (trusted : Kept → Type 0) (failures : Kept → ℕ) (
   room_of (event.Steps g count) (answer.Faulted (Err error)) is sound fit admitted = absurd is
   room_of (event.Run g count) (answer.Faulted (Err error)) is sound fit admitted = absurd is
   room_of (event.Input g item) (answer.Faulted (Err error)) is sound fit admitted = absurd is
+  room_of (event.Feed g bytes) (answer.Faulted (Err error)) is sound fit admitted = absurd is
   room_of (event.Probe g address count) (answer.Faulted (Err error)) is sound fit admitted = absurd is
   room_of (event.Write g address bytes) (answer.Faulted (Err error)) is sound fit admitted = absurd is
   room_of (event.Supply g p) (answer.Faulted (Err error)) is sound fit admitted = absurd is

@@ -1,9 +1,11 @@
 pub mod Admitting
 pub mod BootedGuests
+pub mod Feeding
 pub mod Reached
 pub mod Runs
 pub mod Sampling
 pub mod Totals
 pub mod Turning
+pub mod Unsupplied
 pub mod Victims
 pub mod Worlds

@@ -16,7 +16,8 @@ use Rattle.world.specs.declared.debugging.Access.{Access}
 use Rattle.world.specs.declared.debugging.Access.TheVariants as access
 use Rattle.world.specs.Debugging.{is_wanted, IsReady, OnlyPagesAndRoom}
 use Rattle.tenant.specs.Tenants.{TenantIs, pages_in}
-use Rattle.world.specs.Victims.{is_one_of, spared_of, OnlyPagesMove, OtherSparedStay}
+use Rattle.victims.specs.Victims.{is_one_of, spared_of}
+use Rattle.world.specs.Victims.{OnlyPagesMove, OtherSparedStay}
 
 -- ---- what is accepted
 

@@ -86,6 +86,9 @@ stays_on t u v s r = record {
 pub all_stays : (g : ℕ) (ts : List TenantIs) → Changes Stays g ts ts
 all_stays g ts = changes_none Stays stays_same g ts
 
+pub stays_none : (g : ℕ) (ts : List TenantIs) → Changes Stays g ts ts
+stays_none g ts = changes_none Stays stays_same g ts
+
 pub stays_then : (g : ℕ) (ts mid ts' : List TenantIs) → Changes Stays g ts mid → Changes Stays g mid ts' → Changes Stays g ts ts'
 stays_then g ts mid ts' before after = changes_then Stays stays_on g ts mid ts' before after
 

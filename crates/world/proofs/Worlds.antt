@@ -25,7 +25,8 @@ use Rattle.paging.specs.Supplies.{WhyAway}
 use Rattle.paging.proofs.Starting.{books_of_nothing, books_with_owner}
 use Rattle.paging.specs.Books.{Books, pages_of}
 use Rattle.paging.specs.Moves.{Conserves, Reads}
-use Rattle.paging.proofs.Booking.{books_after, covered, own_once, reads_each, handed_back_out, came_free_out, swapped_out, slot_inside, slot_apart, free_slot_inside}
+use Rattle.paging.proofs.Booking.{books_after, reads_each}
+use Rattle.tenant.proofs.Lending.{lent as books_lend}
 use Rattle.tenant.specs.Lent.{Lent, UsedStay}
 use Rattle.world.specs.declared.events.Event.{Event}
 use Rattle.world.specs.declared.events.Answer.{Answer}
@@ -57,18 +58,8 @@ inside_map ts g inside = omega (arith, inside, length-map ts pages_in)
 pub lent : (frames slots : ℕ) (ts : List TenantIs) (g : ℕ) (d : TenantIs) (pool book : FreeList) (es : EntriesAre) → g < length ts → Books frames slots (map pages_in ts) es pool book
     → Lent slots (pages_in (get_or ts g d)) pool book es
 lent frames slots ts g d pool book es inside b =
-    let all = map pages_in ts in
-    let there = inside_map ts g inside in
-    subst (λ (ps : List Page). Lent slots ps pool book es) (pages_at ts g d inside) (record {
-      covered = covered frames slots all es pool book g b there;
-      own_once = own_once frames slots all es pool book g b there;
-      page_out = λ p among. handed_back_out frames slots all es pool book g p b there among;
-      frame_out = λ pages' entries' number m. came_free_out frames slots all g pages' es entries' pool book number b there m;
-      slot_out = λ p among kind. swapped_out frames slots all es pool book g p b there among kind;
-      its_slot = λ p among kind. slot_inside frames slots all es pool book g p b there among kind;
-      slot_apart = λ slot free. slot_apart frames slots all es pool book g slot b there free;
-      slot_inside = λ slot free. free_slot_inside frames slots all es pool book slot b free;
-    })
+    subst (λ (ps : List Page). Lent slots ps pool book es) (pages_at ts g d inside)
+    (books_lend frames slots (map pages_in ts) es pool book g b (inside_map ts g inside))
 
 -- a slot that a guest has is not free
 not_free : (frames slots : ℕ) (ts : List TenantIs) (g : ℕ) (d : TenantIs) (pool book : FreeList) (es : EntriesAre) (slot : ℕ) → g < length ts → Books frames slots (map pages_in ts) es pool book
@@ -354,10 +345,10 @@ logs_more h es answers e a old now after same so_far more =
     more ∙ ap (λ (xs : List Item). xs ++ own_items h e a) so_far ∙ append_assoc old (own h es answers) (own_items h e a)
     ∙ ap (λ (xs : List Item). old ++ xs) (sym (own_more h es answers e a same))
 
-pub all_more : {Kept : Type 0} (trusted : Kept → Type 0) (failures : Kept → ℕ) (honest : Kept → Type 0) (slots : Kept → ℕ) (tax : ℕ) (w mid w' : WorldIs Kept) (es : List Event) (answers : List Answer) (e : Event) (a : Answer)
-    → AllHappen trusted failures honest slots tax w es answers mid → Happens trusted failures honest slots tax mid e a w' → AllHappen trusted failures honest slots tax w (es ++ e ∷ []) (answers ++ a ∷ []) w'
-all_more {Kept} trusted failures honest slots tax w mid w' [] [] e a same one = (w', subst (λ (v : WorldIs Kept). Happens trusted failures honest slots tax v e a w') same one, refl)
-all_more trusted failures honest slots tax w mid w' [] (b ∷ answers) e a before one = absurd before
-all_more trusted failures honest slots tax w mid w' (d ∷ es) [] e a before one = absurd before
-all_more trusted failures honest slots tax w mid w' (d ∷ es) (b ∷ answers) e a before one =
-    (before.0, before.1, all_more trusted failures honest slots tax before.0 mid w' es answers e a before.2 one)
+pub all_more : {Kept : Type 0} (trusted : Kept → Type 0) (failures : Kept → ℕ) (honest : Kept → Type 0) (slots : Kept → ℕ) (held : Kept → ℕ → Option (List ℕ)) (tax : ℕ) (w mid w' : WorldIs Kept) (es : List Event) (answers : List Answer) (e : Event) (a : Answer)
+    → AllHappen trusted failures honest slots held tax w es answers mid → Happens trusted failures honest slots held tax mid e a w' → AllHappen trusted failures honest slots held tax w (es ++ e ∷ []) (answers ++ a ∷ []) w'
+all_more {Kept} trusted failures honest slots held tax w mid w' [] [] e a same one = (w', subst (λ (v : WorldIs Kept). Happens trusted failures honest slots held tax v e a w') same one, refl)
+all_more trusted failures honest slots held tax w mid w' [] (b ∷ answers) e a before one = absurd before
+all_more trusted failures honest slots held tax w mid w' (d ∷ es) [] e a before one = absurd before
+all_more trusted failures honest slots held tax w mid w' (d ∷ es) (b ∷ answers) e a before one =
+    (before.0, before.1, all_more trusted failures honest slots held tax before.0 mid w' es answers e a before.2 one)

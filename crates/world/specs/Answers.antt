@@ -1,8 +1,8 @@
 -- What is answered to events, and why.
-use Rattle.std.specs.Prelude.{◌≡◌, ◌≢◌, ◌↔◌, ◌<◌, ◌≤◌, ◌^◌, ℕ, false, true, Result, Ok, Err, Some, None, IfOk, IfErr, OnOk, IsErrOf, List, [], ◌∷◌, ◌++◌, length, map, slice_index_or}
+use Rattle.std.specs.Prelude.{◌≡◌, ◌≢◌, ◌↔◌, ◌<◌, ◌≤◌, ◌^◌, ℕ, false, true, Option, Result, Ok, Err, Some, None, IfOk, IfErr, OnOk, IsErrOf, List, [], ◌∷◌, ◌++◌, length, map, slice_index, slice_index_or}
 use Rattle.frames.specs.FreeList.{FreeList}
 use Rattle.items.specs.declared.item.Item.{Item}
-use Rattle.items.specs.declared.item.What.TheVariants.{Write}
+use Rattle.items.specs.declared.item.What.TheVariants.{In, Write}
 use Rattle.guest_log.specs.Logs.{IsFull}
 use Rattle.guest_log.specs.declared.stop.Stop.{Stop}
 use Rattle.guest_log.specs.declared.stop.Stop.TheVariants as halt
@@ -34,6 +34,7 @@ use Rattle.world.specs.declared.events.Event.{Event}
 use Rattle.world.specs.declared.events.Event.TheVariants as event
 use Rattle.world.specs.declared.events.Answer.{Answer}
 use Rattle.world.specs.declared.events.Answer.TheVariants as answer
+use Rattle.world.specs.declared.events.Fed.{Fed}
 use Rattle.world.specs.declared.debugging.DebugError.{DebugError}
 use Rattle.world.specs.declared.debugging.DebugError.TheVariants as debug
 use Rattle.world.specs.declared.faulting.FaultError.{FaultError}
@@ -49,7 +50,7 @@ use Rattle.world.specs.Admission.{IsAdmitted, LimitsStay, BlockedStay, NotTurned
 use Rattle.world.specs.Samples.{IsSampling}
 use Rattle.world.specs.Turns.{IsTurn}
 use Rattle.world.specs.Victims.{WhyUnsupplied}
-use Rattle.world.specs.Worlds.{WorldIs, SameAround, boot_of, log_at, guest_at, needed_by, FailsOnce}
+use Rattle.world.specs.Worlds.{WorldIs, Sound, SameAround, boot_of, log_at, guest_at, needed_by, FailsOnce}
 
 -- a step answers the page that it needs, and else is made; it stops for a full log exactly where the log is full
 pub record IsStepAnswer (trusted : Type 0) (t : TenantIs) (stepped : Result StepOut Stop) : Type 0 where
@@ -69,15 +70,26 @@ pub record IsRunAnswer (trusted : Type 0) (count : ℕ) (t' : TenantIs) (why : R
 abbrev pub AreSupplied : Type 0 → TenantIs → Ran → Type 0
 AreSupplied trusted t' ran = trusted → (p : ℕ) (w : Why) → ran.end ≡ ending.Need p w → IsSupplied p t'
 
--- an item is accepted and replied to as by the guest's view, and refused only where that refuses it, where a page that it writes to is
--- away, or where the log is full, and then always
+-- an item is accepted and replied to as by the guest's view, and by the guest as it stands, and refused only where these refuse it, where
+-- a page that it writes to is away, or where the log is full, and then always
 pub record IsInputAnswer (trusted : Type 0) (item : Item) (t : TenantIs) (done : Result Reply Refused) : Type 0 where
   pub accepted : OnOk done (trusted → accepts item.what (view_of t.guest) ≡ true)
+  pub reply_as_it_stands : IfOk done (λ r. replied r ≡ reply item.what (standing t.guest))
   pub reply : IfOk done (λ r. trusted → replied r ≡ reply item.what (view_of t.guest))
   pub refused : IsErrOf done refusal.Machine → trusted → accepts item.what (view_of t.guest) ≡ false
+  pub refused_as_it_stands : IsErrOf done refusal.Machine → accepts item.what (standing t.guest) ≡ false
   pub away : (page : ℕ) → IsErrOf done (refusal.Away page) → lacks_in (pages_in t) page Store ≢ None
   pub its_page : (page : ℕ) → IsErrOf done (refusal.Away page) → WritesTo item.what (standing t.guest) page
   pub full : IsErrOf done (refusal.Stop halt.LogFull) ↔ IsFull t.guest.log
+
+-- So many bytes of input were taken, from the first on. Fewer than all are taken only where the next one is refused by the guest's view, or
+-- the log has no room for it: it is full, or a request for memory was refused.
+pub record IsFeedAnswer (trusted : Type 0) (bytes : List ℕ) (t' : TenantIs) (fed : Fed) : Type 0 where
+  pub most : fed.count ≤ length bytes
+  pub refused : fed.stop ≡ None → fed.count < length bytes → trusted → accepts (In (slice_index bytes fed.count)) (view_of t'.guest) ≡ false
+  pub stopped : fed.stop ≢ None → fed.count < length bytes
+  pub full : fed.stop ≡ Some halt.LogFull → IsFull t'.guest.log
+  pub room : fed.stop ≢ Some halt.LogFull → fed.count < length bytes → IsFull t'.guest.log → ⊥
 
 -- why no bytes are read: one has no place, or it is said why a page is away
 pub record IsProbeRefusal (trusted : Type 0) (address count : ℕ) (t : TenantIs) (why : RunStop → Type 0) (error : DebugError) : Type 0 where
@@ -121,6 +133,7 @@ IsNowhere ts (event.Step g) = length ts ≤ g
 IsNowhere ts (event.Steps g count) = length ts ≤ g
 IsNowhere ts (event.Run g count) = length ts ≤ g
 IsNowhere ts (event.Input g item) = length ts ≤ g
+IsNowhere ts (event.Feed g bytes) = length ts ≤ g
 IsNowhere ts (event.Probe g address count) = length ts ≤ g
 IsNowhere ts (event.Write g address bytes) = length ts ≤ g
 IsNowhere ts (event.Supply g p) = (t : TenantIs) → g < length ts → length (pages_in (slice_index_or ts g t)) ≤ p
@@ -152,8 +165,10 @@ IsAnswered trusted failures honest tax w w' (event.Run g count) (answer.Ran ran)
     × AreSupplied (trusted w.store) (guest_at w' g t) ran × IsGoing (guest_at w g t)
 IsAnswered trusted failures honest tax w w' (event.Input g item) (answer.Input done) =
     (t : TenantIs) → IsInputAnswer (trusted w.store) item (guest_at w g t) done
+IsAnswered trusted failures honest tax w w' (event.Feed g bytes) (answer.Fed fed) =
+    (t : TenantIs) → IsFeedAnswer (trusted w.store) bytes.items (guest_at w' g t) fed
 IsAnswered trusted failures honest tax w w' (event.Probe g address count) (answer.Probed (Ok bytes)) =
-    (t : TenantIs) → trusted w.store → bytes_at (view_of (guest_at w g t).guest) address count ≡ Some bytes.items
+    (length bytes.items ≡ count) × ((t : TenantIs) → trusted w.store → bytes_at (view_of (guest_at w g t).guest) address count ≡ Some bytes.items)
 IsAnswered trusted failures honest tax w w' (event.Probe g address count) (answer.Probed (Err error)) =
     (t : TenantIs) → IsProbeRefusal (trusted w.store) address count (guest_at w g t) (WhyHalted failures honest w w') error
 IsAnswered trusted failures honest tax w w' (event.Write g address bytes) (answer.Written done) =
@@ -176,10 +191,15 @@ IsAnswered trusted failures honest tax w w' (event.Run g count) answer.Blocked =
 IsAnswered trusted failures honest tax w w' e answer.Nowhere = IsNowhere w.tenants e
 IsAnswered trusted failures honest tax w w' e a = ⊥
 
+-- The books of a world are exact, and where its store is true to digests each guest is its run.
+abbrev pub IsSoundWorld : {Kept : Type 0} → (trusted : Kept → Type 0) → (slots : Kept → ℕ) → (held : Kept → ℕ → Option (List ℕ)) → WorldIs Kept → Type 0
+IsSoundWorld trusted slots held w = Sound w.frames (slots w.store) (trusted w.store) (held w.store) w.tenants w.pool w.slots w.shares.entries
+
 -- An event has happened: it is answered as `IsAnswered` has it, each log has the items more that the event adds to it, and the machines
--- that the guests booted, their limits, and how many frames and slots there are, are as before; only a turn of the policy changes who is
--- blocked; and where guests are admitted by their minimums each page that it needs found room.
-pub record Happens {Kept : Type 0} (trusted : Kept → Type 0) (failures : Kept → ℕ) (honest : Kept → Type 0) (slots : Kept → ℕ) (tax : ℕ) (w : WorldIs Kept) (e : Event) (a : Answer) (w' : WorldIs Kept) : Type 0 where
+-- that the guests booted, their limits, how many frames and slots there are, and what the store is said to be, are as before; only a turn
+-- of the policy changes who is blocked; and where guests are admitted by their minimums each page that it needs found room. The world is
+-- sound after it.
+pub record Happens {Kept : Type 0} (trusted : Kept → Type 0) (failures : Kept → ℕ) (honest : Kept → Type 0) (slots : Kept → ℕ) (held : Kept → ℕ → Option (List ℕ)) (tax : ℕ) (w : WorldIs Kept) (e : Event) (a : Answer) (w' : WorldIs Kept) : Type 0 where
   pub answered : IsAnswered trusted failures honest tax w w' e a
   pub logs : (h : ℕ) → log_at w'.tenants h ≡ log_at w.tenants h ++ own_items h e a
   pub boots : map boot_of w'.tenants ≡ map boot_of w.tenants
@@ -187,12 +207,15 @@ pub record Happens {Kept : Type 0} (trusted : Kept → Type 0) (failures : Kept 
   pub blocked : NotTurned a → BlockedStay w.tenants w'.tenants
   pub frames : w'.frames ≡ w.frames
   pub slots_stay : slots w'.store ≡ slots w.store
+  pub honesty : honest w'.store ↔ honest w.store
+  pub trust : trusted w'.store ↔ trusted w.store
   pub room : IsAdmitted w.frames (slots w.store) w.tenants → FindsRoom (FailsOnce failures w w') a
+  pub sound : IsSoundWorld trusted slots held w'
 
 -- events have happened one after another, each in the world that the one before it left
-abbrev pub AllHappen : {Kept : Type 0} → (trusted : Kept → Type 0) → (failures : Kept → ℕ) → (honest : Kept → Type 0) → (slots : Kept → ℕ) → (tax : ℕ) → WorldIs Kept → List Event → List Answer → WorldIs Kept → Type 0
-AllHappen trusted failures honest slots tax w [] [] w' = w' ≡ w
-AllHappen trusted failures honest slots tax w [] (a ∷ answers) w' = ⊥
-AllHappen trusted failures honest slots tax w (e ∷ events) [] w' = ⊥
-AllHappen {Kept} trusted failures honest slots tax w (e ∷ events) (a ∷ answers) w' =
-    (mid : WorldIs Kept) × Happens trusted failures honest slots tax w e a mid × AllHappen trusted failures honest slots tax mid events answers w'
+abbrev pub AllHappen : {Kept : Type 0} → (trusted : Kept → Type 0) → (failures : Kept → ℕ) → (honest : Kept → Type 0) → (slots : Kept → ℕ) → (held : Kept → ℕ → Option (List ℕ)) → (tax : ℕ) → WorldIs Kept → List Event → List Answer → WorldIs Kept → Type 0
+AllHappen trusted failures honest slots held tax w [] [] w' = w' ≡ w
+AllHappen trusted failures honest slots held tax w [] (a ∷ answers) w' = ⊥
+AllHappen trusted failures honest slots held tax w (e ∷ events) [] w' = ⊥
+AllHappen {Kept} trusted failures honest slots held tax w (e ∷ events) (a ∷ answers) w' =
+    (mid : WorldIs Kept) × Happens trusted failures honest slots held tax w e a mid × AllHappen trusted failures honest slots held tax mid events answers w'

@@ -1,7 +1,8 @@
 -- The items that events add to the logs of guests.
-use Rattle.std.specs.Prelude.{◌≡◌, ℕ, ◌<◌, ◌≤◌, length, ◌==◌, if◌then◌else◌, false, Result, Ok, Err, List, [], ◌∷◌, ◌++◌, replicate, map, Contains, slice_index_or, ◌≢◌}
+use Rattle.std.specs.Prelude.{◌≡◌, ℕ, ◌<◌, ◌≤◌, length, ◌==◌, if◌then◌else◌, false, Result, Ok, Err, List, [], ◌∷◌, ◌++◌, replicate, map, take, Contains, slice_index_or, ◌≢◌}
 use Rattle.frames.specs.FreeList.{FreeList}
 use Rattle.items.specs.declared.item.Item.{Item}
+use Rattle.items.specs.declared.item.What.TheVariants.{In}
 use Rattle.items.specs.Entries.{step_by}
 use Rattle.items.specs.Items.{is_step}
 use Rattle.guest_log.specs.declared.stop.Stop.{Stop}
@@ -40,6 +41,7 @@ IsProper (event.Steps g count) = Unit {0}
 IsProper (event.Run g count) = Unit {0}
 IsProper (event.Input g item) = is_step item.what ≡ false
 IsProper (event.Probe g address count) = (0 < count) × (count ≤ 1024)
+IsProper (event.Feed g bytes) = Unit {0}
 IsProper (event.Write g address bytes) = (0 < length bytes.items) × (length bytes.items ≤ 1024)
 IsProper (event.Supply g p) = Unit {0}
 IsProper (event.Fault g) = Unit {0}
@@ -56,18 +58,7 @@ step_items h g (Err stop) = []
 
 abbrev pub items_stepped : ℕ → ℕ → Answer → List Item
 items_stepped h g (answer.Stepped stepped) = step_items h g stepped
-items_stepped h g (answer.Ran ran) = []
-items_stepped h g (answer.Input done) = []
-items_stepped h g (answer.Probed done) = []
-items_stepped h g (answer.Written done) = []
-items_stepped h g (answer.Supplied done) = []
-items_stepped h g (answer.Faulted done) = []
-items_stepped h g (answer.Evicted done) = []
-items_stepped h g (answer.Scanned scan) = []
-items_stepped h g answer.Sampled = []
-items_stepped h g (answer.Turned done) = []
-items_stepped h g answer.Blocked = []
-items_stepped h g answer.Nowhere = []
+items_stepped h g _ = []
 
 -- so many steps by seat 0, where the guest is the one that made them
 abbrev pub steps_for : ℕ → ℕ → ℕ → List Item
@@ -75,18 +66,7 @@ steps_for h g count = if h == g then replicate count (step_by 0) else []
 
 abbrev pub items_ran : ℕ → ℕ → Answer → List Item
 items_ran h g (answer.Ran ran) = steps_for h g ran.steps
-items_ran h g (answer.Stepped stepped) = []
-items_ran h g (answer.Input done) = []
-items_ran h g (answer.Probed done) = []
-items_ran h g (answer.Written done) = []
-items_ran h g (answer.Supplied done) = []
-items_ran h g (answer.Faulted done) = []
-items_ran h g (answer.Evicted done) = []
-items_ran h g (answer.Scanned scan) = []
-items_ran h g answer.Sampled = []
-items_ran h g (answer.Turned done) = []
-items_ran h g answer.Blocked = []
-items_ran h g answer.Nowhere = []
+items_ran h g _ = []
 
 -- an item that is accepted
 abbrev pub input_items : ℕ → ℕ → Item → Result Reply Refused → List Item
@@ -95,34 +75,24 @@ input_items h g item (Err refused) = []
 
 abbrev pub items_input : ℕ → ℕ → Item → Answer → List Item
 items_input h g item (answer.Input done) = input_items h g item done
-items_input h g item (answer.Stepped stepped) = []
-items_input h g item (answer.Ran ran) = []
-items_input h g item (answer.Probed done) = []
-items_input h g item (answer.Written done) = []
-items_input h g item (answer.Supplied done) = []
-items_input h g item (answer.Faulted done) = []
-items_input h g item (answer.Evicted done) = []
-items_input h g item (answer.Scanned scan) = []
-items_input h g item answer.Sampled = []
-items_input h g item (answer.Turned done) = []
-items_input h g item answer.Blocked = []
-items_input h g item answer.Nowhere = []
+items_input h g item _ = []
+
+-- a byte of input that a guest's console has taken is an item of seat 0
+abbrev pub input_of : ℕ → Item
+input_of byte = record { seat = 0; what = In byte }
+
+-- bytes of input, where the guest is the one whose console has taken them
+abbrev pub inputs_for : ℕ → ℕ → List ℕ → List Item
+inputs_for h g bytes = if h == g then map input_of bytes else []
+
+abbrev pub items_fed : ℕ → ℕ → List ℕ → Answer → List Item
+items_fed h g bytes (answer.Fed fed) = inputs_for h g (take fed.count bytes)
+items_fed h g bytes _ = []
 
 -- a write that is made is an item of seat 3
 abbrev pub items_written : ℕ → ℕ → ℕ → List ℕ → Answer → List Item
 items_written h g address bytes (answer.Written done) = written_items h g address bytes done
-items_written h g address bytes (answer.Stepped stepped) = []
-items_written h g address bytes (answer.Ran ran) = []
-items_written h g address bytes (answer.Input done) = []
-items_written h g address bytes (answer.Probed done) = []
-items_written h g address bytes (answer.Supplied done) = []
-items_written h g address bytes (answer.Faulted done) = []
-items_written h g address bytes (answer.Evicted done) = []
-items_written h g address bytes (answer.Scanned scan) = []
-items_written h g address bytes answer.Sampled = []
-items_written h g address bytes (answer.Turned done) = []
-items_written h g address bytes answer.Blocked = []
-items_written h g address bytes answer.Nowhere = []
+items_written h g address bytes _ = []
 
 -- a turn of the policy sets the target of a guest's balloon by an item of seat 2
 abbrev pub turn_items : {E : Type 0} → ℕ → Result Turn E → List Item
@@ -131,26 +101,17 @@ turn_items h (Err error) = []
 
 abbrev pub items_turned : ℕ → Answer → List Item
 items_turned h (answer.Turned done) = turn_items h done
-items_turned h (answer.Stepped stepped) = []
-items_turned h (answer.Ran ran) = []
-items_turned h (answer.Input done) = []
-items_turned h (answer.Probed done) = []
-items_turned h (answer.Written done) = []
-items_turned h (answer.Supplied done) = []
-items_turned h (answer.Faulted done) = []
-items_turned h (answer.Evicted done) = []
-items_turned h (answer.Scanned scan) = []
-items_turned h answer.Sampled = []
-items_turned h answer.Blocked = []
-items_turned h answer.Nowhere = []
+items_turned h _ = []
 
--- The items that an event adds to the log of guest h, by its answer: steps that are made, an item that is accepted, and a write that is
--- made, where the event was that guest's; and the target of its balloon that a turn of the policy has set. No other event adds any.
+-- The items that an event adds to the log of guest h, by its answer: steps that are made, an item that is accepted, bytes of input that
+-- were taken, and a write that is made, where the event was that guest's; and the target of its balloon that a turn of the policy has
+-- set. No other event adds any.
 abbrev pub own_items : ℕ → Event → Answer → List Item
 own_items h (event.Step g) a = items_stepped h g a
 own_items h (event.Steps g count) a = items_ran h g a
 own_items h (event.Run g count) a = items_ran h g a
 own_items h (event.Input g item) a = items_input h g item a
+own_items h (event.Feed g bytes) a = items_fed h g bytes.items a
 own_items h (event.Probe g address count) a = []
 own_items h (event.Write g address bytes) a = items_written h g address bytes.items a
 own_items h (event.Supply g p) a = []

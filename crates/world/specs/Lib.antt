@@ -4,7 +4,9 @@ pub mod Boots
 pub mod Debugging
 pub mod Events
 pub mod Evictions
+pub mod Parts
 pub mod Samples
+pub mod Steps
 pub mod Turns
 pub mod Victims
 pub mod Worlds

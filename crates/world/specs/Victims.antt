@@ -1,42 +1,18 @@
 -- Which page leaves its frame so that another gets one.
-use Rattle.std.specs.Prelude.{◌≡◌, ◌≢◌, ℕ, ◌%◌, ◌<◌, ◌≤◌, ◌⊎◌, Bool, true, false, ◌==◌, ◌&&◌, ◌||◌, not, if◌then◌else◌, List, [], Option, Some, None, All, length, map, sum_by, slice_index_or}
+use Rattle.std.specs.Prelude.{◌≡◌, ◌≢◌, ℕ, ◌%◌, ◌⊎◌, true, List, [], Option, Some, All, length, map, sum_by, slice_index_or}
 use Rattle.rand_core.specs.Stream.{Stream, next_u32}
 use Rattle.frames.specs.FreeList.{FreeList}
-use Rattle.physmap.specs.declared.page.Page.{Page}
-use Rattle.physmap.specs.Pages.{page_at, kind_at, is_resident}
+use Rattle.physmap.specs.Pages.{page_at}
 use Rattle.physmap.specs.Holdings.{resident_pages}
 use Rattle.taxpolicy.specs.declared.stat.Stat.{Stat}
 use Rattle.taxpolicy.specs.Victim.{IsEligible, victim_of}
 use Rattle.world.specs.Evictions.{IsEvicted}
 use Rattle.tenant.specs.Tenants.{TenantIs, pages_in, beside_pages, stat_of}
-use Rattle.world.specs.declared.faulting.Spared.{Spared}
+use Rattle.victims.specs.Victims.{is_one_of, spared_of, IsNextResident}
+use Rattle.victims.specs.declared.spared.Spared.{Spared}
 use Rattle.world.specs.declared.faulting.FaultError.{FaultError}
 use Rattle.world.specs.declared.faulting.FaultError.TheVariants.{NoFrame, NoSwap, SwapRead, SwapDamaged, Memory}
 use Rattle.world.specs.Worlds.{FailsOnce, WorldIs}
-
--- whether a page is one of two
-abbrev pub is_one_of : Option (ℕ × ℕ) → ℕ → Bool
-is_one_of None p = false
-is_one_of (Some pages) p = pages.0 == p || pages.1 == p
-
--- the pages of a guest that are spared
-abbrev pub spared_of : Option Spared → ℕ → Option (ℕ × ℕ)
-spared_of None g = None
-spared_of (Some spared) g = if spared.guest == g then Some spared.pages else None
-
--- whether a page may leave its frame: it is in one, and is not spared
-abbrev pub may_leave : Option (ℕ × ℕ) → List Page → ℕ → Bool
-may_leave spared pages p = is_resident (kind_at pages p) && not (is_one_of spared p)
-
--- no page from one number on to below another is in a frame, but for those that are spared
-abbrev pub NoneResident : Option (ℕ × ℕ) → List Page → ℕ → ℕ → Type 0
-NoneResident spared pages from to = (p : ℕ) → from ≤ p → p < to → may_leave spared pages p ≡ false
-
--- the first page at or after a place that is in a frame and is not spared, going round
-pub record IsNextResident (spared : Option (ℕ × ℕ)) (pages : List Page) (start p : ℕ) : Type 0 where
-  pub there : p < length pages
-  pub leaves : may_leave spared pages p ≡ true
-  pub first : ((start ≤ p) × NoneResident spared pages start p) ⊎ ((p < start) × NoneResident spared pages start (length pages) × NoneResident spared pages 0 p)
 
 -- The victim of the guests has lost a page: the first resident one at or after the generator's next word modulo its pages, but for
 -- those that are spared.

@@ -1,8 +1,10 @@
 //! The events of a world, one after another.
 ghost use Rattle.std.specs.Prelude.{◌≡◌};
 
+use crate::events::Fed;
 use crate::{Answer, DebugError, Event, RunStop, World};
-use items::Item;
+use guest::{Refused, Stop};
+use items::{Item, SeatNo, What};
 use rand_core::Rng;
 use std::alloc::{AllocError, Global};
 use swapstore::SwapStore;
@@ -10,14 +12,19 @@ use taxpolicy::Tax;
 use word32::Ppn;
 
 impl<S: SwapStore> World<S> {
-    ghost use Rattle.std.specs.Prelude.{◌≡◌, ◌↔◌, ◌<◌, ◌≤◌, ◌++◌, ℕ, [], false, All, IfOk, OnErr, length, map};
+    ghost use Rattle.std.specs.Prelude.{◌≡◌, ◌≢◌, ◌↔◌, ◌<◌, ◌≤◌, ◌++◌, ℕ, [], false, All, Some, None, IfOk, OnOk, OnErr, IsErrOf, Option, length, map, take};
     ghost use Rattle.items.specs.declared.item.Item.{Item};
+    ghost use Rattle.items.specs.declared.item.What.{What};
     ghost use Rattle.items.specs.Items.{is_step};
+    ghost use Rattle.guest_log.specs.Logs.{IsFull};
+    ghost use Rattle.guest_log.specs.declared.stop.Stop.{Stop};
+    ghost use Rattle.flatvm.specs.Items.{accepts};
+    ghost use Rattle.tenant.specs.Tenants.{TenantIs, Stays};
     ghost use Rattle.world.specs.declared.events.Event.{Event};
     ghost use Rattle.world.specs.Admission.{IsAdmitted, LimitsStay, BlockedStay, NotTurned, FindsRoom};
-    ghost use Rattle.world.specs.Answers.{IsAnswered, AllHappen};
-    ghost use Rattle.world.specs.Events.{IsProper, items_stepped, items_ran, items_input, items_written, items_turned, own_items, own};
-    ghost use Rattle.world.specs.Worlds.{boot_of, log_at, FailsOnce};
+    ghost use Rattle.world.specs.Answers.{IsAnswered, IsFeedAnswer, IsSoundWorld, AllHappen};
+    ghost use Rattle.world.specs.Events.{IsProper, items_stepped, items_ran, items_input, input_of, inputs_for, items_fed, items_written, items_turned, own_items, own};
+    ghost use Rattle.world.specs.Worlds.{Changes, boot_of, log_at, item_for, guest_at, view_at, FailsOnce};
 
     fn apply_step(&mut self, g: usize) -> Answer
         ensures logs { (h : ℕ) → log_at self.new.tenants h ≡ log_at self.old.tenants h ++ items_stepped h g result }
@@ -98,6 +105,75 @@ impl<S: SwapStore> World<S> {
     {
         if g < self.count() {
             Answer::Input(self.input(g, item))
+        } else {
+            Answer::Nowhere
+        }
+    }
+
+    // A guest's console takes a byte of input; or it doesn't, as the log has no room for it, or else as the machine refuses it.
+    fn feed_byte(&mut self, g: usize, byte: u8) -> Result<(), Option<Stop>>
+        requires { g < length self.old.tenants }
+        ensures taken { OnOk result ((h : ℕ) → log_at self.new.tenants h ≡ log_at self.old.tenants h ++ item_for h g (input_of byte)) }
+        ensures not_taken { OnErr result ((h : ℕ) → log_at self.new.tenants h ≡ log_at self.old.tenants h) }
+        ensures refused { IsErrOf result None → S.true_to_digests self.old.store → (t : TenantIs) →
+            accepts (What.In byte) (view_at self.new g t) ≡ false }
+        ensures full { IsErrOf result (Some Stop.LogFull) → (t : TenantIs) → IsFull (guest_at self.new g t).guest.log }
+        ensures room { (stop : Option Stop) → IsErrOf result stop → stop ≢ Some Stop.LogFull → (t : TenantIs) →
+            IsFull (guest_at self.new g t).guest.log → ⊥ }
+        ensures stays { Changes Stays g self.old.tenants self.new.tenants }
+        ensures store { self.new.store ≡ self.old.store }
+        ensures frames { self.new.frames ≡ self.old.frames }
+        ensures level { self.new.level ≡ self.old.level }
+    {
+        let item = Item {
+            seat: SeatNo::runner(),
+            what: What::In(byte),
+        };
+        match self.input(g, item) {
+            Ok(reply) => {
+                drop(reply);
+                Ok(())
+            }
+            Err(Refused::Machine) => Err(None),
+            Err(Refused::Away(_)) => unreachable!(),
+            Err(Refused::Stop(stop)) => Err(Some(stop)),
+        }
+    }
+
+    // A guest's console takes bytes of input up to the first one that it doesn't take.
+    fn feed(&mut self, g: usize, bytes: &[u8]) -> Fed
+        requires { g < length self.old.tenants }
+        ensures logs { (h : ℕ) → log_at self.new.tenants h ≡ log_at self.old.tenants h ++ inputs_for h g (take result.count bytes.now) }
+        ensures answer { (t : TenantIs) → IsFeedAnswer (S.true_to_digests self.old.store) bytes.now (guest_at self.new g t) result }
+        ensures stays { Changes Stays g self.old.tenants self.new.tenants }
+        ensures store { self.new.store ≡ self.old.store }
+        ensures frames { self.new.frames ≡ self.old.frames }
+        ensures level { self.new.level ≡ self.old.level }
+    {
+        for count in 0..bytes.len() {
+            match self.feed_byte(g, bytes[count]) {
+                Ok(()) => {}
+                Err(stop) => return Fed { count, stop },
+            }
+        }
+        Fed {
+            count: bytes.len(),
+            stop: None,
+        }
+    }
+
+    fn apply_feed(&mut self, g: usize, bytes: Vec<u8>) -> Answer
+        ensures logs { (h : ℕ) → log_at self.new.tenants h ≡ log_at self.old.tenants h ++ items_fed h g bytes.items result }
+        ensures answered { (tax : ℕ) → IsAnswered S.true_to_digests S.failed S.honest tax self.old self.new (Event.Feed g bytes) result }
+        ensures boots { map boot_of self.new.tenants ≡ map boot_of self.old.tenants }
+        ensures limits { LimitsStay self.old.tenants self.new.tenants }
+        ensures blocked { BlockedStay self.old.tenants self.new.tenants }
+        ensures store { self.new.store ≡ self.old.store }
+        ensures frames { self.new.frames ≡ self.old.frames }
+        ensures level { self.new.level ≡ self.old.level }
+    {
+        if g < self.count() {
+            Answer::Fed(self.feed(g, &bytes))
         } else {
             Answer::Nowhere
         }
@@ -289,6 +365,7 @@ impl<S: SwapStore> World<S> {
             Event::Steps(g, count) => self.apply_steps(g, count),
             Event::Run(g, count) => self.apply_run(alloc, g, count, tax, rng),
             Event::Input(g, item) => self.apply_input(g, item),
+            Event::Feed(g, bytes) => self.apply_feed(g, bytes),
             Event::Probe(g, address, count) => {
                 self.apply_probe(alloc, g, address, count, tax, rng)
             }
@@ -307,8 +384,9 @@ impl<S: SwapStore> World<S> {
     /// One event. Its items are added to its guest's log, and no other log changes, but that a turn of the policy may set the balloon
     /// targets of all; the machines that the guests booted stay. What is answered is what the guest's view has to say to it, or why it was
     /// refused (`IsAnswered`): each kind of event has the answers of `step`, `steps`, `run_steps`, `input`, `debug_read`, `debug_write`,
-    /// `supply`, `fault`, `evict`, `scan`, `sample` and `level_turn`, and a guest that is blocked makes no step. The tax and the
-    /// generator are those of `evict_one`, which may be called where a page gets a frame, of `sample` and of `level_turn`.
+    /// `supply`, `fault`, `evict`, `scan`, `sample` and `level_turn`, and `Feed` those of `input`, a byte each, up to the first that is not
+    /// taken; and a guest that is blocked makes no step. The tax and the generator are those of `evict_one`, which may be called where a
+    /// page gets a frame, of `sample` and of `level_turn`.
     ///
     /// No event changes how many pages, shares and which minimum a guest has, and just a turn of the policy who is blocked. Where the guests
     /// are admitted by their minimums, each page that a fault, a run, or a debugger's read or write needs gets a frame, if need be another
@@ -326,6 +404,7 @@ impl<S: SwapStore> World<S> {
         ensures slots { S.slots self.new.store ≡ S.slots self.old.store }
         ensures honest { S.honest self.new.store ↔ S.honest self.old.store }
         ensures true_to_digests { S.true_to_digests self.new.store ↔ S.true_to_digests self.old.store }
+        ensures sound { IsSoundWorld S.true_to_digests S.slots S.held self.new }
     {
         let answer = self.apply_event(alloc, event, tax, rng);
         self.is_sound();
@@ -334,7 +413,7 @@ impl<S: SwapStore> World<S> {
     }
 
     /// Events, one after another, and what each was answered. After them the log of each guest is the one before with the items of
-    /// its own events that were done: its steps and writes that were made, and its items that were accepted. So whatever else happens in the
+    /// its own events that were done: its steps and writes that were made, and its items and bytes that were accepted. So whatever else happens in the
     /// world, each guest's view is the run of its own items; and the books are exact (`is_sound`). Each event is answered as by `apply`, in
     /// the world that the one before it left (`AllHappen`).
     ///
@@ -348,7 +427,7 @@ impl<S: SwapStore> World<S> {
     ) -> Result<Vec<Answer>, AllocError>
         requires { All IsProper events.items }
         ensures logs { IfOk result (λ answers. (h : ℕ) → log_at self.new.tenants h ≡ log_at self.old.tenants h ++ own h events.items answers.items) }
-        ensures happen { IfOk result (λ answers. AllHappen S.true_to_digests S.failed S.honest S.slots tax.percent self.old events.items answers.items self.new) }
+        ensures happen { IfOk result (λ answers. AllHappen S.true_to_digests S.failed S.honest S.slots S.held tax.percent self.old events.items answers.items self.new) }
         ensures count { IfOk result (λ answers. length answers.items ≡ length events.items) }
         ensures unchanged { OnErr result (self.new ≡ self.old) }
         ensures boots { map boot_of self.new.tenants ≡ map boot_of self.old.tenants }

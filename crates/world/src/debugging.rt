@@ -4,7 +4,7 @@ ghost use Rattle.physmap.specs.declared.page.PageKind.{PageKind};
 ghost use Rattle.world.specs.Debugging.{is_wanted};
 
 use crate::running::stop_of;
-use crate::{FaultError, RunStop, Spared, World};
+use crate::{FaultError, RunStop, World};
 use guest::{Refused, Stop};
 use items::{Item, SeatNo, What, WriteBytes};
 use paging::Pages;
@@ -13,6 +13,7 @@ use rand_core::Rng;
 use std::alloc::Global;
 use swapstore::SwapStore;
 use taxpolicy::Tax;
+use victims::Spared;
 use word32::Ppn;
 
 /// Why a debugger's bytes are not read or written.

@@ -1,5 +1,6 @@
 //! What may happen in a world, and what is answered.
-use crate::{DebugError, Evicted, FaultError, Ran, Turn};
+use crate::running::stop_of;
+use crate::{DebugError, Evicted, FaultError, Ran, RunStop, Turn};
 use flatvm::Reply;
 use guest::{Refused, Stop};
 use items::Item;
@@ -20,6 +21,9 @@ pub enum Event {
     Run(usize, u32),
     /// An item of one of a guest's seats is to happen to it, which is no step.
     Input(usize, Item),
+    /// A guest's console is to take these bytes of input, each by an item of seat 0, up to the first one that the machine refuses or for
+    /// which the log has no room.
+    Feed(usize, Vec<u8>),
     /// So many bytes of a guest are to be read for a debugger from a virtual address on, 1 to 1,024 of them.
     Probe(usize, u32, u32),
     /// These bytes, 1 to 1,024 of them, are to be written to a guest for a debugger from a virtual address on.
@@ -38,6 +42,15 @@ pub enum Event {
     Level,
 }
 
+/// What became of bytes of input.
+#[derive(Clone, Copy, Debug, PartialEq, Eq)]
+pub struct Fed {
+    /// How many of them were taken, from the first on.
+    pub count: usize,
+    /// Why the log had no room for the next one. `None` where all were taken, and where the machine refuses the next one.
+    pub stop: Option<Stop>,
+}
+
 /// What is answered to an event.
 #[derive(Drop)]
 pub enum Answer {
@@ -47,6 +60,8 @@ pub enum Answer {
     Ran(Ran),
     /// What the guest replied to the item, or why it was refused.
     Input(Result<Reply, Refused>),
+    /// How many bytes of input were taken, and what stopped it.
+    Fed(Fed),
     /// The bytes that were read, or why they were not.
     Probed(Result<Vec<u8>, DebugError>),
     /// The bytes are written, or why not.
@@ -67,4 +82,29 @@ pub enum Answer {
     Blocked,
     /// There is no such guest, or no such page to supply. Nothing has happened.
     Nowhere,
+}
+
+impl From<Stop> for RunStop {
+    ghost use Rattle.std.specs.Prelude.{◌≡◌};
+    ghost use Rattle.world.specs.Events.{for_room};
+
+    ghost from_gives = { λ stop why. why ≡ for_room stop };
+
+    fn from(stop: Stop) -> Self {
+        match stop {
+            Stop::Memory => RunStop::Memory,
+            Stop::LogFull => RunStop::LogFull,
+        }
+    }
+}
+
+impl From<FaultError> for RunStop {
+    ghost use Rattle.std.specs.Prelude.{◌≡◌};
+    ghost use Rattle.world.specs.Events.{stop_of};
+
+    ghost from_gives = { λ error why. why ≡ stop_of error };
+
+    fn from(error: FaultError) -> Self {
+        stop_of(error)
+    }
 }

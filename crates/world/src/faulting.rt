@@ -1,9 +1,9 @@
 //! Pages that guests need, and frames for them.
-ghost use Rattle.std.specs.Prelude.{◌≡◌, ◌%◌, ◌<◌, ◌≤◌, ℕ, true, IfSome, IfNone, IfOk, length, map};
+ghost use Rattle.std.specs.Prelude.{◌≡◌, ◌%◌, ◌<◌, ℕ, IfOk, length, map};
 ghost use Rattle.rand_core.specs.Stream.{next_u32};
 ghost use Rattle.physmap.specs.Holdings.{resident_pages};
 ghost use Rattle.tenant.specs.Tenants.{TenantIs, pages_in};
-ghost use Rattle.world.specs.Victims.{is_one_of, spared_of, may_leave, NoneResident, IsNextResident};
+ghost use Rattle.victims.specs.Victims.{IsNextResident};
 ghost use Rattle.tenant.specs.Tenants.{stat_of};
 
 use crate::World;
@@ -13,6 +13,7 @@ use std::alloc::{AllocError, Global};
 use swapstore::SwapStore;
 use taxpolicy::{Stat, Tax, victim};
 use tenant::{EvictError, Tenant};
+use victims::{Spared, spared_of};
 use word32::Ppn;
 
 /// Why a page that a guest needs gets no frame.
@@ -30,90 +31,15 @@ pub enum FaultError {
     Memory,
 }
 
-/// Pages of a guest that no eviction takes.
-#[derive(Clone, Copy, Debug, PartialEq, Eq)]
-pub struct Spared {
-    /// The guest's number.
-    pub guest: usize,
-    /// Its pages, one of them twice where it is the only one.
-    pub pages: (Ppn, Ppn),
-}
-
-// The pages of a guest that are spared.
-fn spared_of(spared: &Option<Spared>, g: usize) -> Option<(Ppn, Ppn)>
-    ensures { result ≡ spared_of spared.now g }
-{
-    match spared {
-        None => None,
-        Some(spared) => if spared.guest == g {
-            Some(spared.pages)
-        } else {
-            None
-        },
-    }
-}
-
-// Whether a page is one of two.
-fn is_one_of(pages: &Option<(Ppn, Ppn)>, p: Ppn) -> bool
-    ensures { result ≡ is_one_of pages.now p }
-{
-    match pages {
-        None => false,
-        Some(pages) => pages.0.number() == p.number() || pages.1.number() == p.number(),
-    }
-}
-
-// The first page from one number on to below another that is in a frame, but for those that are spared. It asks the guest at most once
-// more than there are of them.
-#[tactic(auto, using(crate::proofs::Victims::leaves, crate::proofs::Victims::passed_over, crate::proofs::Victims::spared_over))]
-fn first_resident(tenant: &Tenant, spared: &Option<(Ppn, Ppn)>, from: u32, to: u32) -> Option<Ppn>
-    requires { to ≤ length (pages_in tenant.now) }
-    ensures within { IfSome result (λ p. (from ≤ p) × (p < to)) }
-    ensures leaves { IfSome result (λ p. may_leave spared.now (pages_in tenant.now) p ≡ true) }
-    ensures first { IfSome result (λ p. NoneResident spared.now (pages_in tenant.now) from p) }
-    ensures none { IfNone result (NoneResident spared.now (pages_in tenant.now) from to) }
-{
-    let mut start = from;
-    while start < to {
-        let Some(page) = tenant.next_resident(start) else {
-            return None;
-        };
-        if page.number() >= to {
-            return None;
-        }
-        if !is_one_of(spared, page) {
-            return Some(page);
-        }
-        start = page.number() + 1;
-    }
-    None
-}
-
-// The first page at or after one that is in a frame, going round, but for those that are spared.
-fn next_resident(tenant: &Tenant, spared: &Option<(Ppn, Ppn)>, start: u32) -> Ppn
-    requires start { start < length (pages_in tenant.now) }
-    requires some { 2 < resident_pages (pages_in tenant.now) }
-    ensures { IsNextResident spared.now (pages_in tenant.now) start result }
-{
-    if let Some(page) = first_resident(tenant, spared, start, tenant.page_count()) {
-        return page;
-    }
-    match first_resident(tenant, spared, 0, start) {
-        Some(page) => page,
-        None => unreachable!(),
-    }
-}
-
 // A page of a guest's for the generator's next word, but for those that are spared.
 pub(crate) fn drawn_page<R: Rng>(tenant: &Tenant, spared: &Option<(Ppn, Ppn)>, rng: &mut R) -> Ppn
     requires { tenant.now.minimum < resident_pages (pages_in tenant.now) }
     ensures page { IsNextResident spared.now (pages_in tenant.now) ((next_u32 (R.stream rng.old)).0 % length (pages_in tenant.now)) result }
     ensures rest { R.stream rng.new ≡ (next_u32 (R.stream rng.old)).1 }
 {
-    // Who asks for the two knows that they are no more than the pages, and at least 2.
-    let _resident = tenant.resident();
+    // Who asks for it knows that it is at least 2.
     let _minimum = tenant.minimum();
-    next_resident(tenant, spared, rng.next_u32() % tenant.page_count())
+    victims::drawn_page(tenant.guest(), spared, rng.next_u32())
 }
 
 // What the policy knows of each guest.

@@ -77,13 +77,16 @@ fn for_room(stop: Stop) -> RunStop
 
 impl<S: SwapStore> World<S> {
     ghost use Rattle.std.specs.Prelude.{◌≡◌, ◌≢◌, ◌<◌, ◌≤◌, ◌↔◌, ◌++◌, ℕ, Some, None, IsSome, IfOk, IfErr, OnOk, OnErr, IsErrOf, length, map};
+    ghost use Rattle.items.specs.Entries.{steps_of};
+    ghost use Rattle.flatvm.specs.Items.{run};
     ghost use Rattle.guest_log.specs.Logs.{IsFull};
     ghost use Rattle.mips_step.specs.declared.access.Why.{Why};
+    ghost use Rattle.world.specs.Steps.{NoneNeeds};
     ghost use Rattle.world.specs.Events.{steps_for, IfStop, IsForRoom, IsSupplied, WhyHalted};
     ghost use Rattle.guest_log.specs.declared.stop.Stop.{Stop};
     ghost use Rattle.tenant.specs.Tenants.{TenantIs, Stays, AddsSteps, NothingHappens};
     ghost use Rattle.world.specs.Admission.{LimitsStay, BlockedStay};
-    ghost use Rattle.world.specs.Worlds.{Changes, SameAround, boot_of, log_at, guest_at, needed_by};
+    ghost use Rattle.world.specs.Worlds.{Changes, SameAround, boot_of, log_at, guest_at, pages_at, view_at, needed_by};
 
     // At most `count` steps of a guest, up to one that needs a page or gave one to the balloon (`stepping::run_in`).
     #[inline]
@@ -95,6 +98,8 @@ impl<S: SwapStore> World<S> {
         ensures short { IfOk result (λ made. IsSome made.1 → made.0 < count) }
         ensures need { S.true_to_digests self.old.store → (t : TenantIs) → IfOk result (λ made. (p : ℕ) (why : Why) → made.1 ≡ Some (p, why) →
             needed_by (guest_at self.new g t) ≡ Some (p, why)) }
+        ensures needs_none { S.true_to_digests self.old.store → (t : TenantIs) → IfOk result (λ made.
+            NoneNeeds made.0 (view_at self.old g t) (pages_at self.old g t) (pages_at self.new g t)) }
         ensures room { (t : TenantIs) → IfOk result (λ made. IsSome made.1 → IsFull (guest_at self.new g t).guest.log → ⊥) }
         ensures adds { IfOk result (λ made. Changes (λ t t'. AddsSteps t made.0 t') g self.old.tenants self.new.tenants) }
         ensures full { (t : TenantIs) → (IsErrOf result Stop.LogFull ↔ IsFull (guest_at self.old g t).guest.log) }
@@ -123,6 +128,9 @@ impl<S: SwapStore> World<S> {
         ensures some { IfOk result (λ steps. 0 < steps) }
         ensures few { IfOk result (λ steps. steps ≤ count) }
         ensures logs { IfOk result (λ steps. (h : ℕ) → log_at self.new.tenants h ≡ log_at self.old.tenants h ++ steps_for h g steps) }
+        ensures view { IfOk result (λ steps. (t : TenantIs) → view_at self.new g t ≡ run (steps_of 0 steps) (view_at self.old g t)) }
+        ensures needs_none { S.true_to_digests self.old.store → (t : TenantIs) → IfOk result (λ steps.
+            NoneNeeds steps (view_at self.old g t) (pages_at self.old g t) (pages_at self.new g t)) }
         ensures nothing { OnErr result (Changes NothingHappens g self.old.tenants self.new.tenants × SameAround self.old self.new) }
         ensures stays { Changes Stays g self.old.tenants self.new.tenants }
         ensures boots { map boot_of self.new.tenants ≡ map boot_of self.old.tenants }
@@ -152,13 +160,16 @@ impl<S: SwapStore> World<S> {
 
     /// At most `count` steps of a guest with no page supplied: those that it makes before one needs a page, or before its log has no
     /// room, which is `Stop(LogFull)`, or `Stop(Memory)` where a request for memory was refused. After the last step it is not
-    /// asked what the next one needs.
+    /// asked what the next one needs. None of those that it makes needs a page that is lacking then, and the pages that they give are those
+    /// of its view.
     pub fn steps(&mut self, g: usize, count: u32) -> Ran
         requires { g < length self.old.tenants }
         ensures logs { (h : ℕ) → log_at self.new.tenants h ≡ log_at self.old.tenants h ++ steps_for h g result.steps }
         ensures boots { map boot_of self.new.tenants ≡ map boot_of self.old.tenants }
         ensures most { result.steps ≤ count }
         ensures done { result.end ≡ End.Done ↔ result.steps ≡ count }
+        ensures needs_none { S.true_to_digests self.old.store → (t : TenantIs) →
+            NoneNeeds result.steps (view_at self.old g t) (pages_at self.old g t) (pages_at self.new g t) }
         ensures need { S.true_to_digests self.old.store → (p : ℕ) (why : Why) → result.end ≡ End.Need p why → (t : TenantIs) →
             needed_by (guest_at self.new g t) ≡ Some (p, why) }
         ensures full { result.end ≡ End.Stop RunStop.LogFull → (t : TenantIs) → IsFull (guest_at self.new g t).guest.log }

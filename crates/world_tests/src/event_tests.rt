@@ -529,6 +529,7 @@ fn word(answer: &Answer) -> &'static str {
         Answer::Ran(_) => "not all made",
         Answer::Input(Ok(_)) => "accepted",
         Answer::Input(Err(_)) => "refused",
+        Answer::Fed(_) => "fed",
         Answer::Probed(Ok(_)) => "read",
         Answer::Probed(Err(_)) => "not read",
         Answer::Written(Ok(())) => "written",

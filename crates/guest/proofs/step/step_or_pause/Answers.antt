@@ -1,11 +1,12 @@
-use Rattle.std.proofs.Common.{sym, ap, subst, ◌∙◌}
+use Rattle.std.proofs.Common.{ℕ, ◌≡◌, ◌<◌, length, Option, Some, None, sym, ap, subst, ◌∙◌}
 use Rattle.mips_step.specs.Bus.{Lacks}
 use Rattle.mips_step.specs.Accesses.{accesses, first_lack}
 use Rattle.mips_step.specs.Step.{Machine, in_world, step}
 use Rattle.paging.specs.Faith.{Kept}
-use Rattle.paged_bus.specs.Buses.{PagedBusIs, world_of}
+use Rattle.paged_bus.specs.Buses.{PagedBusIs, world_of, pages_settled, page_returned}
 use Rattle.paged_bus.proofs.Same.{same_buses}
 use Rattle.guest.specs.Views.{pages_seen, Shows}
+use Rattle.guest.proofs.Reaching.{need_inside}
 use Rattle.guest.proofs.Showing.{settled_already, shows_after, kept_after}
 use Rattle.guest.proofs.Stepping.{same_lacks, step_happened, step_cpu}
 use Rattle.guest.proofs.step.step_or_pause.Goals as goal
@@ -64,3 +65,40 @@ returns-in-Need-clause-unchanged c = λ needs.
       ap (λ (n : Machine). n.cpu) told.moves,
       same_buses c.step.new.bus c.args.bus.now c.whole-in-Need.ensures c.whole.ensures told.waiting c.requires.settled told.kept (ap (λ (n : Machine). n.world) told.moves),
     )
+
+pub returns-in-None-clause-lacking : goal.returns-in-None-clause-lacking
+returns-in-None-clause-lacking c = λ made.
+    ap (λ (lacks : Lacks). first_lack lacks (accesses (in_world c.args.cpu.now (world_of c.args.bus.now)))) (sym (same_lacks c.args.bus.now.pages)) ∙ sym c.in-Done.ensures.need
+
+pub returns-in-Some-clause-lacking : goal.returns-in-Some-clause-lacking
+returns-in-Some-clause-lacking c = λ made.
+    ap (λ (lacks : Lacks). first_lack lacks (accesses (in_world c.args.cpu.now (world_of c.args.bus.now)))) (sym (same_lacks c.args.bus.now.pages)) ∙ sym c.in-Done.ensures.need
+
+pub returns-in-Some-clause-moves : goal.returns-in-Some-clause-moves
+returns-in-Some-clause-moves c = λ made. ap (in_world c.step.new.self) c.settled.ensures.world ∙ c.in-Done.ensures.moves
+
+pub returns-in-None-clause-paused : goal.returns-in-None-clause-paused
+returns-in-None-clause-paused c = λ made. (sym c.in-Done.ensures.waiting ∙ sym c.waiting.ensures ∙ c.in-None.is, c.in-Done.ensures.kept)
+
+pub returns-in-Some-clause-paused : goal.returns-in-Some-clause-paused
+returns-in-Some-clause-paused c = λ made.
+    let told = c.in-Done.ensures in
+    let b = c.settled.ensures.bus in (
+      λ none.
+          let not : None ≡ Some c.in-Some.field-0 = sym none ∙ sym told.waiting ∙ sym c.waiting.ensures ∙ c.in-Some.is in
+          absurd (cc),
+      record {
+        before = c.step.new.bus.pages;
+        same = told.kept;
+        pages = ap (λ (bus : PagedBusIs). bus.pages) b ∙ ap (λ (given : Option ℕ). pages_settled given c.step.new.bus.pages) told.waiting;
+        what = c.settled.ensures.returned ∙ ap (λ (given : Option ℕ). page_returned given c.step.new.bus.pages) told.waiting;
+      },
+    )
+
+pub returns-in-Need-clause-there : goal.returns-in-Need-clause-there
+returns-in-Need-clause-there c = λ p why is.
+    let b = c.args.bus.now in
+    let inside = need_inside c.args.cpu.now b (Some (c.in-Need.lacking, c.in-Need.why)) c.whole.ensures c.requires.settled
+    (c.in-Need.ensures.need ∙ ap (λ (lacks : Lacks). first_lack lacks (accesses (in_world c.args.cpu.now (world_of b)))) (same_lacks b.pages)) in
+    let e : c.in-Need.lacking ≡ p = cc in
+    subst (λ (n : ℕ). n < length b.pages) e inside

@@ -1,23 +1,38 @@
-use Rattle.std.proofs.Common.{ℕ, subst}
+use Rattle.std.proofs.Common.{ℕ, subst, sym}
+use Rattle.std.specs.Option.{option_to_list}
 use Rattle.frames.specs.Frames.{FrameIs}
-use Rattle.frames.specs.FreeList.{FreeList}
 use Rattle.sharetab.specs.Books.{Leaves}
+use Rattle.physmap.specs.declared.page.Returned.TheVariants as returned
 use Rattle.physmap.specs.Pages.{page_at, shown}
-use Rattle.paging.proofs.Supplying.{copy_conserves, private_reads}
+use Rattle.paging.specs.Moves.{Takes}
+use Rattle.paging.specs.Returns.{Frees}
+use Rattle.paging.proofs.Evicting.{ticket_frees}
+use Rattle.paging.proofs.Supplying.{copy_frames, copy_tickets, private_reads}
 use Rattle.paging.proofs.supply.supply_copy.Goals as goal
 
-pub returns-clause-conserves : goal.returns-clause-conserves
-returns-clause-conserves g c = λ book.
+pub returns-in-Ok-clause-frames : goal.returns-in-Ok-clause-frames
+returns-in-Ok-clause-frames g c = λ pool rest takes.
     let ps = g.P.Pages.pages c.args.pages.now in
-    let frame : FrameIs = record { number = c.in_ok-frame.frame.number; bytes = shown (page_at ps c.args.p) } in
-    copy_conserves ps (g.P.Pages.pages c.supply_copy-ticket.new.self) c.args.pool.now c.free_frame.new.pool c.ticket_back.new.pool book c.args.shares.now.entries c.ticket_back.new.shares.entries c.args.p frame
-    c.requires.there c.requires.kind c.supply_copy-ticket.ensures.pages c.in_ok-frame.ensures.taken c.ticket_back.ensures.frames c.ticket_back.ensures.out
-    (subst (λ (t : ℕ). Leaves c.args.shares.now.entries t c.ticket_back.new.shares.entries) c.supply_copy-ticket.ensures.ticket c.ticket_back.ensures.leaves)
+    let es = c.args.shares.now.entries in
+    let es' = c.leave.new.self.entries in
+    let frame : FrameIs = record { number = c.in-Ok.frame.number; bytes = shown (page_at ps c.args.p) } in
+    copy_frames ps (g.P.Pages.pages c.supply_copy-ticket.new.self) pool rest es es' (option_to_list c.leave.result) c.args.p frame
+    c.requires.there c.requires.kind c.supply_copy-ticket.ensures.pages (subst (λ (n : ℕ). Takes pool n rest) (sym c.in-Ok.ensures.number) takes)
+    (subst (λ (t : ℕ). Frees (returned.Ticket t) es es' (option_to_list c.leave.result)) c.supply_copy-ticket.ensures.ticket
+    (ticket_frees c.supply_copy-ticket.result es es' c.leave.result c.leave.ensures.entries c.leave.ensures.frame))
 
-pub returns-clause-reads : goal.returns-clause-reads
-returns-clause-reads g c =
+pub returns-in-Ok-clause-tickets : goal.returns-in-Ok-clause-tickets
+returns-in-Ok-clause-tickets g c =
     let ps = g.P.Pages.pages c.args.pages.now in
-    let frame : FrameIs = record { number = c.in_ok-frame.frame.number; bytes = shown (page_at ps c.args.p) } in
-    let any : FreeList = c.args.pool.now in
-    private_reads c.args.shares.now.entries c.ticket_back.new.shares.entries ps (g.P.Pages.pages c.supply_copy-ticket.new.self) c.args.p frame
-    c.requires.there c.supply_copy-ticket.ensures.pages (returns-clause-conserves g c any).tickets c.requires.covered
+    let es = c.args.shares.now.entries in
+    let es' = c.leave.new.self.entries in
+    let frame : FrameIs = record { number = c.in-Ok.frame.number; bytes = shown (page_at ps c.args.p) } in
+    copy_tickets ps (g.P.Pages.pages c.supply_copy-ticket.new.self) es es' c.args.p frame
+    c.requires.there c.requires.kind c.supply_copy-ticket.ensures.pages (subst (λ (t : ℕ). Leaves es t es') c.supply_copy-ticket.ensures.ticket c.leave.ensures.entries)
+
+pub returns-in-Ok-clause-reads : goal.returns-in-Ok-clause-reads
+returns-in-Ok-clause-reads g c =
+    let ps = g.P.Pages.pages c.args.pages.now in
+    let frame : FrameIs = record { number = c.in-Ok.frame.number; bytes = shown (page_at ps c.args.p) } in
+    private_reads c.args.shares.now.entries c.leave.new.self.entries ps (g.P.Pages.pages c.supply_copy-ticket.new.self) c.args.p frame
+    c.requires.there c.supply_copy-ticket.ensures.pages (returns-in-Ok-clause-tickets g c) c.requires.covered

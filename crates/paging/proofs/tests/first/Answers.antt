@@ -1,12 +1,10 @@
-use Rattle.std.proofs.Common.{ℕ, List, [], ◌∷◌, Option, Some, None, subst}
-use Rattle.std.specs.Option.{option_to_list}
-use Rattle.frames.specs.FreeList.{FreeList}
-use Rattle.paging.specs.Moves.{MovesFrames, Gives, Takes}
+use Rattle.std.proofs.Common.{ℕ}
 use Rattle.paging.proofs.OneOwner.{one_after}
 use Rattle.paging.proofs.tests.first.Goals as goal
 
 pub returns : goal.returns
 returns g c =
     let old = c.args.parts.now in
-    one_after 3 2 old.map c.supply_first.new.pages old.shares.entries old.shares.entries old.pool c.supply_first.new.pool old.slots old.slots
-    (c.supply_first.ensures.conserves old.slots old.shares.entries) (c.supply_first.ensures.reads old.shares.entries) c.requires
+    one_after 3 2 old.map c.supply_first.new.pages old.shares.entries old.shares.entries old.pool c.take.new.self old.slots old.slots
+    (c.in-Ok.ensures.conserves old.pool c.take.new.self old.slots old.shares.entries (record { numbers = c.in-Some.ensures.taken; out = c.in-Some.ensures.out }))
+    (c.supply_first.ensures.reads old.shares.entries) c.requires

@@ -9,7 +9,7 @@ returns-in-Ok-clause-conserves g c =
     let old = c.args.shares.now.entries in
     let new = c.evict_in.new.shares.entries in
     evicted_conserves (g.P.Pages.pages c.args.pages.now) (g.P.Pages.pages c.evict_in.new.pages) c.args.pool.now c.frame_back.new.pool c.args.slots.now c.take.new.self old new c.in-Some.slot
-    (c.frame_back.ensures (g.P.Pages.pages c.args.pages.now) (g.P.Pages.pages c.evict_in.new.pages) old new (c.in-Ok.ensures.frames c.args.pool.now))
+    (c.frame_back.ensures (g.P.Pages.pages c.args.pages.now) (g.P.Pages.pages c.evict_in.new.pages) c.args.pool.now old new (c.in-Ok.ensures.frames c.args.pool.now))
     (record { numbers = c.in-Some.ensures.taken; out = c.in-Some.ensures.out }) (c.in-Ok.ensures.used c.take.new.self) c.evict_in.ensures.tickets
 
 pub returns-in-Ok-clause-kept : goal.returns-in-Ok-clause-kept

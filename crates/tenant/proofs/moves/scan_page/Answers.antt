@@ -15,7 +15,7 @@ returns-clause-conserves g c = λ book.
     let old = c.args.shares.now.entries in
     let new = c.scan_in-scan.new.shares.entries in
     scanned_conserves ps ps' c.args.pool.now c.frame_back.new.pool book old new
-    (c.frame_back.ensures ps ps' old new (c.scan_in-scan.ensures.frames c.args.pool.now)) (c.scan_in-scan.ensures.slots book) c.scan_in-scan.ensures.tickets
+    (c.frame_back.ensures ps ps' c.args.pool.now old new (c.scan_in-scan.ensures.frames c.args.pool.now)) (c.scan_in-scan.ensures.slots book) c.scan_in-scan.ensures.tickets
 
 pub returns-clause-comes : goal.returns-clause-comes
 returns-clause-comes g c = (option_to_list c.scan_in-scan.result.1, c.scan_in-scan.ensures.comes)

@@ -1,6 +1,7 @@
-use Rattle.std.proofs.Common.{◌≡◌, ◌∙◌, ℕ, List, Option, Some, sym, ap, subst, arith}
+use Rattle.std.proofs.Common.{◌≡◌, ◌∙◌, ℕ, ◌+◌, ◌<◌, List, length, Option, Some, None, sym, ap, subst, arith}
 use Rattle.items.specs.Entries.{steps_of}
 use Rattle.mips_step.specs.Accesses.{accesses, first_lack}
+use Rattle.mips_step.specs.Given.{step_given}
 use Rattle.mips_step.specs.Step.{Machine}
 use Rattle.flatvm.specs.Boot.{boot_machine}
 use Rattle.flatvm.specs.Items.{run}
@@ -8,9 +9,10 @@ use Rattle.paging.specs.Faith.{Kept}
 use Rattle.mips_step.specs.declared.access.Why.{Why}
 use Rattle.paged_bus.specs.Lacking.{lacks_in}
 use Rattle.guest.specs.declared.progress.Pause.TheVariants as pause
-use Rattle.guest.specs.Guests.{GuestIs, guest_of, view_of, Intact}
+use Rattle.guest.specs.Guests.{GuestIs, guest_of, view_of, standing, Intact, last_given, HasPaused}
 use Rattle.guest.specs.Views.{pages_seen, Shows}
 use Rattle.guest.proofs.Logging.{run_on, view_zeros}
+use Rattle.guest.proofs.Pausing.{view_lacking, view_given, view_last}
 use Rattle.guest.proofs.Running.{accepted_on, no_step, not_full_before}
 use Rattle.guest.proofs.Stepping.{need_alike}
 use Rattle.guest.proofs.guest.Guest.run.Goals as goal
@@ -98,3 +100,99 @@ returns-then-progress-gt0-clause-room c = λ p why is full.
     let g = c.self.inside in
     not_full_before g.journal.log c.steps.new.self.log c.args.seat.now.number c.steps_with_room-most.result c.run_pages-progress.result.steps c.steps_with_room-most.ensures.room
     (c.run_pages-progress.ensures.short p why is) c.steps.ensures.adds.items c.steps.ensures.adds.limit full
+
+pub returns-then-progress-gt0-clause-quiet : goal.returns-then-progress-gt0-clause-quiet
+returns-then-progress-gt0-clause-quiet c =
+    let g = c.self.inside in
+    let boot = boot_machine g.image.value g.pages in
+    let now = guest_of g.cpu g.bus boot g.journal in
+    let progress = c.run_pages-progress in
+    let told = progress.ensures in
+    subst (λ (g : GuestIs). Intact g → (k : ℕ) → k < progress.result.steps → first_lack (lacks_in g.bus.pages) (accesses (run (steps_of c.args.seat.now.number k) (view_of g))) ≡ None) c.self.view_is
+    (λ (intact : Intact now). view_lacking c.args.seat.now.number progress.result.steps (view_of now) g.cpu g.bus told.whole c.self.invariant intact.shows
+    (view_zeros g.journal.log.items g.image.value g.pages) told.lacking told.gives_last)
+
+pub returns-then-progress-gt0-clause-gives_last : goal.returns-then-progress-gt0-clause-gives_last
+returns-then-progress-gt0-clause-gives_last c =
+    let g = c.self.inside in
+    let boot = boot_machine g.image.value g.pages in
+    let now = guest_of g.cpu g.bus boot g.journal in
+    let progress = c.run_pages-progress in
+    let told = progress.ensures in
+    subst (λ (g : GuestIs). Intact g → (k : ℕ) → k + 1 < progress.result.steps → step_given (run (steps_of c.args.seat.now.number k) (view_of g)) ≡ None) c.self.view_is
+    (λ (intact : Intact now). view_given c.args.seat.now.number progress.result.steps (view_of now) g.cpu g.bus told.whole c.self.invariant intact.shows
+    (view_zeros g.journal.log.items g.image.value g.pages) told.lacking told.gives_last)
+
+pub returns-then-progress-gt0-clause-given : goal.returns-then-progress-gt0-clause-given
+returns-then-progress-gt0-clause-given c =
+    let g = c.self.inside in
+    let boot = boot_machine g.image.value g.pages in
+    let now = guest_of g.cpu g.bus boot g.journal in
+    let progress = c.run_pages-progress in
+    let told = progress.ensures in
+    subst (λ (g : GuestIs). Intact g → last_given c.args.seat.now.number progress.result.steps (standing g) ≡ last_given c.args.seat.now.number progress.result.steps (view_of g)) c.self.view_is
+    (λ (intact : Intact now). view_last c.args.seat.now.number progress.result.steps (view_of now) g.cpu g.bus told.whole c.self.invariant intact.shows
+    (view_zeros g.journal.log.items g.image.value g.pages) told.lacking told.gives_last)
+
+pub returns-then-progress-gt0-clause-paused : goal.returns-then-progress-gt0-clause-paused
+returns-then-progress-gt0-clause-paused c =
+    let g = c.self.inside in
+    let boot = boot_machine g.image.value g.pages in
+    let now = guest_of g.cpu g.bus boot g.journal in
+    let progress = c.run_pages-progress in
+    let told = progress.ensures in
+    subst (λ (g : GuestIs). HasPaused (last_given c.args.seat.now.number progress.result.steps (standing g)) g.bus.pages progress.result.pause progress.new.bus.pages) c.self.view_is
+    (told.paused c.args.seat.now.number)
+
+pub returns-else-progress-gt0-clause-quiet : goal.returns-else-progress-gt0-clause-quiet
+returns-else-progress-gt0-clause-quiet c =
+    let g = c.self.inside in
+    let boot = boot_machine g.image.value g.pages in
+    let now = guest_of g.cpu g.bus boot g.journal in
+    let progress = c.run_pages-progress in
+    let told = progress.ensures in
+    subst (λ (g : GuestIs). Intact g → (k : ℕ) → k < progress.result.steps → first_lack (lacks_in g.bus.pages) (accesses (run (steps_of c.args.seat.now.number k) (view_of g))) ≡ None) c.self.view_is
+    (λ (intact : Intact now). view_lacking c.args.seat.now.number progress.result.steps (view_of now) g.cpu g.bus told.whole c.self.invariant intact.shows
+    (view_zeros g.journal.log.items g.image.value g.pages) told.lacking told.gives_last)
+
+pub returns-else-progress-gt0-clause-gives_last : goal.returns-else-progress-gt0-clause-gives_last
+returns-else-progress-gt0-clause-gives_last c =
+    let g = c.self.inside in
+    let boot = boot_machine g.image.value g.pages in
+    let now = guest_of g.cpu g.bus boot g.journal in
+    let progress = c.run_pages-progress in
+    let told = progress.ensures in
+    subst (λ (g : GuestIs). Intact g → (k : ℕ) → k + 1 < progress.result.steps → step_given (run (steps_of c.args.seat.now.number k) (view_of g)) ≡ None) c.self.view_is
+    (λ (intact : Intact now). view_given c.args.seat.now.number progress.result.steps (view_of now) g.cpu g.bus told.whole c.self.invariant intact.shows
+    (view_zeros g.journal.log.items g.image.value g.pages) told.lacking told.gives_last)
+
+pub returns-else-progress-gt0-clause-given : goal.returns-else-progress-gt0-clause-given
+returns-else-progress-gt0-clause-given c =
+    let g = c.self.inside in
+    let boot = boot_machine g.image.value g.pages in
+    let now = guest_of g.cpu g.bus boot g.journal in
+    let progress = c.run_pages-progress in
+    let told = progress.ensures in
+    subst (λ (g : GuestIs). Intact g → last_given c.args.seat.now.number progress.result.steps (standing g) ≡ last_given c.args.seat.now.number progress.result.steps (view_of g)) c.self.view_is
+    (λ (intact : Intact now). view_last c.args.seat.now.number progress.result.steps (view_of now) g.cpu g.bus told.whole c.self.invariant intact.shows
+    (view_zeros g.journal.log.items g.image.value g.pages) told.lacking told.gives_last)
+
+pub returns-else-progress-gt0-clause-paused : goal.returns-else-progress-gt0-clause-paused
+returns-else-progress-gt0-clause-paused c =
+    let g = c.self.inside in
+    let boot = boot_machine g.image.value g.pages in
+    let now = guest_of g.cpu g.bus boot g.journal in
+    let progress = c.run_pages-progress in
+    let told = progress.ensures in
+    subst (λ (g : GuestIs). HasPaused (last_given c.args.seat.now.number progress.result.steps (standing g)) g.bus.pages progress.result.pause progress.new.bus.pages) c.self.view_is
+    (told.paused c.args.seat.now.number)
+
+pub returns-then-progress-gt0-clause-there : goal.returns-then-progress-gt0-clause-there
+returns-then-progress-gt0-clause-there c =
+    subst (λ (g : GuestIs). (p : ℕ) (why : Why) → c.run_pages-progress.result.pause ≡ Some (pause.Need p why) → p < length g.bus.pages) c.self.view_is
+    c.run_pages-progress.ensures.there
+
+pub returns-else-progress-gt0-clause-there : goal.returns-else-progress-gt0-clause-there
+returns-else-progress-gt0-clause-there c =
+    subst (λ (g : GuestIs). (p : ℕ) (why : Why) → c.run_pages-progress.result.pause ≡ Some (pause.Need p why) → p < length g.bus.pages) c.self.view_is
+    c.run_pages-progress.ensures.there

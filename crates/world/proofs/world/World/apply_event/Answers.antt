@@ -23,6 +23,11 @@ returns-in-Input-clause-answered g c =
     let s = g.S.SwapStore in
     subst (λ (e : Event). IsAnswered s.true_to_digests s.failed s.honest c.args.tax.percent c.args.self.now c.apply_input.new.self e c.apply_input.result) (sym c.in-Input.is) (c.apply_input.ensures.answered c.args.tax.percent)
 
+pub returns-in-Feed-clause-answered : goal.returns-in-Feed-clause-answered
+returns-in-Feed-clause-answered g c =
+    let s = g.S.SwapStore in
+    subst (λ (e : Event). IsAnswered s.true_to_digests s.failed s.honest c.args.tax.percent c.args.self.now c.apply_feed.new.self e c.apply_feed.result) (sym c.in-Feed.is) (c.apply_feed.ensures.answered c.args.tax.percent)
+
 pub returns-in-Probe-clause-answered : goal.returns-in-Probe-clause-answered
 returns-in-Probe-clause-answered g c =
     let s = g.S.SwapStore in

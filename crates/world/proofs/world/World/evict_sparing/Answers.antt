@@ -7,10 +7,11 @@ use Rattle.taxpolicy.specs.Victim.{IsEligible, victim_of}
 use Rattle.tenant.specs.declared.moves.EvictError.{EvictError}
 use Rattle.tenant.specs.Lent.{WhyStays}
 use Rattle.tenant.specs.Tenants.{TenantIs, pages_in}
-use Rattle.world.specs.Victims.{spared_of, may_leave, IsNextResident}
+use Rattle.victims.specs.Victims.{spared_of, may_leave, IsNextResident}
 use Rattle.tenant.specs.Tenants.{stat_of}
 use Rattle.physmap.specs.Pages.{kind_at, is_resident}
-use Rattle.world.proofs.Victims.{least_at, only_pages, fewer, none_free, leaves_resident, evicted_spares}
+use Rattle.world.proofs.Victims.{least_at, only_pages, fewer, none_free, evicted_spares}
+use Rattle.victims.proofs.Searching.{leaves_resident}
 use Rattle.world.proofs.world.World.evict_sparing.Goals as goal
 
 pub drawn_page-p-requires : goal.drawn_page-p-requires

@@ -1,3 +1,5 @@
+use Rattle.std.proofs.Common.{get_or}
+use Rattle.world.proofs.Unsupplied.{view_moves}
 use Rattle.world.proofs.Worlds.{same_boots, steps_logs}
 use Rattle.world.proofs.world.World.some_steps.Goals as goal
 
@@ -13,3 +15,7 @@ returns-then-steps-gt0-clause-boots g c = same_boots c.args.g c.args.self.now.te
 
 pub returns-clause-boots : goal.returns-clause-boots
 returns-clause-boots g c = same_boots c.args.g c.args.self.now.tenants c.run_once.new.self.tenants c.requires.guest c.run_once.ensures.stays
+
+pub returns-then-steps-gt0-clause-view : goal.returns-then-steps-gt0-clause-view
+returns-then-steps-gt0-clause-view g c = λ t.
+    view_moves (get_or c.args.self.now.tenants c.args.g t) (get_or c.run_once.new.self.tenants c.args.g t) c.in-Ok.ran.0 (c.in-Ok.ensures.adds.so t) (c.run_once.ensures.stays.so t)

@@ -1,7 +1,12 @@
-use Rattle.std.proofs.Common.{◌∙◌, Err, ap, sym, subst, arith}
-use Rattle.world.proofs.Runs.{still_there, steps_join, stays_then}
+use Rattle.std.proofs.Common.{◌∙◌, Err, ap, refl, sym, subst, arith}
+use Rattle.guest.proofs.Running.{no_step}
+use Rattle.world.proofs.Runs.{still_there, steps_join, steps_none, stays_none, stays_then}
 use Rattle.world.proofs.Worlds.{same_logs}
-use Rattle.world.specs.Worlds.{log_at}
+use Rattle.mips_step.specs.Step.{Machine}
+use Rattle.paged_bus.specs.Buses.{PagedBusIs}
+use Rattle.world.specs.Steps.{NoneNeeds}
+use Rattle.world.specs.Worlds.{log_at, pages_at, view_at}
+use Rattle.world.proofs.Unsupplied.{no_steps, then_more, same_places, view_on}
 use Rattle.world.proofs.world.World.steps.Goals as goal
 
 pub returns-in-Err-clause-logs : goal.returns-in-Err-clause-logs
@@ -27,6 +32,12 @@ loop-made-preserved g c =
       none = λ none. absurd (omega (arith, none, c.in-Ok.ensures.some));
       logs = λ h. steps_join h c.args.g at.made c.in-Ok.steps (log_at c.args.self.now.tenants h) (log_at at.self.tenants h) (log_at c.some_steps.new.self.tenants h) (at.invariant.logs h)
           (c.in-Ok.ensures.logs h);
+      view = λ t. view_on at.made c.in-Ok.steps (view_at c.args.self.now c.args.g t) (view_at at.self c.args.g t) (view_at c.some_steps.new.self c.args.g t) (at.invariant.view t) (c.in-Ok.ensures.view t);
+      needs_none = λ trust t.
+          then_more at.made c.in-Ok.steps (view_at c.args.self.now c.args.g t) (pages_at c.args.self.now c.args.g t) (pages_at at.self c.args.g t) (pages_at c.some_steps.new.self c.args.g t)
+          (at.invariant.needs_none trust t)
+          (subst (λ (m : Machine). NoneNeeds c.in-Ok.steps m (pages_at at.self c.args.g t) (pages_at c.some_steps.new.self c.args.g t)) (at.invariant.view t)
+          (c.in-Ok.ensures.needs_none (subst g.S.SwapStore.true_to_digests (sym at.invariant.store) trust) t));
       boots = c.some_steps.ensures.boots ∙ at.invariant.boots;
       stays = stays_then c.args.g c.args.self.now.tenants at.self.tenants c.some_steps.new.self.tenants at.invariant.stays c.some_steps.ensures.stays;
       hints = c.some_steps.ensures.hints ∙ at.invariant.hints;
@@ -34,3 +45,25 @@ loop-made-preserved g c =
       frames = c.some_steps.ensures.frames ∙ at.invariant.frames;
       level = c.some_steps.ensures.level ∙ at.invariant.level;
     }
+
+pub returns-in-Err-clause-needs_none : goal.returns-in-Err-clause-needs_none
+returns-in-Err-clause-needs_none g c = λ trust t.
+    let at = c.loop-made in
+    same_places at.made (view_at c.args.self.now c.args.g t) (pages_at c.args.self.now c.args.g t) (pages_at at.self c.args.g t) (pages_at c.some_steps.new.self c.args.g t)
+    (at.invariant.needs_none trust t) (ap (λ (b : PagedBusIs). b.pages) (c.in-Err.ensures.nothing.0.so t).bus)
+
+pub loop-made-init : goal.loop-made-init
+loop-made-init g c = record {
+  inside = c.requires;
+  few = omega arith;
+  none = λ none. refl;
+  logs = λ h. steps_none h c.args.g (log_at c.args.self.now.tenants h);
+  view = λ t. sym (no_step 0 (view_at c.args.self.now c.args.g t));
+  needs_none = λ trust t. no_steps (view_at c.args.self.now c.args.g t) (pages_at c.args.self.now c.args.g t) (pages_at c.args.self.now c.args.g t) refl;
+  boots = refl;
+  stays = stays_none c.args.g c.args.self.now.tenants;
+  hints = refl;
+  store = refl;
+  frames = refl;
+  level = refl;
+}

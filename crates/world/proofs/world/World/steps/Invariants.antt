@@ -1,7 +1,10 @@
 use Rattle.std.proofs.Common.{◌≡◌, ℕ, ◌-◌, ◌<◌, ◌≤◌, ◌++◌, length, map}
-use Rattle.tenant.specs.Tenants.{Stays}
+use Rattle.items.specs.Entries.{steps_of}
+use Rattle.flatvm.specs.Items.{run}
+use Rattle.tenant.specs.Tenants.{TenantIs, Stays}
 use Rattle.world.specs.Events.{steps_for}
-use Rattle.world.specs.Worlds.{Changes, boot_of, log_at}
+use Rattle.world.specs.Steps.{NoneNeeds}
+use Rattle.world.specs.Worlds.{Changes, boot_of, log_at, pages_at, view_at}
 use Rattle.world.proofs.world.World.steps.Given as goal
 
 -- the log has the steps so far, and before the first nothing has happened
@@ -11,6 +14,8 @@ invariant-loop-made g l = record {
   few : l.made ≤ l.count;
   none : l.made ≡ 0 → l.self ≡ l.fn.self;
   logs : (h : ℕ) → log_at l.self.tenants h ≡ log_at l.fn.self.tenants h ++ steps_for h l.g l.made;
+  view : (t : TenantIs) → view_at l.self l.g t ≡ run (steps_of 0 l.made) (view_at l.fn.self l.g t);
+  needs_none : g.S.SwapStore.true_to_digests l.fn.self.store → (t : TenantIs) → NoneNeeds l.made (view_at l.fn.self l.g t) (pages_at l.fn.self l.g t) (pages_at l.self l.g t);
   boots : map boot_of l.self.tenants ≡ map boot_of l.fn.self.tenants;
   stays : Changes Stays l.g l.fn.self.tenants l.self.tenants;
   hints : l.self.shares.hints ≡ l.fn.self.shares.hints;
