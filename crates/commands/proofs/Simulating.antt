@@ -13,11 +13,10 @@ use Rattle.script.specs.Views.{event_view, guest_view, script_view}
 use Rattle.script.specs.declared.header.Script.{Script as ScriptCode}
 use Rattle.world.specs.declared.boot.NewGuest.{NewGuest}
 use Rattle.world.specs.Boots.{AreAdmitted, AreWithinLimits}
-use Rattle.simulation.specs.Transcripts.{IsTranscript}
-use Rattle.simulation.specs.Effects.{IsFor}
+use Rattle.simulation.specs.Acts.{IsFor}
 use Rattle.script.specs.Scripts.{Script, script_of}
 use Rattle.commands.specs.Faults.{IsRefusedScript}
-use Rattle.commands.specs.Sims.{IsKnown, IsSimulation, config_of, line_numbers, numbers_of}
+use Rattle.commands.specs.Sims.{IsKnown, IsOver, IsSimulation, config_of, line_numbers, numbers_of}
 
 has_them : (lines : List headers.GuestLine) (g pages : ℕ) → has_pages (slice_get lines g) pages ≡ true → g < length lines
 has_them [] g pages e = absurd (cc)
@@ -69,7 +68,7 @@ all_for guests slots (e ∷ events) allowed =
 
 -- what is replied to a script, where it is
 pub simulated : {E : Type 0} (r : Result (String Global) E) (text : List ℕ) (script : ScriptCode) (guests : List NewGuest) → script_of text ≡ Ok (script_view script) → IsKnown (script_view script)
-    → map numbers_of guests ≡ map line_numbers script.header.guests.items → IfOk r (λ replies. IsTranscript (Unit {0}) guests script.events.items (string_bytes replies))
+    → map numbers_of guests ≡ map line_numbers script.header.guests.items → IfOk r (λ replies. IsOver script.header.failure (config_of script.header) script.header.slots guests script.events.items (string_bytes replies))
     → IfOk r (λ replies. AreWithinLimits (config_of script.header) script.header.slots guests)
     → IfOk r (λ replies. AreAdmitted (config_of script.header) script.header.slots guests) → IfOk r (λ replies. IsSimulation text (string_bytes replies))
 simulated (Err error) text script guests reads known numbers transcript within admitted = tt

@@ -2,11 +2,10 @@
 ghost use Rattle.std.specs.Prelude.{◌≡◌, ◌⊎◌, ◌↔◌, All, IfErr, IfOk, IsTrue, Ok, length, map, string_bytes};
 ghost use Rattle.script.specs.Scripts.{script_of};
 ghost use Rattle.script.specs.Views.{script_view};
-ghost use Rattle.simulation.specs.Effects.{IsFor};
-ghost use Rattle.simulation.specs.Transcripts.{IsTranscript};
+ghost use Rattle.simulation.specs.Acts.{IsFor};
 ghost use Rattle.world.specs.Boots.{AreAdmitted, AreWithinLimits};
 ghost use Rattle.commands.specs.Faults.{IsFileFault, IsScriptFault, IsSimFault, IsToldFault};
-ghost use Rattle.commands.specs.Sims.{IsKnown, IsSimulation, config_of, line_numbers, numbers_of};
+ghost use Rattle.commands.specs.Sims.{IsKnown, IsOver, IsSimulation, config_of, line_numbers, numbers_of};
 
 use crate::fault::{Fault, of_file};
 use crate::image_file::{Loaded, elf_image, whole_file};
@@ -145,7 +144,7 @@ fn replies_to<'a>(
     events: Vec<Event>,
 ) -> Result<String, Fault<'a>>
     requires { All (IsFor (length guests.items) header.now.slots) events.items }
-    ensures replies { IfOk result (λ replies. IsTranscript (Unit {0}) guests.items events.items (string_bytes replies)) }
+    ensures replies { IfOk result (λ replies. IsOver header.now.failure (config_of header.now) header.now.slots guests.items events.items (string_bytes replies)) }
     ensures within { IfOk result (λ replies. AreWithinLimits (config_of header.now) header.now.slots guests.items) }
     ensures admitted { IfOk result (λ replies. AreAdmitted (config_of header.now) header.now.slots guests.items) }
     ensures faults { IfErr result (λ fault. IsToldFault fault) }

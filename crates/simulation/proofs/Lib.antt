@@ -1,2 +1,2 @@
+mod Playing
 mod Showing
-mod Taking

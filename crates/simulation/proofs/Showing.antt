@@ -1,121 +1,121 @@
--- What replies show of guests, one after another.
-use Rattle.std.proofs.Common.{◌≡◌, refl, sym, ap, subst, ◌∙◌, arith, ℕ, zero, suc, ◌<◌, List, [], ◌∷◌, ◌++◌, length, map, get_or, append_assoc}
-use Rattle.std.proofs.lemmas.List.{append-nil}
+-- What is shown of guests, by what is done.
+use Rattle.std.proofs.Common.{◌≡◌, refl, sym, ap, subst, ◌∙◌, arith, ℕ, zero, suc, ◌<◌, All, List, [], ◌∷◌, ◌++◌, Ok, Err, Option, Some, None, false, length, map, get_or, string_bytes}
+use Rattle.std.proofs.lemmas.List.{length-map}
+use Rattle.std.proofs.lemmas.List.Elements.{All-head, All-tail}
+use Rattle.std.specs.declared.alloc.Global.{Global}
+use Rattle.std.specs.declared.string.String.{String}
+use Rattle.std.specs.declared.vec.Vec.{Vec}
 use Rattle.items.specs.declared.item.Item.{Item}
+use Rattle.items.specs.declared.item.What.TheVariants.{Write}
 use Rattle.mips_step.specs.Step.{Machine}
+use Rattle.flatvm.specs.Answers.{replied}
+use Rattle.flatvm.specs.Items.{run, accepts, reply}
+use Rattle.flatvm.specs.Replies.{bytes_at}
+use Rattle.flatvm.specs.declared.reply.Reply.{Reply}
 use Rattle.guest.specs.Guests.{view_of}
+use Rattle.dump.specs.Dumps.{dump_text}
 use Rattle.dump.specs.Steps.{step_count}
 use Rattle.script.specs.declared.event.Event.{Event}
-use Rattle.script.specs.declared.event.Event.TheVariants as event
 use Rattle.world.specs.declared.boot.NewGuest.{NewGuest}
+use Rattle.world.specs.declared.debugging.DebugError.TheVariants.{NoPlace}
+use Rattle.world.specs.declared.events.Answer.TheVariants as answer
+use Rattle.world.specs.declared.events.Event.TheVariants as happening
 use Rattle.world.specs.Boots.{AreBooted}
 use Rattle.tenant.specs.Tenants.{TenantIs}
 use Rattle.world.specs.Worlds.{WorldIs, boot_of, items_of, log_at}
 use Rattle.world.proofs.Victims.{map_at, some_tenant}
 use Rattle.world.proofs.Worlds.{its_log}
-use Rattle.simulation.specs.declared.reply.Reply.{Reply}
-use Rattle.simulation.specs.Answers.{Answers, IsRun}
-use Rattle.simulation.specs.Effects.{IsFor, IsOf, IsHarmless, Shows, ShowsAfter, added, guest_of}
-use Rattle.simulation.specs.Transcripts.{AllOf, AllHarmless, AllShow, all_added, machine_of}
+use Rattle.simulation.specs.declared.acts.Act.{Act}
+use Rattle.simulation.specs.declared.acts.Act.TheVariants as act
+use Rattle.simulation.specs.declared.said.Said.{Said}
+use Rattle.simulation.specs.declared.said.Said.TheVariants as said
+use Rattle.simulation.specs.Acts.{IsFor, IsDoable, IsHarmless, act_of}
+use Rattle.simulation.specs.Transcripts.{IsTold, AllDone, Shows, AllShow, added, machine_of}
+use Rattle.simulation.proofs.Playing.{for_act}
 
--- ---- one event
+-- ---- one act
 
--- what is shown of a guest's view is of the machine that it booted, after the items of its log
-shown : (ts : List TenantIs) (g : ℕ) (t : TenantIs) (any : Machine) (logs : ℕ → List Item) (e : Event) (r : Reply) → g < length ts → ((h : ℕ) → log_at ts h ≡ logs h)
-    → Shows (view_of (get_or ts g t).guest) (step_count (get_or ts g t).guest.log.items) e r → ShowsAfter (get_or (map boot_of ts) g any) (logs g) e r
-shown ts g t any logs e r inside same s =
-    let boot : boot_of (get_or ts g t) ≡ get_or (map boot_of ts) g any = sym (map_at boot_of ts g t any inside) in
-    let items : items_of (get_or ts g t) ≡ logs g = sym (its_log ts g t inside) ∙ same g in
-    subst (λ (l : List Item). ShowsAfter (get_or (map boot_of ts) g any) l e r) items
-    (subst (λ (m : Machine). ShowsAfter m (items_of (get_or ts g t)) e r) boot s)
+-- the view of a guest is the machine that it booted, after the items of its log
+its_view : (ts : List TenantIs) (g : ℕ) (t : TenantIs) (any : Machine) → g < length ts → view_of (get_or ts g t).guest ≡ run (log_at ts g) (get_or (map boot_of ts) g any)
+its_view ts g t any inside =
+    ap (λ (l : List Item). run l (boot_of (get_or ts g t))) (sym (its_log ts g t inside)) ∙ ap (run (log_at ts g)) (sym (map_at boot_of ts g t any inside))
 
--- the same of any event, of which those that name no guest show nothing
-pub event_shows : (slots : ℕ) (ts : List TenantIs) (any : Machine) (logs : ℕ → List Item) (e : Event) (r : Reply) → IsFor (length ts) slots e → ((h : ℕ) → log_at ts h ≡ logs h)
-    → ((t : TenantIs) → Shows (view_of (get_or ts (guest_of e) t).guest) (step_count (get_or ts (guest_of e) t).guest.log.items) e r)
-    → ShowsAfter (get_or (map boot_of ts) (guest_of e) any) (logs (guest_of e)) e r
-event_shows slots ts any logs (event.Drain guest) r is same shows =
-    let t = some_tenant ts guest is in
-    shown ts guest t any logs (event.Drain guest) r is same (shows t)
-event_shows slots ts any logs (event.Write guest address bytes) r is same shows =
-    let t = some_tenant ts guest is.0 in
-    shown ts guest t any logs (event.Write guest address bytes) r is.0 same (shows t)
-event_shows slots ts any logs (event.Probe guest address count) r is same shows =
-    let t = some_tenant ts guest is.0 in
-    shown ts guest t any logs (event.Probe guest address count) r is.0 same (shows t)
-event_shows slots ts any logs (event.Dump guest) r is same shows =
-    let t = some_tenant ts guest is in
-    shown ts guest t any logs (event.Dump guest) r is same (shows t)
-event_shows slots ts any logs (event.Step guest count) r is same shows = tt
-event_shows slots ts any logs (event.Run guest count) r is same shows = tt
-event_shows slots ts any logs (event.In guest bytes) r is same shows = tt
-event_shows slots ts any logs (event.Target guest pages) r is same shows = tt
-event_shows slots ts any logs (event.Poke guest register value) r is same shows = tt
-event_shows slots ts any logs (event.Fault guest) r is same shows = tt
-event_shows slots ts any logs (event.Scan guest page) r is same shows = tt
-event_shows slots ts any logs (event.Evict guest page) r is same shows = tt
-event_shows slots ts any logs event.Sample r is same shows = tt
-event_shows slots ts any logs event.Level r is same shows = tt
-event_shows slots ts any logs event.Audit r is same shows = tt
-event_shows slots ts any logs (event.Damage slot byte) r is same shows = tt
+module _ {Store : Type 0} (trusted : Store → Type 0) (failures : Store → ℕ) (honest : Store → Type 0) (slots : Store → ℕ) (held : Store → ℕ → Option (List ℕ)) where
+  module _ (any : Machine) (w w' : WorldIs Store) (a : Act) (s : Said) (all_slots : ℕ) (trust : trusted w.store) (can : IsDoable (length w.tenants) all_slots a)
+      (told : IsTold trusted failures honest slots held w a s w') where
+    of : (a' : Act) (s' : Said) → a ≡ a' → s ≡ s' → IsTold trusted failures honest slots held w a' s' w'
+    of a' s' is_a is_s =
+        subst (λ (b : Act). IsTold trusted failures honest slots held w b s' w') is_a (subst (λ (u : Said). IsTold trusted failures honest slots held w a u w') is_s told)
 
--- ---- one more event
+    does : (a' : Act) → a ≡ a' → IsDoable (length w.tenants) all_slots a'
+    does a' is_a = subst (IsDoable (length w.tenants) all_slots) is_a can
 
-pub of_more : (es : List Event) (rs : List Reply) (e : Event) (r : Reply) → AllOf es rs → IsOf e r → AllOf (es ++ e ∷ []) (rs ++ r ∷ [])
-of_more [] [] e r all one = (one, tt)
-of_more [] (s ∷ rs) e r all one = absurd all
-of_more (d ∷ es) [] e r all one = absurd all
-of_more (d ∷ es) (s ∷ rs) e r all one = (all.0, of_more es rs e r all.1 one)
+    machine : ℕ → Machine
+    machine g = run (log_at w.tenants g) (get_or (map boot_of w.tenants) g any)
 
-pub added_more : (h : ℕ) (es : List Event) (rs : List Reply) (e : Event) (r : Reply) → AllOf es rs → all_added h (es ++ e ∷ []) (rs ++ r ∷ []) ≡ all_added h es rs ++ added h e r
-added_more h [] [] e r all = append-nil (added h e r)
-added_more h [] (s ∷ rs) e r all = absurd all
-added_more h (d ∷ es) [] e r all = absurd all
-added_more h (d ∷ es) (s ∷ rs) e r all =
-    ap (λ (l : List Item). added h d s ++ l) (added_more h es rs e r all.1) ∙ sym (append_assoc (added h d s) (all_added h es rs) (added h e r))
+    replied_as : (g : ℕ) (item : Item) (r : Reply) → a ≡ act.World (happening.Input g item) → s ≡ said.Answered (answer.Input (Ok r)) → replied r ≡ reply item.what (machine g)
+    unfolding machine
+    replied_as g item r is_a is_s =
+        let inside : g < length w.tenants = (does (act.World (happening.Input g item)) is_a).1 in
+        let t = some_tenant w.tenants g inside in
+        ((of (act.World (happening.Input g item)) (said.Answered (answer.Input (Ok r))) is_a is_s).answered t).reply trust ∙ ap (reply item.what) (its_view w.tenants g t any inside)
 
-pub logs_more : (h : ℕ) (es : List Event) (rs : List Reply) (e : Event) (r : Reply) (old now after : List Item) → AllOf es rs → now ≡ old ++ all_added h es rs → after ≡ now ++ added h e r
-    → after ≡ old ++ all_added h (es ++ e ∷ []) (rs ++ r ∷ [])
-logs_more h es rs e r old now after all so_far more =
-    more ∙ ap (λ (l : List Item). l ++ added h e r) so_far ∙ append_assoc old (all_added h es rs) (added h e r)
-    ∙ ap (λ (l : List Item). old ++ l) (sym (added_more h es rs e r all))
+    read : (g address count : ℕ) (bytes : Vec ℕ Global) → a ≡ act.World (happening.Probe g address count) → s ≡ said.Answered (answer.Probed (Ok bytes)) → bytes_at (machine g) address count ≡ Some bytes.items
+    unfolding machine
+    read g address count bytes is_a is_s =
+        let inside : g < length w.tenants = (does (act.World (happening.Probe g address count)) is_a).1 in
+        let t = some_tenant w.tenants g inside in
+        ap (λ (m : Machine). bytes_at m address count) (sym (its_view w.tenants g t any inside))
+        ∙ (of (act.World (happening.Probe g address count)) (said.Answered (answer.Probed (Ok bytes))) is_a is_s).answered.1 t trust
 
-pub harmless_before : (es : List Event) (e : Event) → AllHarmless (es ++ e ∷ []) → AllHarmless es × IsHarmless e
-harmless_before [] e all = (tt, all.0)
-harmless_before (d ∷ es) e all = let rest = harmless_before es e all.1 in ((all.0, rest.0), rest.1)
+    not_read : (g address count : ℕ) → a ≡ act.World (happening.Probe g address count) → s ≡ said.Answered (answer.Probed (Err NoPlace)) → bytes_at (machine g) address count ≡ None
+    unfolding machine
+    not_read g address count is_a is_s =
+        let inside : g < length w.tenants = (does (act.World (happening.Probe g address count)) is_a).1 in
+        let t = some_tenant w.tenants g inside in
+        ap (λ (m : Machine). bytes_at m address count) (sym (its_view w.tenants g t any inside))
+        ∙ ((of (act.World (happening.Probe g address count)) (said.Answered (answer.Probed (Err NoPlace))) is_a is_s).answered t).no_place refl trust
 
-pub show_more : (any : Machine) (boots : List Machine) (logs : ℕ → List Item) (es : List Event) (rs : List Reply) (e : Event) (r : Reply) → AllOf es rs → AllShow any boots logs es rs
-    → (AllHarmless es → ShowsAfter (get_or boots (guest_of e) any) (logs (guest_of e) ++ all_added (guest_of e) es rs) e r) → AllShow any boots logs (es ++ e ∷ []) (rs ++ r ∷ [])
-show_more any boots logs [] [] e r of all one =
-    (subst (λ (l : List Item). ShowsAfter (get_or boots (guest_of e) any) l e r) (append-nil (logs (guest_of e))) (one tt), λ harmless. tt)
-show_more any boots logs [] (s ∷ rs) e r of all one = absurd of
-show_more any boots logs (d ∷ es) [] e r of all one = absurd of
-show_more any boots logs (d ∷ es) (s ∷ rs) e r of all one = (
-  all.0,
-  λ harmless. show_more any boots (λ h. logs h ++ added h d s) es rs e r of.1 (all.1 harmless)
-      (λ rest. subst (λ (l : List Item). ShowsAfter (get_or boots (guest_of e) any) l e r)
-      (sym (append_assoc (logs (guest_of e)) (added (guest_of e) d s) (all_added (guest_of e) es rs))) (one (harmless, rest))),
-)
+    not_written : (g address : ℕ) (bytes : Vec ℕ Global) → a ≡ act.World (happening.Write g address bytes) → s ≡ said.Answered (answer.Written (Err NoPlace))
+        → accepts (Write address bytes.items) (machine g) ≡ false
+    unfolding machine
+    not_written g address bytes is_a is_s =
+        let inside : g < length w.tenants = (does (act.World (happening.Write g address bytes)) is_a).1 in
+        let t = some_tenant w.tenants g inside in
+        ap (accepts (Write address bytes.items)) (sym (its_view w.tenants g t any inside))
+        ∙ (((of (act.World (happening.Write g address bytes)) (said.Answered (answer.Written (Err NoPlace))) is_a is_s).answered t).no_place trust).0 refl
 
--- ---- what replies say of the world
+    dumped : (g : ℕ) (text : String Global) → a ≡ act.Dump g → s ≡ said.Dumped (Ok text) → string_bytes text ≡ dump_text (machine g) (step_count (log_at w.tenants g)) None
+    unfolding machine
+    dumped g text is_a is_s =
+        let inside : g < length w.tenants = does (act.Dump g) is_a in
+        let t = some_tenant w.tenants g inside in
+        (of (act.Dump g) (said.Dumped (Ok text)) is_a is_s).0 trust t ∙ ap (λ (m : Machine). dump_text m (step_count (items_of (get_or w.tenants g t))) None) (its_view w.tenants g t any inside)
+        ∙ ap (λ (l : List Item). dump_text (machine g) (step_count l) None) (sym (its_log w.tenants g t inside))
 
-pub run_more : {Store : Type 0} (trusted : Store → Type 0) (slots : Store → ℕ) (w now after : WorldIs Store) (es : List Event) (rs : List Reply) (e : Event) (r : Reply)
-    → IsRun trusted slots w es rs now → Answers (trusted now.store) (slots now.store) now after e r → IsRun trusted slots w (es ++ e ∷ []) (rs ++ r ∷ []) after
-run_more trusted slots w now after [] [] e r run one =
-    (after, subst (λ (v : WorldIs _). Answers (trusted v.store) (slots v.store) v after e r) run one, refl)
-run_more trusted slots w now after [] (s ∷ rs) e r run one = absurd run
-run_more trusted slots w now after (d ∷ es) [] e r run one = absurd run
-run_more trusted slots w now after (d ∷ es) (s ∷ rs) e r run one = (run.0, run.1, run_more trusted slots run.0 now after es rs e r run.2 one)
+    pub shown : Shows (λ g. run (log_at w.tenants g) (get_or (map boot_of w.tenants) g any)) (λ g. step_count (log_at w.tenants g)) a s
+    unfolding machine
+    shown = record { replied_as = replied_as; read = read; not_read = not_read; not_written = not_written; dumped = dumped }
 
--- ---- the same logs
+  -- ---- many
 
-pub show_same : (any : Machine) (boots : List Machine) (logs logs' : ℕ → List Item) (es : List Event) (rs : List Reply) → ((h : ℕ) → logs h ≡ logs' h) → AllShow any boots logs es rs
-    → AllShow any boots logs' es rs
-show_same any boots logs logs' [] rs same all = tt
-show_same any boots logs logs' (e ∷ es) [] same all = tt
-show_same any boots logs logs' (e ∷ es) (r ∷ rs) same all = (
-  subst (λ (l : List Item). ShowsAfter (get_or boots (guest_of e) any) l e r) (same (guest_of e)) all.0,
-  λ harmless. show_same any boots (λ h. logs h ++ added h e r) (λ h. logs' h ++ added h e r) es rs (λ h. ap (λ (l : List Item). l ++ added h e r) (same h)) (all.1 harmless),
-)
+  pub all_shown : (any : Machine) (w last : WorldIs Store) (es : List Event) (ss : List Said) → AllDone trusted failures honest slots held w es ss last → trusted w.store
+      → All (IsFor (length w.tenants) (slots w.store)) es → AllShow any (map boot_of w.tenants) (log_at w.tenants) es ss
+  all_shown any w last [] ss done trust each = tt
+  all_shown any w last (e ∷ es) [] done trust each = tt
+  all_shown any w last (e ∷ es) (s ∷ ss) done trust each =
+      let mid = done.0 in
+      let one = done.1 in
+      let is : IsFor (length w.tenants) (slots w.store) e = All-head (IsFor (length w.tenants) (slots w.store)) e es each in
+      let counts : length w.tenants ≡ length mid.tenants = omega (arith, ap length one.boots, length-map w.tenants boot_of, length-map mid.tenants boot_of) in
+      let rest : All (IsFor (length mid.tenants) (slots mid.store)) es =
+      subst (λ (n : ℕ). All (IsFor n (slots mid.store)) es) counts
+      (subst (λ (n : ℕ). All (IsFor (length w.tenants) n) es) (sym one.slots_stay) (All-tail (IsFor (length w.tenants) (slots w.store)) e es each)) in (
+        shown any w mid (act_of e) s (slots w.store) trust (for_act (length w.tenants) (slots w.store) e is).act one.told,
+        λ harmless. subst (λ (boots : List Machine). AllShow any boots (λ h. log_at w.tenants h ++ added h (act_of e) s) es ss) one.boots
+            (subst (λ (logs : ℕ → List Item). AllShow any (map boot_of mid.tenants) logs es ss) (λ i h. one.logs h i)
+            (all_shown any mid last es ss done.2 ((one.trust harmless).1 trust) rest)),
+      )
 
 -- ---- guests that have booted
 
@@ -129,7 +129,7 @@ machines_of (guest ∷ guests) (t ∷ ts) same each =
     let rest = machines_of guests ts (omega (arith, same)) (λ g a d inside. each (suc g) a d (omega (arith, inside))) in
     λ i. one i ∷ rest i
 
-pub booted_machines : (runs : ℕ) (guests : List NewGuest) (ts : List TenantIs) → AreBooted runs guests ts → map boot_of ts ≡ map machine_of guests
+booted_machines : (runs : ℕ) (guests : List NewGuest) (ts : List TenantIs) → AreBooted runs guests ts → map boot_of ts ≡ map machine_of guests
 booted_machines runs guests ts b = machines_of guests ts b.count (λ g guest t inside. (b.each g guest t inside).boot)
 
 none_logged : (ts : List TenantIs) (h : ℕ) → ((g : ℕ) (t : TenantIs) → g < length ts → items_of (get_or ts g t) ≡ []) → log_at ts h ≡ []
@@ -137,7 +137,14 @@ none_logged [] h each = refl
 none_logged (t ∷ ts) zero each = each 0 t (omega arith)
 none_logged (t ∷ ts) (suc h) each = none_logged ts h (λ g d inside. each (suc g) d (omega (arith, inside)))
 
-pub booted_logs : (runs : ℕ) (guests : List NewGuest) (ts : List TenantIs) → AreBooted runs guests ts → (h : ℕ) → log_at ts h ≡ []
+booted_logs : (runs : ℕ) (guests : List NewGuest) (ts : List TenantIs) → AreBooted runs guests ts → (h : ℕ) → log_at ts h ≡ []
 booted_logs runs [] [] b h = refl
 booted_logs runs [] (t ∷ ts) b h = absurd (omega (arith, b.count))
 booted_logs runs (guest ∷ guests) ts b h = none_logged ts h (λ g t inside. (b.each g guest t (omega (arith, inside, b.count))).items)
+
+-- from a world as it is booted
+pub from_boot : (any : Machine) (runs : ℕ) (guests : List NewGuest) (ts : List TenantIs) (es : List Event) (ss : List Said) → AreBooted runs guests ts
+    → AllShow any (map boot_of ts) (log_at ts) es ss → AllShow any (map machine_of guests) (λ h. []) es ss
+from_boot any runs guests ts es ss booted all =
+    subst (λ (boots : List Machine). AllShow any boots (λ h. []) es ss) (booted_machines runs guests ts booted)
+    (subst (λ (logs : ℕ → List Item). AllShow any (map boot_of ts) logs es ss) (λ i h. booted_logs runs guests ts booted h i) all)

@@ -1,4 +1,3 @@
-pub mod Answers
-pub mod Effects
-pub mod Replies
+pub mod Acts
+pub mod Lines
 pub mod Transcripts

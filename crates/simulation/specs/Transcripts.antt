@@ -1,66 +1,164 @@
--- What is replied to a list of events.
-use Rattle.std.specs.Prelude.{◌≡◌, ℕ, List, [], ◌∷◌, ◌++◌, map, slice_index_or}
+-- What is done and answered by a list of events.
+use Rattle.std.specs.Prelude.{◌≡◌, ◌↔◌, ◌+◌, ◌≤◌, ℕ, false, true, List, [], ◌∷◌, ◌++◌, length, map, sum_by, slice_index_or, string_bytes, option_map, Option, Some, None, Result, Ok, Err, IfOk, IsErrOf}
+use Rattle.std.specs.declared.vec.Vec.{Vec}
+use Rattle.std.specs.declared.string.String.{String}
+use Rattle.std.specs.declared.alloc.Global.{Global}
 use Rattle.items.specs.declared.item.Item.{Item}
+use Rattle.items.specs.declared.item.What.TheVariants.{Write}
 use Rattle.mips_step.specs.Step.{Machine}
+use Rattle.flatvm.specs.Answers.{replied}
 use Rattle.flatvm.specs.Boot.{boot_machine}
+use Rattle.flatvm.specs.Items.{run, accepts, reply}
+use Rattle.flatvm.specs.Replies.{bytes_at}
+use Rattle.flatvm.specs.declared.reply.Reply.{Reply}
+use Rattle.sharetab.specs.Entries.{entry_count}
+use Rattle.sharetab.specs.Maps.{at_page}
+use Rattle.sharetab.specs.declared.guest_page.GuestPage.{GuestPage}
+use Rattle.swapstore.specs.Holding.{OthersStay}
+use Rattle.swapstore.specs.Memories.{with_inverted}
+use Rattle.physmap.specs.Holdings.{private_pages, shared_pages, swapped_pages}
+use Rattle.reclaim.specs.declared.level.Level.TheVariants.{High}
+use Rattle.dump.specs.Dumps.{dump_text}
+use Rattle.dump.specs.Steps.{step_count}
 use Rattle.script.specs.declared.event.Event.{Event}
+use Rattle.tenant.specs.Tenants.{TenantIs, pages_in}
+use Rattle.world.specs.declared.books.BookCounts.{BookCounts}
 use Rattle.world.specs.declared.boot.Config.{Config}
 use Rattle.world.specs.declared.boot.NewGuest.{NewGuest}
+use Rattle.world.specs.declared.debugging.DebugError.TheVariants.{NoPlace}
+use Rattle.world.specs.declared.events.Answer.TheVariants as answer
+use Rattle.world.specs.declared.events.Event.TheVariants as happening
+use Rattle.world.specs.Admission.{IsAdmitted}
+use Rattle.world.specs.Answers.{Happens, IsSoundWorld}
 use Rattle.world.specs.Boots.{AreBooted, WhyNotBooted}
-use Rattle.world.specs.Worlds.{WorldIs}
-use Rattle.simulation.specs.declared.reply.Reply.{Reply}
+use Rattle.world.specs.Events.{own_items}
+use Rattle.world.specs.Worlds.{WorldIs, boot_of, items_of, log_at, guest_at, view_at}
+use Rattle.simulation.specs.declared.acts.Act.{Act}
+use Rattle.simulation.specs.declared.acts.Act.TheVariants as act
+use Rattle.simulation.specs.declared.said.Said.{Said}
+use Rattle.simulation.specs.declared.said.Said.TheVariants as said
 use Rattle.simulation.specs.declared.transcript.SimError.{SimError}
 use Rattle.simulation.specs.declared.transcript.SimError.TheVariants.{Boot, Memory}
-use Rattle.simulation.specs.Answers.{IsRun}
-use Rattle.simulation.specs.Effects.{IsOf, IsHarmless, ShowsAfter, added, guest_of}
-use Rattle.simulation.specs.Replies.{replies_text}
+use Rattle.simulation.specs.Acts.{IsHarmless, act_of}
+use Rattle.simulation.specs.Lines.{lines_of}
 
--- each reply is of its event, and there are as many
-abbrev pub AllOf : List Event → List Reply → Type 0
-AllOf [] [] = Unit {0}
-AllOf [] (r ∷ rs) = ⊥
-AllOf (e ∷ es) [] = ⊥
-AllOf (e ∷ es) (r ∷ rs) = IsOf e r × AllOf es rs
+-- ---- one act
 
--- no event damages a slot
-abbrev pub AllHarmless : List Event → Type 0
-AllHarmless [] = Unit {0}
-AllHarmless (e ∷ es) = IsHarmless e × AllHarmless es
+-- What the books count: the free frames, those of private pages and the shared ones are all frames.
+pub record AreCounts {Store : Type 0} (w : WorldIs Store) (all_slots : ℕ) (counts : BookCounts) : Type 0 where
+  pub frames : counts.frames ≡ w.frames
+  pub free : counts.free ≡ length w.pool.free
+  pub private : counts.private ≡ sum_by private_pages (map pages_in w.tenants)
+  pub shared : counts.shared ≡ entry_count w.shares.entries
+  pub references : counts.references ≡ sum_by shared_pages (map pages_in w.tenants)
+  pub swapped : counts.swapped ≡ sum_by swapped_pages (map pages_in w.tenants)
+  pub slots : counts.slots ≡ all_slots
+  pub all_frames : counts.free + counts.private + counts.shared ≡ counts.frames
+  pub few_used : counts.swapped ≤ counts.slots
 
--- the items that events add to the log of guest h, by their replies, in order
-abbrev pub all_added : ℕ → List Event → List Reply → List Item
-all_added h [] rs = []
-all_added h (e ∷ es) [] = []
-all_added h (e ∷ es) (r ∷ rs) = added h e r ++ all_added h es rs
+-- a text is the dump of a guest of a world, with all steps since its boot
+abbrev pub IsDumpIn : {Store : Type 0} → WorldIs Store → ℕ → List ℕ → Type 0
+IsDumpIn w g text = (t : TenantIs) → text ≡ dump_text (view_at w g t) (step_count (items_of (guest_at w g t))) None
 
--- What each reply shows of its event's guest is of the machine that the guest boots, run alone on the items of its log at that event: those
--- that its own earlier events have added. It is so up to the first event that damages a slot.
-abbrev pub AllShow : Machine → List Machine → (ℕ → List Item) → List Event → List Reply → Type 0
-AllShow any boots logs [] rs = Unit {0}
+-- a byte of a slot of the store is inverted, and of the world nothing else has changed
+pub record IsDamaged {Store : Type 0} (failures : Store → ℕ) (held : Store → ℕ → Option (List ℕ)) (w : WorldIs Store) (slot byte : ℕ) (w' : WorldIs Store) : Type 0 where
+  pub inverted : held w'.store slot ≡ option_map (λ page. with_inverted page byte) (held w.store slot)
+  pub others : OthersStay slot (held w.store) (held w'.store)
+  pub failures_stay : failures w'.store ≡ failures w.store
+  pub beside : w' ≡ record w { store = w'.store }
+
+-- What is answered to an act, and what it makes of the world: what `World::apply` answers to an event, at a tax of 75 percent (`Happens`);
+-- what is read of the world as it is; or that a slot is damaged.
+abbrev pub IsTold : {Store : Type 0} → (trusted : Store → Type 0) → (failures : Store → ℕ) → (honest : Store → Type 0) → (slots : Store → ℕ) → (held : Store → ℕ → Option (List ℕ)) → WorldIs Store → Act → Said → WorldIs Store → Type 0
+IsTold trusted failures honest slots held w (act.World e) (said.Answered a) w' = Happens trusted failures honest slots held 75 w e a w'
+IsTold trusted failures honest slots held w act.Skip said.Skipped w' = w' ≡ w
+IsTold trusted failures honest slots held w act.Audit (said.Counted counts) w' = AreCounts w (slots w.store) counts × (w' ≡ w)
+IsTold trusted failures honest slots held w (act.Dump g) (said.Dumped done) w' = IfOk done (λ text. trusted w.store → IsDumpIn w g (string_bytes text)) × (w' ≡ w)
+IsTold trusted failures honest slots held w (act.Damage slot byte) said.Damaged w' = IsDamaged failures held w slot byte w'
+IsTold trusted failures honest slots held w _ _ w' = ⊥
+
+-- the items that an act adds to the log of guest h, by what is answered
+abbrev pub added : ℕ → Act → Said → List Item
+added h (act.World e) (said.Answered a) = own_items h e a
+added h _ _ = []
+
+-- An act is done. Each log has the items more that it adds, the machines that the guests booted and the number of slots are as before, and
+-- the world is sound. Unless it damages a slot, the store is as true to digests as before.
+pub record IsDone {Store : Type 0} (trusted : Store → Type 0) (failures : Store → ℕ) (honest : Store → Type 0) (slots : Store → ℕ) (held : Store → ℕ → Option (List ℕ)) (w : WorldIs Store) (a : Act) (s : Said) (w' : WorldIs Store) : Type 0 where
+  pub told : IsTold trusted failures honest slots held w a s w'
+  pub logs : (h : ℕ) → log_at w'.tenants h ≡ log_at w.tenants h ++ added h a s
+  pub boots : map boot_of w'.tenants ≡ map boot_of w.tenants
+  pub slots_stay : slots w'.store ≡ slots w.store
+  pub trust : IsHarmless a → (trusted w'.store ↔ trusted w.store)
+  pub sound : IsSoundWorld trusted slots held w'
+
+-- ---- many
+
+-- events of a script are done one after another, each in the world that the one before it left
+abbrev pub AllDone : {Store : Type 0} → (trusted : Store → Type 0) → (failures : Store → ℕ) → (honest : Store → Type 0) → (slots : Store → ℕ) → (held : Store → ℕ → Option (List ℕ)) → WorldIs Store → List Event → List Said → WorldIs Store → Type 0
+AllDone trusted failures honest slots held w [] [] w' = w' ≡ w
+AllDone trusted failures honest slots held w [] (s ∷ ss) w' = ⊥
+AllDone trusted failures honest slots held w (e ∷ es) [] w' = ⊥
+AllDone {Store} trusted failures honest slots held w (e ∷ es) (s ∷ ss) w' =
+    (mid : WorldIs Store) × IsDone trusted failures honest slots held w (act_of e) s mid × AllDone trusted failures honest slots held mid es ss w'
+
+-- events are done in a world, and the text is the lines of what is answered to them
+pub record IsPlayed {Store : Type 0} (trusted : Store → Type 0) (failures : Store → ℕ) (honest : Store → Type 0) (slots : Store → ℕ) (held : Store → ℕ → Option (List ℕ)) (w : WorldIs Store) (events : List Event) (w' : WorldIs Store) (text : List ℕ) : Type 0 where
+  pub said : List Said
+  pub lines : text ≡ lines_of events said
+  pub done : AllDone trusted failures honest slots held w events said w'
+
+-- ---- what is shown of guests
+
+-- What is answered to an act shows of the guests what is so of these machines, which have made so many steps: the reply to an item, so the
+-- console's output; the bytes of memory that a debugger reads; whether the bytes have a place that it wants; and the dump.
+pub record Shows (machine : ℕ → Machine) (steps : ℕ → ℕ) (a : Act) (s : Said) : Type 0 where
+  pub replied_as : (g : ℕ) (item : Item) (r : Reply) → a ≡ act.World (happening.Input g item) → s ≡ said.Answered (answer.Input (Ok r)) →
+      replied r ≡ reply item.what (machine g)
+  pub read : (g address count : ℕ) (bytes : Vec ℕ Global) → a ≡ act.World (happening.Probe g address count) → s ≡ said.Answered (answer.Probed (Ok bytes)) →
+      bytes_at (machine g) address count ≡ Some bytes.items
+  pub not_read : (g address count : ℕ) → a ≡ act.World (happening.Probe g address count) → s ≡ said.Answered (answer.Probed (Err NoPlace)) →
+      bytes_at (machine g) address count ≡ None
+  pub not_written : (g address : ℕ) (bytes : Vec ℕ Global) → a ≡ act.World (happening.Write g address bytes) → s ≡ said.Answered (answer.Written (Err NoPlace)) →
+      accepts (Write address bytes.items) (machine g) ≡ false
+  pub dumped : (g : ℕ) (text : String Global) → a ≡ act.Dump g → s ≡ said.Dumped (Ok text) → string_bytes text ≡ dump_text (machine g) (steps g) None
+
+-- What is answered to each act shows of a guest what is so of the machine that it boots, run alone on the items of its log at that event:
+-- those that its own earlier events have added. It is so up to the first event that damages a slot.
+abbrev pub AllShow : Machine → List Machine → (ℕ → List Item) → List Event → List Said → Type 0
+AllShow any boots logs [] ss = Unit {0}
 AllShow any boots logs (e ∷ es) [] = Unit {0}
-AllShow any boots logs (e ∷ es) (r ∷ rs) =
-    ShowsAfter (slice_index_or boots (guest_of e) any) (logs (guest_of e)) e r × (IsHarmless e → AllShow any boots (λ h. logs h ++ added h e r) es rs)
+AllShow any boots logs (e ∷ es) (s ∷ ss) =
+    Shows (λ g. run (logs g) (slice_index_or boots g any)) (λ g. step_count (logs g)) (act_of e) s
+    × (IsHarmless (act_of e) → AllShow any boots (λ h. logs h ++ added h (act_of e) s) es ss)
 
 -- the machine that a guest's image boots in a memory of its own
 abbrev pub machine_of : NewGuest → Machine
 machine_of guest = boot_machine guest.image.value guest.pages
 
--- The text is the lines of replies to the events, each of its event; and where the store was true to digests, what they show of
--- guests is of the machines that the guests boot, each run alone on its own items.
-pub record IsTranscript (trusted : Type 0) (guests : List NewGuest) (events : List Event) (text : List ℕ) : Type 0 where
-  pub replies : List Reply
-  pub lines : text ≡ replies_text replies
-  pub of_events : AllOf events replies
-  pub shows : trusted → (any : Machine) → AllShow any (map machine_of guests) (λ h. []) events replies
+-- ---- the whole
 
--- The same text, by what the replies say of the world that was booted with these guests, and of what became of it.
-pub record IsOfWorld {Store : Type 0} (trusted : Store → Type 0) (slots : Store → ℕ) (log_runs : ℕ) (guests : List NewGuest) (events : List Event) (text : List ℕ) : Type 0 where
-  pub replies : List Reply
-  pub lines : text ≡ replies_text replies
+-- a world as it is booted over a store
+pub record IsFirst {Store : Type 0} (trusted : Store → Type 0) (honest : Store → Type 0) (slots : Store → ℕ) (held : Store → ℕ → Option (List ℕ)) (config : Config) (guests : List NewGuest) (store : Store) (w : WorldIs Store) : Type 0 where
+  pub booted : AreBooted config.log_runs guests w.tenants
+  pub frames : w.frames ≡ config.frames
+  pub level : w.level ≡ High
+  pub hints : (page : GuestPage) → at_page w.shares.hints page ≡ None
+  pub slots_are : slots w.store ≡ slots store
+  pub honesty : honest w.store ↔ honest store
+  pub trust : trusted w.store ↔ trusted store
+  pub admitted : config.admit ≡ true → IsAdmitted config.frames (slots store) w.tenants
+  pub sound : IsSoundWorld trusted slots held w
+
+-- The text is the lines of what is answered to the events, done one after another from a world that was booted with these guests over a
+-- store; and where the store was true to digests, what they show of guests is of the machines that the guests boot, each run alone on its
+-- own items.
+pub record IsTranscript {Store : Type 0} (trusted : Store → Type 0) (failures : Store → ℕ) (honest : Store → Type 0) (slots : Store → ℕ) (held : Store → ℕ → Option (List ℕ)) (config : Config) (guests : List NewGuest) (store : Store) (events : List Event) (text : List ℕ) : Type 0 where
   pub first : WorldIs Store
   pub last : WorldIs Store
-  pub booted : AreBooted log_runs guests first.tenants
-  pub run : IsRun trusted slots first events replies last
+  pub is_first : IsFirst trusted honest slots held config guests store first
+  pub played : IsPlayed trusted failures honest slots held first events last text
+  pub shows : trusted store → (any : Machine) → AllShow any (map machine_of guests) (λ h. []) events played.said
 
 -- why there is no transcript: the world is not booted, or a request for memory was refused
 abbrev pub WhyNotDone : Config → ℕ → List NewGuest → SimError → Type 0

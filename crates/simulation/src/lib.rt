@@ -1,18 +1,21 @@
-//! A script's events in a world of one thread, and what is replied to each.
+//! A script's events in a world of one thread, and the line of each.
 //!
-//! `simulate` boots a world and does the events one after another; its text is the replies, a line for each, but for a dump, which is
-//! several (`specs/Replies.antt`: `replies_text`). Each reply is of its event (`IsOf`). Whatever the events are, the log of each
-//! guest is what its own events add to it (`added`, `specs/Effects.antt`), and what is shown of a guest, which is its console's
-//! output, the bytes of its memory and its dump, is that of the machine that its image boots, run alone on those items (`AllShow`).
-//! That holds as long as no byte of a slot is damaged.
+//! `simulate` boots a world and does the events one after another. What is done by an event is an `Act` (`act_of`): most are an event of
+//! the world, done by `World::apply`; the others read the books or a guest's state, or damage a slot of the store. What is answered to an
+//! act is `Said`, and its line is `said_text`. The contract of `simulate` says it by two relations (`specs/Transcripts.antt`): each act
+//! was done in the world that the one before it left (`AllDone`), an event of the world just as `World::apply` has it (`Happens`); and
+//! what is shown of a guest, its console's output, the bytes of its memory and its dump, is that of the machine that its image boots,
+//! run alone on the items that its own events added (`AllShow`). The second holds up to the first damage of a slot.
 #![tactic(auto)]
 
-mod performing;
-pub mod reply;
+pub mod acts;
+mod doing;
+pub mod said;
 #[cfg(test)]
 mod tests;
 pub mod text;
 pub mod transcript;
 
-pub use reply::Reply;
+pub use acts::Act;
+pub use said::Said;
 pub use transcript::{SimError, simulate};

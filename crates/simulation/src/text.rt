@@ -1,18 +1,44 @@
-//! The lines of replies.
+//! The lines of what is answered to events.
 ghost use Rattle.std.specs.Prelude.{◌≡◌, ◌++◌, OnOk, codes, decimal, string_bytes};
-ghost use Rattle.dump.specs.Dumps.{digits_of};
 ghost use Rattle.paging.specs.declared.scan.Scan.{Scan};
-ghost use Rattle.simulation.specs.Replies as spec;
+ghost use Rattle.simulation.specs.Lines as spec;
 
-use crate::Reply;
+use crate::{Act, Said};
 use dump::{push_digits, push_output_digits};
+use flatvm::Reply;
+use guest::{Refused, Stop};
 use mips_step::Why;
 use paging::Scan;
 use reclaim::Level;
 use sharetab::GuestPage;
 use std::alloc::AllocError;
 use tenant::EvictError;
-use world::{BookCounts, End, Evicted, Ran, RunStop};
+use world::events::Fed;
+use world::{Answer, BookCounts, DebugError, End, Event, Evicted, FaultError, Ran, RunStop, Turn};
+
+/// What a line begins with where it names its event and its guest.
+#[derive(Clone, Copy, Debug, PartialEq, Eq)]
+pub enum Heading {
+    Step(usize),
+    Run(usize),
+    In(usize),
+    Drain(usize),
+    /// It names neither.
+    Bare,
+}
+
+/// What the line of an act begins with. That of an item does only where it is the output of a console.
+pub fn heading_of(act: &Act) -> Heading
+    ensures { result ≡ spec.heading_of act.now }
+{
+    match act {
+        Act::World(Event::Steps(guest, _)) => Heading::Step(*guest),
+        Act::World(Event::Run(guest, _)) => Heading::Run(*guest),
+        Act::World(Event::Feed(guest, _)) => Heading::In(*guest),
+        Act::World(Event::Input(guest, _)) => Heading::Drain(*guest),
+        _ => Heading::Bare,
+    }
+}
 
 /// The number by which what stops an event is known: 1 no frame, 2 no slot, 3 a slot that could not be read, 4 one that is damaged,
 /// 5 no memory of the host, 6 a log that is full.
@@ -63,67 +89,127 @@ fn push_end(out: &mut String, end: End) -> Result<(), AllocError>
     }
 }
 
-fn push_ran(out: &mut String, name: &str, guest: u32, ran: Ran) -> Result<(), AllocError>
-    ensures { OnOk result (string_bytes out.new ≡ string_bytes out.old ++ spec.ran_text name.now guest ran) }
+fn push_heading(out: &mut String, heading: Heading) -> Result<(), AllocError>
+    ensures { OnOk result (string_bytes out.new ≡ string_bytes out.old ++ spec.heading_text heading) }
+{
+    match heading {
+        Heading::Step(guest) => write!(out, "step {guest} "),
+        Heading::Run(guest) => write!(out, "run {guest} "),
+        Heading::In(guest) => write!(out, "in {guest} "),
+        Heading::Drain(guest) => write!(out, "drain {guest} "),
+        Heading::Bare => Ok(()),
+    }
+}
+
+fn push_ran(out: &mut String, heading: Heading, ran: Ran) -> Result<(), AllocError>
+    ensures { OnOk result (string_bytes out.new ≡ string_bytes out.old ++ spec.ran_text heading ran) }
 {
     let steps = ran.steps;
-    write!(out, "{name}{guest} done {steps}")?;
+    push_heading(out, heading)?;
+    write!(out, "done {steps}")?;
     push_end(out, ran.end)?;
     out.push_str("\n")
 }
 
 // No step of a guest that is blocked.
-fn push_blocked(out: &mut String, name: &str, guest: u32) -> Result<(), AllocError>
-    ensures { OnOk result (string_bytes out.new ≡ string_bytes out.old ++ spec.blocked_text name.now guest) }
+fn push_blocked(out: &mut String, heading: Heading) -> Result<(), AllocError>
+    ensures { OnOk result (string_bytes out.new ≡ string_bytes out.old ++ spec.blocked_text heading) }
 {
-    writeln!(out, "{name}{guest} done 0 blocked")
+    push_heading(out, heading)?;
+    out.push_str("done 0 blocked")?;
+    out.push_str("\n")
 }
 
-fn push_taken_end(out: &mut String, stop: Option<RunStop>) -> Result<(), AllocError>
-    ensures { OnOk result (string_bytes out.new ≡ string_bytes out.old ++ spec.taken_end_text stop) }
+fn push_fed_end(out: &mut String, stop: Option<Stop>) -> Result<(), AllocError>
+    ensures { OnOk result (string_bytes out.new ≡ string_bytes out.old ++ spec.fed_end_text stop) }
 {
     match stop {
         None => Ok(()),
         Some(stop) => {
             out.push_str(" ")?;
-            push_stop(out, stop)
+            push_stop(out, RunStop::from(stop))
         }
     }
 }
 
-fn push_taken(
-    out: &mut String,
-    guest: u32,
-    count: usize,
-    stop: Option<RunStop>,
-) -> Result<(), AllocError>
-    ensures { OnOk result (string_bytes out.new ≡ string_bytes out.old ++ spec.taken_text guest count stop) }
+fn push_fed(out: &mut String, heading: Heading, fed: Fed) -> Result<(), AllocError>
+    ensures { OnOk result (string_bytes out.new ≡ string_bytes out.old ++ spec.fed_text heading fed) }
 {
-    write!(out, "in {guest} {count}")?;
-    push_taken_end(out, stop)?;
+    let count = fed.count;
+    push_heading(out, heading)?;
+    write!(out, "{count}")?;
+    push_fed_end(out, fed.stop)?;
     out.push_str("\n")
 }
 
-fn push_drained(out: &mut String, guest: u32, output: &[u8]) -> Result<(), AllocError>
-    ensures { OnOk result (string_bytes out.new ≡ string_bytes out.old ++ spec.drained_text guest output.now) }
+fn push_output(out: &mut String, heading: Heading, output: &[u8]) -> Result<(), AllocError>
+    ensures { OnOk result (string_bytes out.new ≡ string_bytes out.old ++ spec.output_text heading output.now) }
 {
-    write!(out, "drain {guest} ")?;
+    push_heading(out, heading)?;
     push_output_digits(out, output)?;
     out.push_str("\n")
 }
 
-fn push_probed(out: &mut String, bytes: &[u8]) -> Result<(), AllocError>
-    ensures { OnOk result (string_bytes out.new ≡ string_bytes out.old ++ digits_of bytes.now ++ codes "\n") }
-{
-    push_digits(out, bytes)?;
-    out.push_str("\n")
-}
-
 fn push_stopped(out: &mut String, stop: RunStop) -> Result<(), AllocError>
-    ensures { OnOk result (string_bytes out.new ≡ string_bytes out.old ++ spec.stop_text stop ++ codes "\n") }
+    ensures { OnOk result (string_bytes out.new ≡ string_bytes out.old ++ spec.stopped_text stop) }
 {
     push_stop(out, stop)?;
     out.push_str("\n")
+}
+
+fn push_input(
+    out: &mut String,
+    heading: Heading,
+    done: &Result<Reply, Refused>,
+) -> Result<(), AllocError>
+    ensures { OnOk result (string_bytes out.new ≡ string_bytes out.old ++ spec.input_text heading done.now) }
+{
+    match done {
+        Ok(Reply::Done) => out.push_str("ok\n"),
+        Ok(Reply::Output(output)) => push_output(out, heading, output),
+        Err(Refused::Machine) => Ok(()),
+        Err(Refused::Away(_)) => Ok(()),
+        Err(Refused::Stop(stop)) => push_stopped(out, RunStop::from(*stop)),
+    }
+}
+
+fn push_access_error(out: &mut String, error: DebugError) -> Result<(), AllocError>
+    ensures { OnOk result (string_bytes out.new ≡ string_bytes out.old ++ spec.access_text error) }
+{
+    match error {
+        DebugError::NoPlace => out.push_str("error E14\n"),
+        DebugError::Stop(stop) => push_stopped(out, stop),
+    }
+}
+
+fn push_probed(out: &mut String, done: &Result<Vec<u8>, DebugError>) -> Result<(), AllocError>
+    ensures { OnOk result (string_bytes out.new ≡ string_bytes out.old ++ spec.probed_text done.now) }
+{
+    match done {
+        Ok(bytes) => {
+            push_digits(out, bytes)?;
+            out.push_str("\n")
+        }
+        Err(error) => push_access_error(out, *error),
+    }
+}
+
+fn push_written(out: &mut String, done: Result<(), DebugError>) -> Result<(), AllocError>
+    ensures { OnOk result (string_bytes out.new ≡ string_bytes out.old ++ spec.written_text done) }
+{
+    match done {
+        Ok(()) => out.push_str("ok\n"),
+        Err(error) => push_access_error(out, error),
+    }
+}
+
+fn push_faulted(out: &mut String, done: Result<(), FaultError>) -> Result<(), AllocError>
+    ensures { OnOk result (string_bytes out.new ≡ string_bytes out.old ++ spec.faulted_text done) }
+{
+    match done {
+        Ok(()) => out.push_str("ok\n"),
+        Err(error) => push_stopped(out, RunStop::from(error)),
+    }
 }
 
 fn push_admitted(out: &mut String, other: GuestPage) -> Result<(), AllocError>
@@ -184,25 +270,55 @@ fn push_books(out: &mut String, counts: BookCounts) -> Result<(), AllocError>
     out.push_str("\n")
 }
 
-/// Writes what is replied to an event: a line, or the lines of a dump.
-pub fn push_reply(out: &mut String, reply: &Reply) -> Result<(), AllocError>
-    ensures { OnOk result (string_bytes out.new ≡ string_bytes out.old ++ spec.reply_text reply.now) }
+fn push_turned(out: &mut String, done: &Result<Turn, AllocError>) -> Result<(), AllocError>
+    ensures { OnOk result (string_bytes out.new ≡ string_bytes out.old ++ spec.turned_text done.now) }
 {
-    match reply {
-        Reply::Done => out.push_str("ok\n"),
-        Reply::Stepped { guest, ran } => push_ran(out, "step ", *guest, *ran),
-        Reply::Ran { guest, ran } => push_ran(out, "run ", *guest, *ran),
-        Reply::StepBlocked { guest } => push_blocked(out, "step ", *guest),
-        Reply::RunBlocked { guest } => push_blocked(out, "run ", *guest),
-        Reply::Taken { guest, count, stop } => push_taken(out, *guest, *count, *stop),
-        Reply::Drained { guest, output } => push_drained(out, *guest, output),
-        Reply::Probed { bytes } => push_probed(out, bytes),
-        Reply::NoPlace => out.push_str("error E14\n"),
-        Reply::Stopped(stop) => push_stopped(out, *stop),
-        Reply::Scanned(scan) => push_scan(out, *scan),
-        Reply::Evicted(evicted) => push_evicted(out, *evicted),
-        Reply::Turned(turn) => push_level(out, turn.level),
-        Reply::Audited(counts) => push_books(out, *counts),
-        Reply::Dumped(text) => out.push_str(text),
+    match done {
+        Ok(turn) => push_level(out, turn.level),
+        Err(_) => push_stopped(out, RunStop::Memory),
+    }
+}
+
+// What the world answers to an event.
+fn push_answer(out: &mut String, heading: Heading, answer: &Answer) -> Result<(), AllocError>
+    ensures { OnOk result (string_bytes out.new ≡ string_bytes out.old ++ spec.answer_text heading answer.now) }
+{
+    match answer {
+        Answer::Ran(ran) => push_ran(out, heading, *ran),
+        Answer::Blocked => push_blocked(out, heading),
+        Answer::Fed(fed) => push_fed(out, heading, *fed),
+        Answer::Input(done) => push_input(out, heading, done),
+        Answer::Probed(done) => push_probed(out, done),
+        Answer::Written(done) => push_written(out, *done),
+        Answer::Faulted(done) => push_faulted(out, *done),
+        Answer::Evicted(done) => push_evicted(out, *done),
+        Answer::Scanned(scan) => push_scan(out, *scan),
+        Answer::Sampled => out.push_str("ok\n"),
+        Answer::Turned(done) => push_turned(out, done),
+        Answer::Stepped(_) => Ok(()),
+        Answer::Supplied(_) => Ok(()),
+        Answer::Nowhere => Ok(()),
+    }
+}
+
+fn push_dumped(out: &mut String, done: &Result<String, AllocError>) -> Result<(), AllocError>
+    ensures { OnOk result (string_bytes out.new ≡ string_bytes out.old ++ spec.dumped_text done.now) }
+{
+    match done {
+        Ok(text) => out.push_str(text),
+        Err(_) => push_stopped(out, RunStop::Memory),
+    }
+}
+
+/// Writes the line of what is answered to an act, or the lines of a dump, where the line begins with this.
+pub fn push_said(out: &mut String, heading: Heading, said: &Said) -> Result<(), AllocError>
+    ensures { OnOk result (string_bytes out.new ≡ string_bytes out.old ++ spec.said_text heading said.now) }
+{
+    match said {
+        Said::Answered(answer) => push_answer(out, heading, answer),
+        Said::Skipped => out.push_str("skipped\n"),
+        Said::Counted(counts) => push_books(out, *counts),
+        Said::Dumped(done) => push_dumped(out, done),
+        Said::Damaged => out.push_str("ok\n"),
     }
 }

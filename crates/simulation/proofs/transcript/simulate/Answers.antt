@@ -1,33 +1,32 @@
-use Rattle.std.proofs.Common.{ap, List, [], map, subst, ◌∙◌}
-use Rattle.mips_step.specs.Step.{Machine}
-use Rattle.world.specs.Worlds.{log_at}
-use Rattle.simulation.specs.Replies.{replies_text}
-use Rattle.simulation.specs.Transcripts.{AllShow, machine_of}
-use Rattle.simulation.proofs.Showing.{booted_machines, booted_logs, show_same}
+use Rattle.std.proofs.Common.{ℕ, All, length, sym, subst}
+use Rattle.simulation.specs.Acts.{IsFor}
+use Rattle.simulation.proofs.Showing.{all_shown, from_boot}
 use Rattle.simulation.proofs.transcript.simulate.Goals as goal
 
 pub returns-clause-transcript : goal.returns-clause-transcript
 returns-clause-transcript g c =
-    let ts = c.in-Ok.world.tenants in
-    let guests = c.args.guests.items in
+    let s = g.S.SwapStore in
+    let ok = c.in-Ok.ensures in
+    let played = c.in_ok-text.ensures in
     let events = c.args.events.items in
-    let replies = c.in_ok-replies.field-0.items in
-    let booted = c.in-Ok.ensures.booted in
+    let each : All (IsFor (length c.in-Ok.world.tenants) (s.slots c.in-Ok.world.store)) events =
+    subst (λ (n : ℕ). All (IsFor n (s.slots c.in-Ok.world.store)) events) (sym ok.booted.count)
+    (subst (λ (n : ℕ). All (IsFor (length c.args.guests.items) n) events) (sym ok.slots) c.requires) in
     record {
-      replies = replies;
-      lines = c.in_ok-text_of.ensures ∙ ap replies_text c.deref.ensures.value;
-      of_events = c.in_ok-replies.ensures.of;
-      shows = λ trust any. show_same any (map machine_of guests) (log_at ts) (λ h. []) events replies (booted_logs c.args.config.log_runs guests ts booted)
-          (subst (λ (boots : List Machine). AllShow any boots (log_at ts) events replies) (booted_machines c.args.config.log_runs guests ts booted)
-          (c.in_ok-replies.ensures.shows (c.in-Ok.ensures.true_to_digests.1 trust) any));
+      first = c.in-Ok.world;
+      last = c.play-text.new.world;
+      is_first = record {
+        booted = ok.booted;
+        frames = ok.frames;
+        level = ok.level;
+        hints = ok.hints;
+        slots_are = ok.slots;
+        honesty = ok.honest;
+        trust = ok.true_to_digests;
+        admitted = ok.admitted;
+        sound = c.is_sound.ensures;
+      };
+      played = played;
+      shows = λ trust any. from_boot any c.args.config.log_runs c.args.guests.items c.in-Ok.world.tenants events played.said ok.booted
+          (all_shown s.true_to_digests s.failed s.honest s.slots s.held any c.in-Ok.world c.play-text.new.world events played.said played.done (ok.true_to_digests.1 trust) each);
     }
-
-pub returns-clause-answers : goal.returns-clause-answers
-returns-clause-answers g c = record {
-  replies = c.in_ok-replies.field-0.items;
-  lines = c.in_ok-text_of.ensures ∙ ap replies_text c.deref.ensures.value;
-  first = c.in-Ok.world;
-  last = c.perform_all-replies.new.world;
-  booted = c.in-Ok.ensures.booted;
-  run = c.in_ok-replies.ensures.run;
-}

@@ -1,0 +1,48 @@
+use Rattle.std.proofs.Common.{◌≡◌, None, refl, string_bytes, sym, subst}
+use Rattle.simulation.specs.declared.acts.Act.{Act}
+use Rattle.simulation.specs.declared.said.Said.TheVariants as said
+use Rattle.simulation.specs.Transcripts.{IsTold}
+use Rattle.dump.specs.Dumps.{dump_text}
+use Rattle.dump.specs.Steps.{step_count}
+use Rattle.world.specs.Worlds.{guest_at, items_of, view_at}
+use Rattle.simulation.proofs.Playing.{beside_store, told_dump}
+use Rattle.simulation.proofs.doing.perform.Goals as goal
+
+pub returns-in-World-clause-told : goal.returns-in-World-clause-told
+returns-in-World-clause-told g c =
+    let s = g.S.SwapStore in
+    let e = c.apply.ensures in
+    subst (λ (a : Act). IsTold s.true_to_digests s.failed s.honest s.slots s.held c.args.world.now a (said.Answered c.apply.result) c.apply.new.self) (sym c.in-World.is) (record {
+      answered = e.answered;
+      logs = e.logs;
+      boots = e.boots;
+      limits = e.limits;
+      blocked = e.blocked;
+      frames = e.frames;
+      slots_stay = e.slots;
+      honesty = e.honest;
+      trust = e.true_to_digests;
+      room = e.room;
+      sound = e.sound;
+    })
+
+pub returns-in-Damage-clause-told : goal.returns-in-Damage-clause-told
+returns-in-Damage-clause-told g c =
+    let s = g.S.SwapStore in
+    let d = c.damage.ensures in
+    subst (λ (a : Act). IsTold s.true_to_digests s.failed s.honest s.slots s.held c.args.world.now a said.Damaged c.damage.new.self) (sym c.in-Damage.is) (record {
+      inverted = d.inverted;
+      others = d.others;
+      failures_stay = d.failed;
+      beside = beside_store c.args.world.now c.damage.new.self d.tenants d.pool d.slots d.shares d.frames d.level;
+    })
+
+pub returns-in-Dump-clause-told : goal.returns-in-Dump-clause-told
+returns-in-Dump-clause-told g c =
+    let s = g.S.SwapStore in
+    let w = c.args.world.now in
+    subst (λ (a : Act). IsTold s.true_to_digests s.failed s.honest s.slots s.held w a (said.Dumped c.dump_of.result) w) (sym c.in-Dump.is) (
+      told_dump c.dump_of.result (s.true_to_digests w.store)
+          (λ t text. string_bytes text ≡ dump_text (view_at w c.in-Dump.g t) (step_count (items_of (guest_at w c.in-Dump.g t))) None) c.dump_of.ensures,
+      refl,
+    )
