@@ -85,3 +85,7 @@ refused text script is unknown = λ other also known. unknown (subst IsKnown (ap
 
 pub not_read : (text : List ℕ) (line : ℕ) → script_of text ≡ Err line → IsRefusedScript text
 not_read text line is = λ other also known. absurd (cc)
+
+-- what is so of what is answered, where that is this
+pub answered : {X E : Type 0} (r : Result X E) (x : X) (So : X → Type 0) → r ≡ Ok x → IfOk r So → So x
+answered r x So is so = subst (λ (q : Result _ _). IfOk q So) is so
