@@ -68,7 +68,7 @@ all_for guests slots (e ∷ events) allowed =
 
 -- what is replied to a script, where it is
 pub simulated : {E : Type 0} (r : Result (String Global) E) (text : List ℕ) (script : ScriptCode) (guests : List NewGuest) → script_of text ≡ Ok (script_view script) → IsKnown (script_view script)
-    → map numbers_of guests ≡ map line_numbers script.header.guests.items → IfOk r (λ replies. IsOver script.header.failure (config_of script.header) script.header.slots guests script.events.items (string_bytes replies))
+    → map numbers_of guests ≡ map line_numbers script.header.guests.items → IfOk r (λ replies. IsOver script.header.failure (config_of script.header) script.header.seed script.header.slots guests script.events.items (string_bytes replies))
     → IfOk r (λ replies. AreWithinLimits (config_of script.header) script.header.slots guests)
     → IfOk r (λ replies. AreAdmitted (config_of script.header) script.header.slots guests) → IfOk r (λ replies. IsSimulation text (string_bytes replies))
 simulated (Err error) text script guests reads known numbers transcript within admitted = tt

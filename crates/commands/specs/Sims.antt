@@ -40,31 +40,31 @@ IsWhole store = store.damaged ≡ false
 abbrev pub slot_in : MemoryIs → ℕ → Option (List ℕ)
 slot_in store slot = Some (slice_index_or store.pages slot [])
 
--- the text is what events say in a world over a store in memory that is whole and has so many slots
-pub record IsOverMemory (config : Config) (slots : ℕ) (guests : List NewGuest) (events : List Event) (text : List ℕ) : Type 0 where
+-- the text is what events say by the words of a seed in a world over a store in memory that is whole and has so many slots
+pub record IsOverMemory (config : Config) (seed slots : ℕ) (guests : List NewGuest) (events : List Event) (text : List ℕ) : Type 0 where
   pub store : MemoryIs
   pub whole : IsWhole store
   pub count : length store.pages ≡ slots
-  pub transcript : IsTranscript IsWhole (λ s. 0) IsWhole (λ s. length s.pages) slot_in config guests store events text
+  pub transcript : IsTranscript IsWhole (λ s. 0) IsWhole (λ s. length s.pages) slot_in config seed guests store events text
 
 -- the same over such a store of which one call fails
-pub record IsOverFailing (config : Config) (slots : ℕ) (guests : List NewGuest) (events : List Event) (text : List ℕ) : Type 0 where
+pub record IsOverFailing (config : Config) (seed slots : ℕ) (guests : List NewGuest) (events : List Event) (text : List ℕ) : Type 0 where
   pub store : FaultStore MemoryIs
   pub whole : IsWhole (store_of store)
   pub count : length (store_of store).pages ≡ slots
   pub transcript : IsTranscript (λ (s : FaultStore MemoryIs). IsWhole (store_of s)) (λ (s : FaultStore MemoryIs). with_fault (left_of s) 0) (λ (s : FaultStore MemoryIs). IsWhole (store_of s))
-      (λ (s : FaultStore MemoryIs). length (store_of s).pages) (λ (s : FaultStore MemoryIs). slot_in (store_of s)) config guests store events text
+      (λ (s : FaultStore MemoryIs). length (store_of s).pages) (λ (s : FaultStore MemoryIs). slot_in (store_of s)) config seed guests store events text
 
 -- over a store of which no call fails, or the one that a header names
-abbrev pub IsOver : Option Fail → Config → ℕ → List NewGuest → List Event → List ℕ → Type 0
-IsOver None config slots guests events text = IsOverMemory config slots guests events text
-IsOver (Some fail) config slots guests events text = IsOverFailing config slots guests events text
+abbrev pub IsOver : Option Fail → Config → ℕ → ℕ → List NewGuest → List Event → List ℕ → Type 0
+IsOver None config seed slots guests events text = IsOverMemory config seed slots guests events text
+IsOver (Some fail) config seed slots guests events text = IsOverFailing config seed slots guests events text
 
 -- ---- the whole
 
 -- The replies to the script that a text is, in a world that is booted with its guests, each with an image and with the pages, shares
--- and minimum of its line, and admitted by these where the header asks for that: its events are done one after another, and whatever they
--- do, what is shown of a guest is of its own machine run alone (`IsTranscript`).
+-- and minimum of its line, and admitted by these where the header asks for that: its events are done one after another, by the words of the
+-- generator of the header's seed, and whatever they do, what is shown of a guest is of its own machine run alone (`IsTranscript`).
 pub record IsSimulation (text replies : List ℕ) : Type 0 where
   pub script : ScriptCode
   pub reads : script_of text ≡ Ok (script_view script)
@@ -73,4 +73,4 @@ pub record IsSimulation (text replies : List ℕ) : Type 0 where
   pub numbers : map numbers_of guests ≡ map line_numbers script.header.guests.items
   pub within : AreWithinLimits (config_of script.header) script.header.slots guests
   pub admitted : AreAdmitted (config_of script.header) script.header.slots guests
-  pub transcript : IsOver script.header.failure (config_of script.header) script.header.slots guests script.events.items replies
+  pub transcript : IsOver script.header.failure (config_of script.header) script.header.seed script.header.slots guests script.events.items replies

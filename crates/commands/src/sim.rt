@@ -144,7 +144,7 @@ fn replies_to<'a>(
     events: Vec<Event>,
 ) -> Result<String, Fault<'a>>
     requires { All (IsFor (length guests.items) header.now.slots) events.items }
-    ensures replies { IfOk result (λ replies. IsOver header.now.failure (config_of header.now) header.now.slots guests.items events.items (string_bytes replies)) }
+    ensures replies { IfOk result (λ replies. IsOver header.now.failure (config_of header.now) header.now.seed header.now.slots guests.items events.items (string_bytes replies)) }
     ensures within { IfOk result (λ replies. AreWithinLimits (config_of header.now) header.now.slots guests.items) }
     ensures admitted { IfOk result (λ replies. AreAdmitted (config_of header.now) header.now.slots guests.items) }
     ensures faults { IfErr result (λ fault. IsToldFault fault) }

@@ -29,7 +29,8 @@ use Rattle.simulation.specs.declared.acts.Act.{Act}
 use Rattle.simulation.specs.declared.acts.Act.TheVariants as act
 use Rattle.simulation.specs.declared.said.Said.{Said}
 use Rattle.simulation.specs.declared.said.Said.TheVariants as said
-use Rattle.simulation.specs.Acts.{IsFor, IsDoable, IsHarmless, act_of}
+use Rattle.simulation.specs.Acts.{IsFor, IsDoable, act_of}
+use Rattle.rand_core.specs.Stream.{Stream}
 use Rattle.simulation.specs.Transcripts.{IsTold, AllDone, Shows, AllShow, added, machine_of}
 use Rattle.simulation.proofs.Playing.{for_act}
 
@@ -41,11 +42,11 @@ its_view ts g t any inside =
     ap (λ (l : List Item). run l (boot_of (get_or ts g t))) (sym (its_log ts g t inside)) ∙ ap (run (log_at ts g)) (sym (map_at boot_of ts g t any inside))
 
 module _ {Store : Type 0} (trusted : Store → Type 0) (failures : Store → ℕ) (honest : Store → Type 0) (slots : Store → ℕ) (held : Store → ℕ → Option (List ℕ)) where
-  module _ (any : Machine) (w w' : WorldIs Store) (a : Act) (s : Said) (all_slots : ℕ) (trust : trusted w.store) (can : IsDoable (length w.tenants) all_slots a)
-      (told : IsTold trusted failures honest slots held w a s w') where
-    of : (a' : Act) (s' : Said) → a ≡ a' → s ≡ s' → IsTold trusted failures honest slots held w a' s' w'
+  module _ (any : Machine) (words rest : Stream) (w w' : WorldIs Store) (a : Act) (s : Said) (all_slots : ℕ) (trust : trusted w.store) (can : IsDoable (length w.tenants) all_slots a)
+      (told : IsTold trusted failures honest slots held words w a s rest w') where
+    of : (a' : Act) (s' : Said) → a ≡ a' → s ≡ s' → IsTold trusted failures honest slots held words w a' s' rest w'
     of a' s' is_a is_s =
-        subst (λ (b : Act). IsTold trusted failures honest slots held w b s' w') is_a (subst (λ (u : Said). IsTold trusted failures honest slots held w a u w') is_s told)
+        subst (λ (b : Act). IsTold trusted failures honest slots held words w b s' rest w') is_a (subst (λ (u : Said). IsTold trusted failures honest slots held words w a u rest w') is_s told)
 
     does : (a' : Act) → a ≡ a' → IsDoable (length w.tenants) all_slots a'
     does a' is_a = subst (IsDoable (length w.tenants) all_slots) is_a can
@@ -99,22 +100,22 @@ module _ {Store : Type 0} (trusted : Store → Type 0) (failures : Store → ℕ
 
   -- ---- many
 
-  pub all_shown : (any : Machine) (w last : WorldIs Store) (es : List Event) (ss : List Said) → AllDone trusted failures honest slots held w es ss last → trusted w.store
+  pub all_shown : (any : Machine) (words rest : Stream) (w last : WorldIs Store) (es : List Event) (ss : List Said) → AllDone trusted failures honest slots held words w es ss rest last → trusted w.store
       → All (IsFor (length w.tenants) (slots w.store)) es → AllShow any (map boot_of w.tenants) (log_at w.tenants) es ss
-  all_shown any w last [] ss done trust each = tt
-  all_shown any w last (e ∷ es) [] done trust each = tt
-  all_shown any w last (e ∷ es) (s ∷ ss) done trust each =
-      let mid = done.0 in
-      let one = done.1 in
+  all_shown any words rest w last [] ss done trust each = tt
+  all_shown any words rest w last (e ∷ es) [] done trust each = tt
+  all_shown any words rest w last (e ∷ es) (s ∷ ss) done trust each =
+      let mid = done.1 in
+      let one = done.2 in
       let is : IsFor (length w.tenants) (slots w.store) e = All-head (IsFor (length w.tenants) (slots w.store)) e es each in
       let counts : length w.tenants ≡ length mid.tenants = omega (arith, ap length one.boots, length-map w.tenants boot_of, length-map mid.tenants boot_of) in
-      let rest : All (IsFor (length mid.tenants) (slots mid.store)) es =
+      let others : All (IsFor (length mid.tenants) (slots mid.store)) es =
       subst (λ (n : ℕ). All (IsFor n (slots mid.store)) es) counts
       (subst (λ (n : ℕ). All (IsFor (length w.tenants) n) es) (sym one.slots_stay) (All-tail (IsFor (length w.tenants) (slots w.store)) e es each)) in (
-        shown any w mid (act_of e) s (slots w.store) trust (for_act (length w.tenants) (slots w.store) e is).act one.told,
+        shown any words done.0 w mid (act_of e) s (slots w.store) trust (for_act (length w.tenants) (slots w.store) e is).act one.told,
         λ harmless. subst (λ (boots : List Machine). AllShow any boots (λ h. log_at w.tenants h ++ added h (act_of e) s) es ss) one.boots
             (subst (λ (logs : ℕ → List Item). AllShow any (map boot_of mid.tenants) logs es ss) (λ i h. one.logs h i)
-            (all_shown any mid last es ss done.2 ((one.trust harmless).1 trust) rest)),
+            (all_shown any done.0 rest mid last es ss done.3 ((one.trust harmless).1 trust) others)),
       )
 
 -- ---- guests that have booted

@@ -1,9 +1,13 @@
 -- What is done and answered by a list of events.
-use Rattle.std.specs.Prelude.{◌≡◌, ◌↔◌, ◌+◌, ◌≤◌, ℕ, false, true, List, [], ◌∷◌, ◌++◌, length, map, sum_by, slice_index_or, string_bytes, option_map, Option, Some, None, Result, Ok, Err, IfOk, IsErrOf}
+use Rattle.std.specs.Prelude.{◌≡◌, ◌↔◌, ◌+◌, ◌≤◌, ℕ, false, true, List, [], ◌∷◌, ◌++◌, length, map, sum_by, slice_index_or, string_bytes, option_map, Option, Some, None, Ok, Err, IfOk}
 use Rattle.std.specs.declared.vec.Vec.{Vec}
 use Rattle.std.specs.declared.string.String.{String}
 use Rattle.std.specs.declared.alloc.Global.{Global}
 use Rattle.items.specs.declared.item.Item.{Item}
+use Rattle.rand_core.specs.Stream.{Stream}
+use Rattle.rand_core.specs.Steps.{stream_of, steps_u32}
+use Rattle.rand_core.specs.Pcg32Seed.{pcg32_seed}
+use Rattle.rand_pcg.specs.Pcg.{pcg32, pcg32_of_seed}
 use Rattle.items.specs.declared.item.What.TheVariants.{Write}
 use Rattle.mips_step.specs.Step.{Machine}
 use Rattle.flatvm.specs.Answers.{replied}
@@ -67,15 +71,16 @@ pub record IsDamaged {Store : Type 0} (failures : Store → ℕ) (held : Store �
   pub failures_stay : failures w'.store ≡ failures w.store
   pub beside : w' ≡ record w { store = w'.store }
 
--- What is answered to an act, and what it makes of the world: what `World::apply` answers to an event, at a tax of 75 percent (`Happens`);
--- what is read of the world as it is; or that a slot is damaged.
-abbrev pub IsTold : {Store : Type 0} → (trusted : Store → Type 0) → (failures : Store → ℕ) → (honest : Store → Type 0) → (slots : Store → ℕ) → (held : Store → ℕ → Option (List ℕ)) → WorldIs Store → Act → Said → WorldIs Store → Type 0
-IsTold trusted failures honest slots held w (act.World e) (said.Answered a) w' = Happens trusted failures honest slots held 75 w e a w'
-IsTold trusted failures honest slots held w act.Skip said.Skipped w' = w' ≡ w
-IsTold trusted failures honest slots held w act.Audit (said.Counted counts) w' = AreCounts w (slots w.store) counts × (w' ≡ w)
-IsTold trusted failures honest slots held w (act.Dump g) (said.Dumped done) w' = IfOk done (λ text. trusted w.store → IsDumpIn w g (string_bytes text)) × (w' ≡ w)
-IsTold trusted failures honest slots held w (act.Damage slot byte) said.Damaged w' = IsDamaged failures held w slot byte w'
-IsTold trusted failures honest slots held w _ _ w' = ⊥
+-- What is answered to an act, and what it makes of the world: what `World::apply` answers to an event, at a tax of 75 percent and by the
+-- words that a generator gives next (`Happens`); what is read of the world as it is; or that a slot is damaged. These draw no word.
+abbrev pub IsTold : {Store : Type 0} → (trusted : Store → Type 0) → (failures : Store → ℕ) → (honest : Store → Type 0) → (slots : Store → ℕ) → (held : Store → ℕ → Option (List ℕ)) → Stream → WorldIs Store → Act → Said → Stream → WorldIs Store → Type 0
+IsTold trusted failures honest slots held words w (act.World e) (said.Answered a) rest w' = Happens trusted failures honest slots held 75 words w e a rest w'
+IsTold trusted failures honest slots held words w act.Skip said.Skipped rest w' = (w' ≡ w) × (rest ≡ words)
+IsTold trusted failures honest slots held words w act.Audit (said.Counted counts) rest w' = AreCounts w (slots w.store) counts × (w' ≡ w) × (rest ≡ words)
+IsTold trusted failures honest slots held words w (act.Dump g) (said.Dumped done) rest w' =
+    IfOk done (λ text. trusted w.store → IsDumpIn w g (string_bytes text)) × (w' ≡ w) × (rest ≡ words)
+IsTold trusted failures honest slots held words w (act.Damage slot byte) said.Damaged rest w' = IsDamaged failures held w slot byte w' × (rest ≡ words)
+IsTold trusted failures honest slots held words w _ _ rest w' = ⊥
 
 -- the items that an act adds to the log of guest h, by what is answered
 abbrev pub added : ℕ → Act → Said → List Item
@@ -84,8 +89,8 @@ added h _ _ = []
 
 -- An act is done. Each log has the items more that it adds, the machines that the guests booted and the number of slots are as before, and
 -- the world is sound. Unless it damages a slot, the store is as true to digests as before.
-pub record IsDone {Store : Type 0} (trusted : Store → Type 0) (failures : Store → ℕ) (honest : Store → Type 0) (slots : Store → ℕ) (held : Store → ℕ → Option (List ℕ)) (w : WorldIs Store) (a : Act) (s : Said) (w' : WorldIs Store) : Type 0 where
-  pub told : IsTold trusted failures honest slots held w a s w'
+pub record IsDone {Store : Type 0} (trusted : Store → Type 0) (failures : Store → ℕ) (honest : Store → Type 0) (slots : Store → ℕ) (held : Store → ℕ → Option (List ℕ)) (words : Stream) (w : WorldIs Store) (a : Act) (s : Said) (rest : Stream) (w' : WorldIs Store) : Type 0 where
+  pub told : IsTold trusted failures honest slots held words w a s rest w'
   pub logs : (h : ℕ) → log_at w'.tenants h ≡ log_at w.tenants h ++ added h a s
   pub boots : map boot_of w'.tenants ≡ map boot_of w.tenants
   pub slots_stay : slots w'.store ≡ slots w.store
@@ -94,19 +99,19 @@ pub record IsDone {Store : Type 0} (trusted : Store → Type 0) (failures : Stor
 
 -- ---- many
 
--- events of a script are done one after another, each in the world that the one before it left
-abbrev pub AllDone : {Store : Type 0} → (trusted : Store → Type 0) → (failures : Store → ℕ) → (honest : Store → Type 0) → (slots : Store → ℕ) → (held : Store → ℕ → Option (List ℕ)) → WorldIs Store → List Event → List Said → WorldIs Store → Type 0
-AllDone trusted failures honest slots held w [] [] w' = w' ≡ w
-AllDone trusted failures honest slots held w [] (s ∷ ss) w' = ⊥
-AllDone trusted failures honest slots held w (e ∷ es) [] w' = ⊥
-AllDone {Store} trusted failures honest slots held w (e ∷ es) (s ∷ ss) w' =
-    (mid : WorldIs Store) × IsDone trusted failures honest slots held w (act_of e) s mid × AllDone trusted failures honest slots held mid es ss w'
+-- events of a script are done one after another, each in the world that the one before it left, and by the words that it left
+abbrev pub AllDone : {Store : Type 0} → (trusted : Store → Type 0) → (failures : Store → ℕ) → (honest : Store → Type 0) → (slots : Store → ℕ) → (held : Store → ℕ → Option (List ℕ)) → Stream → WorldIs Store → List Event → List Said → Stream → WorldIs Store → Type 0
+AllDone trusted failures honest slots held words w [] [] rest w' = (rest ≡ words) × (w' ≡ w)
+AllDone trusted failures honest slots held words w [] (s ∷ ss) rest w' = ⊥
+AllDone trusted failures honest slots held words w (e ∷ es) [] rest w' = ⊥
+AllDone {Store} trusted failures honest slots held words w (e ∷ es) (s ∷ ss) rest w' =
+    (left : Stream) × (mid : WorldIs Store) × IsDone trusted failures honest slots held words w (act_of e) s left mid × AllDone trusted failures honest slots held left mid es ss rest w'
 
--- events are done in a world, and the text is the lines of what is answered to them
-pub record IsPlayed {Store : Type 0} (trusted : Store → Type 0) (failures : Store → ℕ) (honest : Store → Type 0) (slots : Store → ℕ) (held : Store → ℕ → Option (List ℕ)) (w : WorldIs Store) (events : List Event) (w' : WorldIs Store) (text : List ℕ) : Type 0 where
+-- events are done in a world by the words of a generator, and the text is the lines of what is answered to them
+pub record IsPlayed {Store : Type 0} (trusted : Store → Type 0) (failures : Store → ℕ) (honest : Store → Type 0) (slots : Store → ℕ) (held : Store → ℕ → Option (List ℕ)) (words : Stream) (w : WorldIs Store) (events : List Event) (rest : Stream) (w' : WorldIs Store) (text : List ℕ) : Type 0 where
   pub said : List Said
   pub lines : text ≡ lines_of events said
-  pub done : AllDone trusted failures honest slots held w events said w'
+  pub done : AllDone trusted failures honest slots held words w events said rest w'
 
 -- ---- what is shown of guests
 
@@ -150,14 +155,20 @@ pub record IsFirst {Store : Type 0} (trusted : Store → Type 0) (honest : Store
   pub admitted : config.admit ≡ true → IsAdmitted config.frames (slots store) w.tenants
   pub sound : IsSoundWorld trusted slots held w
 
+-- the words of the generator of a seed, PCG-XSH-RR with 64 bits of state (O'Neill, "PCG: a family of simple fast space-efficient
+-- statistically good algorithms for random number generation")
+abbrev pub words_of : ℕ → Stream
+words_of seed = stream_of (steps_u32 pcg32) (pcg32_of_seed (pcg32_seed 16 seed))
+
 -- The text is the lines of what is answered to the events, done one after another from a world that was booted with these guests over a
--- store; and where the store was true to digests, what they show of guests is of the machines that the guests boot, each run alone on its
--- own items.
-pub record IsTranscript {Store : Type 0} (trusted : Store → Type 0) (failures : Store → ℕ) (honest : Store → Type 0) (slots : Store → ℕ) (held : Store → ℕ → Option (List ℕ)) (config : Config) (guests : List NewGuest) (store : Store) (events : List Event) (text : List ℕ) : Type 0 where
+-- store, by the words of the generator of a seed; and where the store was true to digests, what they show of guests is of the machines that
+-- the guests boot, each run alone on its own items.
+pub record IsTranscript {Store : Type 0} (trusted : Store → Type 0) (failures : Store → ℕ) (honest : Store → Type 0) (slots : Store → ℕ) (held : Store → ℕ → Option (List ℕ)) (config : Config) (seed : ℕ) (guests : List NewGuest) (store : Store) (events : List Event) (text : List ℕ) : Type 0 where
   pub first : WorldIs Store
   pub last : WorldIs Store
+  pub rest : Stream
   pub is_first : IsFirst trusted honest slots held config guests store first
-  pub played : IsPlayed trusted failures honest slots held first events last text
+  pub played : IsPlayed trusted failures honest slots held (words_of seed) first events rest last text
   pub shows : trusted store → (any : Machine) → AllShow any (map machine_of guests) (λ h. []) events played.said
 
 -- why there is no transcript: the world is not booted, or a request for memory was refused

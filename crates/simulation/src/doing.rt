@@ -40,7 +40,8 @@ pub(crate) fn perform<S: Damage, R: Rng>(
     act: Act,
 ) -> Said
     requires { IsDoable (length world.old.tenants) (S.slots world.old.store) act }
-    ensures told { IsTold S.true_to_digests S.failed S.honest S.slots S.held world.old act result world.new }
+    ensures told { IsTold S.true_to_digests S.failed S.honest S.slots S.held (R.stream rng.old) world.old act result
+        (R.stream rng.new) world.new }
     ensures logs { (h : ℕ) → log_at world.new.tenants h ≡ log_at world.old.tenants h ++ added h act result }
     ensures boots { map boot_of world.new.tenants ≡ map boot_of world.old.tenants }
     ensures slots { S.slots world.new.store ≡ S.slots world.old.store }

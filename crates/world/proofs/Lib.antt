@@ -1,5 +1,6 @@
 pub mod Admitting
 pub mod BootedGuests
+pub mod Choices
 pub mod Feeding
 pub mod Reached
 pub mod Runs

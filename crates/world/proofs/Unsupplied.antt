@@ -1,5 +1,5 @@
 -- Steps of a guest for which no page is supplied, and more of them.
-use Rattle.std.proofs.Common.{IfOk, Result, Ok, Err, ℕ, zero, suc, ◌≡◌, ◌+◌, ◌-◌, ◌<◌, ◌≤◌, inl, inr, List, ◌++◌, set, map, Option, Some, None, refl, sym, ap, subst, ◌∙◌, arith}
+use Rattle.std.proofs.Common.{IfOk, Result, Ok, Err, ℕ, zero, suc, ◌≡◌, ◌+◌, ◌-◌, ◌<◌, inl, inr, List, ◌++◌, set, Option, Some, None, refl, sym, ap, ◌∙◌, arith}
 use Rattle.std.proofs.lemmas.Bool.{cases_lt}
 use Rattle.std.proofs.lemmas.List.{map-set}
 use Rattle.items.specs.declared.item.Item.{Item}

@@ -1,16 +1,15 @@
 -- Pages that are needed, and frames for them.
-use Rattle.std.proofs.Common.{ℕ, zero, suc, ◌≡◌, ◌≢◌, ◌+◌, ◌<◌, ◌≤◌, ◌==◌, ◌&&◌, ◌||◌, not, ne_eqb, length-set, inl, inr, Bool, true, false, Option, List, [], ◌∷◌, ◌++◌, length, set, get_or, map, refl, sym, ap, subst, ◌∙◌, arith, Some, None}
-use Rattle.std.proofs.lemmas.Bool.{cases_lt, cases_eq}
+use Rattle.std.proofs.Common.{ℕ, zero, suc, ◌≡◌, ◌≢◌, ◌+◌, ◌<◌, inl, inr, true, false, Option, List, [], ◌∷◌, ◌++◌, length, set, get_or, map, refl, sym, ap, subst, ◌∙◌, arith, Some, None}
+use Rattle.std.proofs.lemmas.Bool.{cases_eq}
 use Rattle.std.proofs.lemmas.List.{length-map, append-nil, get_or-set_other}
 use Rattle.std.proofs.lemmas.Option.{same_Some, get_or_from_slice_get}
-use Rattle.std.proofs.lemmas.List.Sums.{sum_by-cons, sum_by-set}
-use Rattle.std.specs.List.{sum_by}
+use Rattle.std.proofs.lemmas.List.Sums.{sum_by-set}
 use Rattle.frames.specs.Counts.{count_of}
 use Rattle.frames.specs.FreeList.{FreeList}
 use Rattle.frames.proofs.Counting.{count_cons, one_same}
 use Rattle.physmap.specs.declared.page.Page.{Page}
 use Rattle.physmap.specs.declared.page.Page.TheVariants as page
-use Rattle.physmap.specs.Pages.{kind_of, page_at, kind_at, is_resident, NoneInFrame}
+use Rattle.physmap.specs.Pages.{page_at}
 use Rattle.physmap.specs.Holdings.{one_private, one_shared, resident_pages}
 use Rattle.paging.specs.Moves.{SameNumbers}
 use Rattle.paging.proofs.Exchanging.{exchanged}

@@ -30,6 +30,7 @@ use Rattle.tenant.proofs.Lending.{lent as books_lend}
 use Rattle.tenant.specs.Lent.{Lent, UsedStay}
 use Rattle.world.specs.declared.events.Event.{Event}
 use Rattle.world.specs.declared.events.Answer.{Answer}
+use Rattle.rand_core.specs.Stream.{Stream}
 use Rattle.world.specs.Answers.{Happens, AllHappen}
 use Rattle.world.specs.Events.{step_items, steps_for, input_items, own_items, own}
 use Rattle.tenant.specs.Tenants.{TenantIs, pages_in, beside_pages, IsKept, Stays, Adds, AddsSteps, NothingHappens}
@@ -345,10 +346,16 @@ logs_more h es answers e a old now after same so_far more =
     more ∙ ap (λ (xs : List Item). xs ++ own_items h e a) so_far ∙ append_assoc old (own h es answers) (own_items h e a)
     ∙ ap (λ (xs : List Item). old ++ xs) (sym (own_more h es answers e a same))
 
-pub all_more : {Kept : Type 0} (trusted : Kept → Type 0) (failures : Kept → ℕ) (honest : Kept → Type 0) (slots : Kept → ℕ) (held : Kept → ℕ → Option (List ℕ)) (tax : ℕ) (w mid w' : WorldIs Kept) (es : List Event) (answers : List Answer) (e : Event) (a : Answer)
-    → AllHappen trusted failures honest slots held tax w es answers mid → Happens trusted failures honest slots held tax mid e a w' → AllHappen trusted failures honest slots held tax w (es ++ e ∷ []) (answers ++ a ∷ []) w'
-all_more {Kept} trusted failures honest slots held tax w mid w' [] [] e a same one = (w', subst (λ (v : WorldIs Kept). Happens trusted failures honest slots held tax v e a w') same one, refl)
-all_more trusted failures honest slots held tax w mid w' [] (b ∷ answers) e a before one = absurd before
-all_more trusted failures honest slots held tax w mid w' (d ∷ es) [] e a before one = absurd before
-all_more trusted failures honest slots held tax w mid w' (d ∷ es) (b ∷ answers) e a before one =
-    (before.0, before.1, all_more trusted failures honest slots held tax before.0 mid w' es answers e a before.2 one)
+pub all_more : {Kept : Type 0} (trusted : Kept → Type 0) (failures : Kept → ℕ) (honest : Kept → Type 0) (slots : Kept → ℕ) (held : Kept → ℕ → Option (List ℕ)) (tax : ℕ) (words left rest : Stream) (w mid w' : WorldIs Kept) (es : List Event) (answers : List Answer) (e : Event) (a : Answer)
+    → AllHappen trusted failures honest slots held tax words w es answers left mid → Happens trusted failures honest slots held tax left mid e a rest w' → AllHappen trusted failures honest slots held tax words w (es ++ e ∷ []) (answers ++ a ∷ []) rest w'
+all_more {Kept} trusted failures honest slots held tax words left rest w mid w' [] [] e a same one = (
+  rest,
+  w',
+  subst (λ (v : WorldIs Kept). Happens trusted failures honest slots held tax words v e a rest w') same.1
+      (subst (λ (s : Stream). Happens trusted failures honest slots held tax s mid e a rest w') same.0 one),
+  (refl, refl),
+)
+all_more trusted failures honest slots held tax words left rest w mid w' [] (b ∷ answers) e a before one = absurd before
+all_more trusted failures honest slots held tax words left rest w mid w' (d ∷ es) [] e a before one = absurd before
+all_more trusted failures honest slots held tax words left rest w mid w' (d ∷ es) (b ∷ answers) e a before one =
+    (before.0, before.1, before.2, all_more trusted failures honest slots held tax before.0 left rest before.1 mid w' es answers e a before.3 one)

@@ -1,5 +1,6 @@
 -- What is answered to events, and why.
 use Rattle.std.specs.Prelude.{◌≡◌, ◌≢◌, ◌↔◌, ◌<◌, ◌≤◌, ◌^◌, ℕ, false, true, Option, Result, Ok, Err, Some, None, IfOk, IfErr, OnOk, IsErrOf, List, [], ◌∷◌, ◌++◌, length, map, slice_index, slice_index_or}
+use Rattle.rand_core.specs.Stream.{Stream}
 use Rattle.frames.specs.FreeList.{FreeList}
 use Rattle.items.specs.declared.item.Item.{Item}
 use Rattle.items.specs.declared.item.What.TheVariants.{In, Write}
@@ -50,6 +51,7 @@ use Rattle.world.specs.Admission.{IsAdmitted, LimitsStay, BlockedStay, NotTurned
 use Rattle.world.specs.Samples.{IsSampling}
 use Rattle.world.specs.Turns.{IsTurn}
 use Rattle.world.specs.Victims.{WhyUnsupplied}
+use Rattle.world.specs.Words.{GoesByWords}
 use Rattle.world.specs.Worlds.{WorldIs, Sound, SameAround, boot_of, log_at, guest_at, needed_by, FailsOnce}
 
 -- a step answers the page that it needs, and else is made; it stops for a full log exactly where the log is full
@@ -195,12 +197,13 @@ IsAnswered trusted failures honest tax w w' e a = ⊥
 abbrev pub IsSoundWorld : {Kept : Type 0} → (trusted : Kept → Type 0) → (slots : Kept → ℕ) → (held : Kept → ℕ → Option (List ℕ)) → WorldIs Kept → Type 0
 IsSoundWorld trusted slots held w = Sound w.frames (slots w.store) (trusted w.store) (held w.store) w.tenants w.pool w.slots w.shares.entries
 
--- An event has happened: it is answered as `IsAnswered` has it, each log has the items more that the event adds to it, and the machines
+-- An event has happened by the words of a generator, and left the rest of them: it is answered as `IsAnswered` has it, each log has the items more that the event adds to it, and the machines
 -- that the guests booted, their limits, how many frames and slots there are, and what the store is said to be, are as before; only a turn
 -- of the policy changes who is blocked; and where guests are admitted by their minimums each page that it needs found room. The world is
 -- sound after it.
-pub record Happens {Kept : Type 0} (trusted : Kept → Type 0) (failures : Kept → ℕ) (honest : Kept → Type 0) (slots : Kept → ℕ) (held : Kept → ℕ → Option (List ℕ)) (tax : ℕ) (w : WorldIs Kept) (e : Event) (a : Answer) (w' : WorldIs Kept) : Type 0 where
+pub record Happens {Kept : Type 0} (trusted : Kept → Type 0) (failures : Kept → ℕ) (honest : Kept → Type 0) (slots : Kept → ℕ) (held : Kept → ℕ → Option (List ℕ)) (tax : ℕ) (words : Stream) (w : WorldIs Kept) (e : Event) (a : Answer) (rest : Stream) (w' : WorldIs Kept) : Type 0 where
   pub answered : IsAnswered trusted failures honest tax w w' e a
+  pub by_words : GoesByWords trusted slots tax words w e a rest w'
   pub logs : (h : ℕ) → log_at w'.tenants h ≡ log_at w.tenants h ++ own_items h e a
   pub boots : map boot_of w'.tenants ≡ map boot_of w.tenants
   pub limits : LimitsStay w.tenants w'.tenants
@@ -212,10 +215,10 @@ pub record Happens {Kept : Type 0} (trusted : Kept → Type 0) (failures : Kept 
   pub room : IsAdmitted w.frames (slots w.store) w.tenants → FindsRoom (FailsOnce failures w w') a
   pub sound : IsSoundWorld trusted slots held w'
 
--- events have happened one after another, each in the world that the one before it left
-abbrev pub AllHappen : {Kept : Type 0} → (trusted : Kept → Type 0) → (failures : Kept → ℕ) → (honest : Kept → Type 0) → (slots : Kept → ℕ) → (held : Kept → ℕ → Option (List ℕ)) → (tax : ℕ) → WorldIs Kept → List Event → List Answer → WorldIs Kept → Type 0
-AllHappen trusted failures honest slots held tax w [] [] w' = w' ≡ w
-AllHappen trusted failures honest slots held tax w [] (a ∷ answers) w' = ⊥
-AllHappen trusted failures honest slots held tax w (e ∷ events) [] w' = ⊥
-AllHappen {Kept} trusted failures honest slots held tax w (e ∷ events) (a ∷ answers) w' =
-    (mid : WorldIs Kept) × Happens trusted failures honest slots held tax w e a mid × AllHappen trusted failures honest slots held tax mid events answers w'
+-- events have happened one after another, each in the world that the one before it left, and by the words that it left
+abbrev pub AllHappen : {Kept : Type 0} → (trusted : Kept → Type 0) → (failures : Kept → ℕ) → (honest : Kept → Type 0) → (slots : Kept → ℕ) → (held : Kept → ℕ → Option (List ℕ)) → (tax : ℕ) → Stream → WorldIs Kept → List Event → List Answer → Stream → WorldIs Kept → Type 0
+AllHappen trusted failures honest slots held tax words w [] [] rest w' = (rest ≡ words) × (w' ≡ w)
+AllHappen trusted failures honest slots held tax words w [] (a ∷ answers) rest w' = ⊥
+AllHappen trusted failures honest slots held tax words w (e ∷ events) [] rest w' = ⊥
+AllHappen {Kept} trusted failures honest slots held tax words w (e ∷ events) (a ∷ answers) rest w' =
+    (left : Stream) × (mid : WorldIs Kept) × Happens trusted failures honest slots held tax words w e a left mid × AllHappen trusted failures honest slots held tax left mid events answers rest w'

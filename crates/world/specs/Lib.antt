@@ -1,6 +1,7 @@
 pub mod Admission
 pub mod Answers
 pub mod Boots
+pub mod Choices
 pub mod Debugging
 pub mod Events
 pub mod Evictions
@@ -9,4 +10,5 @@ pub mod Samples
 pub mod Steps
 pub mod Turns
 pub mod Victims
+pub mod Words
 pub mod Worlds

@@ -12,16 +12,17 @@ use Rattle.victims.specs.Victims.{is_one_of, spared_of, IsNextResident}
 use Rattle.victims.specs.declared.spared.Spared.{Spared}
 use Rattle.world.specs.declared.faulting.FaultError.{FaultError}
 use Rattle.world.specs.declared.faulting.FaultError.TheVariants.{NoFrame, NoSwap, SwapRead, SwapDamaged, Memory}
-use Rattle.world.specs.Worlds.{FailsOnce, WorldIs}
+use Rattle.world.specs.Worlds.{FailsOnce, WorldIs, Changes, PagesMove}
 
 -- The victim of the guests has lost a page: the first resident one at or after the generator's next word modulo its pages, but for
--- those that are spared.
+-- those that are spared. No other page of any guest has moved.
 pub record IsPolicys (tax : ℕ) (words : Stream) (spared : Option Spared) (tenants tenants' : List TenantIs) (slots : FreeList) : Type 0 where
   pub g : ℕ
   pub p : ℕ
   pub victim : victim_of tax (map stat_of tenants) ≡ Some g
   pub page : (t : TenantIs) → IsNextResident (spared_of spared g) (pages_in (slice_index_or tenants g t)) ((next_u32 words).0 % length (pages_in (slice_index_or tenants g t))) p
   pub evicted : (t : TenantIs) → IsEvicted p (pages_in (slice_index_or tenants g t)) (pages_in (slice_index_or tenants' g t)) slots
+  pub others : Changes PagesMove g tenants tenants'
 
 -- of the guests only pages have moved: their logs, and so their views, are as before, and each has as many pages
 pub record OnlyPagesMove (tenants tenants' : List TenantIs) : Type 0 where

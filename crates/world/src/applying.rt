@@ -24,6 +24,7 @@ impl<S: SwapStore> World<S> {
     ghost use Rattle.world.specs.Admission.{IsAdmitted, LimitsStay, BlockedStay, NotTurned, FindsRoom};
     ghost use Rattle.world.specs.Answers.{IsAnswered, IsFeedAnswer, IsSoundWorld, AllHappen};
     ghost use Rattle.world.specs.Events.{IsProper, items_stepped, items_ran, items_input, input_of, inputs_for, items_fed, items_written, items_turned, own_items, own};
+    ghost use Rattle.world.specs.Words.{GoesByWords};
     ghost use Rattle.world.specs.Worlds.{Changes, boot_of, log_at, item_for, guest_at, view_at, FailsOnce};
 
     fn apply_step(&mut self, g: usize) -> Answer
@@ -74,6 +75,7 @@ impl<S: SwapStore> World<S> {
     ) -> Answer
         ensures logs { (h : ℕ) → log_at self.new.tenants h ≡ log_at self.old.tenants h ++ items_ran h g result }
         ensures answered { (tax : ℕ) → IsAnswered S.true_to_digests S.failed S.honest tax self.old self.new (Event.Run g count) result }
+        ensures by_words { GoesByWords S.true_to_digests S.slots tax.percent (R.stream rng.old) self.old (Event.Run g count) result (R.stream rng.new) self.new }
         ensures boots { map boot_of self.new.tenants ≡ map boot_of self.old.tenants }
         ensures limits { LimitsStay self.old.tenants self.new.tenants }
         ensures blocked { BlockedStay self.old.tenants self.new.tenants }
@@ -192,6 +194,7 @@ impl<S: SwapStore> World<S> {
         requires few { count ≤ 1024 }
         ensures logs { (h : ℕ) → log_at self.new.tenants h ≡ log_at self.old.tenants h ++ [] }
         ensures answered { (tax : ℕ) → IsAnswered S.true_to_digests S.failed S.honest tax self.old self.new (Event.Probe g address count) result }
+        ensures by_words { GoesByWords S.true_to_digests S.slots tax.percent (R.stream rng.old) self.old (Event.Probe g address count) result (R.stream rng.new) self.new }
         ensures boots { map boot_of self.new.tenants ≡ map boot_of self.old.tenants }
         ensures limits { LimitsStay self.old.tenants self.new.tenants }
         ensures blocked { BlockedStay self.old.tenants self.new.tenants }
@@ -226,6 +229,7 @@ impl<S: SwapStore> World<S> {
         requires few { length bytes.items ≤ 1024 }
         ensures logs { (h : ℕ) → log_at self.new.tenants h ≡ log_at self.old.tenants h ++ items_written h g address bytes.items result }
         ensures answered { (tax : ℕ) → IsAnswered S.true_to_digests S.failed S.honest tax self.old self.new (Event.Write g address bytes) result }
+        ensures by_words { GoesByWords S.true_to_digests S.slots tax.percent (R.stream rng.old) self.old (Event.Write g address bytes) result (R.stream rng.new) self.new }
         ensures boots { map boot_of self.new.tenants ≡ map boot_of self.old.tenants }
         ensures limits { LimitsStay self.old.tenants self.new.tenants }
         ensures blocked { BlockedStay self.old.tenants self.new.tenants }
@@ -266,6 +270,7 @@ impl<S: SwapStore> World<S> {
     fn apply_fault<R: Rng>(&mut self, alloc: Global, g: usize, tax: Tax, rng: &mut R) -> Answer
         ensures logs { (h : ℕ) → log_at self.new.tenants h ≡ log_at self.old.tenants h ++ [] }
         ensures answered { (tax : ℕ) → IsAnswered S.true_to_digests S.failed S.honest tax self.old self.new (Event.Fault g) result }
+        ensures by_words { GoesByWords S.true_to_digests S.slots tax.percent (R.stream rng.old) self.old (Event.Fault g) result (R.stream rng.new) self.new }
         ensures boots { map boot_of self.new.tenants ≡ map boot_of self.old.tenants }
         ensures limits { LimitsStay self.old.tenants self.new.tenants }
         ensures blocked { BlockedStay self.old.tenants self.new.tenants }
@@ -323,6 +328,7 @@ impl<S: SwapStore> World<S> {
     fn apply_sample<R: Rng>(&mut self, rng: &mut R) -> Answer
         ensures logs { (h : ℕ) → log_at self.new.tenants h ≡ log_at self.old.tenants h ++ [] }
         ensures answered { (tax : ℕ) → IsAnswered S.true_to_digests S.failed S.honest tax self.old self.new Event.Sample result }
+        ensures by_words { (tax : ℕ) → GoesByWords S.true_to_digests S.slots tax (R.stream rng.old) self.old Event.Sample result (R.stream rng.new) self.new }
         ensures boots { map boot_of self.new.tenants ≡ map boot_of self.old.tenants }
         ensures limits { LimitsStay self.old.tenants self.new.tenants }
         ensures blocked { BlockedStay self.old.tenants self.new.tenants }
@@ -337,6 +343,7 @@ impl<S: SwapStore> World<S> {
     fn apply_level<R: Rng>(&mut self, alloc: Global, tax: Tax, rng: &mut R) -> Answer
         ensures logs { (h : ℕ) → log_at self.new.tenants h ≡ log_at self.old.tenants h ++ items_turned h result }
         ensures answered { IsAnswered S.true_to_digests S.failed S.honest tax.percent self.old self.new Event.Level result }
+        ensures by_words { GoesByWords S.true_to_digests S.slots tax.percent (R.stream rng.old) self.old Event.Level result (R.stream rng.new) self.new }
         ensures boots { map boot_of self.new.tenants ≡ map boot_of self.old.tenants }
         ensures limits { LimitsStay self.old.tenants self.new.tenants }
         ensures frames { self.new.frames ≡ self.old.frames }
@@ -352,6 +359,7 @@ impl<S: SwapStore> World<S> {
         requires { IsProper event }
         ensures logs { (h : ℕ) → log_at self.new.tenants h ≡ log_at self.old.tenants h ++ own_items h event result }
         ensures answered { IsAnswered S.true_to_digests S.failed S.honest tax.percent self.old self.new event result }
+        ensures by_words { GoesByWords S.true_to_digests S.slots tax.percent (R.stream rng.old) self.old event result (R.stream rng.new) self.new }
         ensures boots { map boot_of self.new.tenants ≡ map boot_of self.old.tenants }
         ensures limits { LimitsStay self.old.tenants self.new.tenants }
         ensures blocked { NotTurned result → BlockedStay self.old.tenants self.new.tenants }
@@ -386,7 +394,8 @@ impl<S: SwapStore> World<S> {
     /// refused (`IsAnswered`): each kind of event has the answers of `step`, `steps`, `run_steps`, `input`, `debug_read`, `debug_write`,
     /// `supply`, `fault`, `evict`, `scan`, `sample` and `level_turn`, and `Feed` those of `input`, a byte each, up to the first that is not
     /// taken; and a guest that is blocked makes no step. The tax and the generator are those of `evict_one`, which may be called where a
-    /// page gets a frame, of `sample` and of `level_turn`.
+    /// page gets a frame, of `sample` and of `level_turn`: an event goes by the words that the generator gives next, and no other event
+    /// draws any (`GoesByWords`).
     ///
     /// No event changes how many pages, shares and which minimum a guest has, and just a turn of the policy who is blocked. Where the guests
     /// are admitted by their minimums, each page that a fault, a run, or a debugger's read or write needs gets a frame, if need be another
@@ -395,6 +404,7 @@ impl<S: SwapStore> World<S> {
         requires { IsProper event }
         ensures logs { (h : ℕ) → log_at self.new.tenants h ≡ log_at self.old.tenants h ++ own_items h event result }
         ensures answered { IsAnswered S.true_to_digests S.failed S.honest tax.percent self.old self.new event result }
+        ensures by_words { GoesByWords S.true_to_digests S.slots tax.percent (R.stream rng.old) self.old event result (R.stream rng.new) self.new }
         ensures boots { map boot_of self.new.tenants ≡ map boot_of self.old.tenants }
         ensures limits { LimitsStay self.old.tenants self.new.tenants }
         ensures blocked { NotTurned result → BlockedStay self.old.tenants self.new.tenants }
@@ -415,7 +425,7 @@ impl<S: SwapStore> World<S> {
     /// Events, one after another, and what each was answered. After them the log of each guest is the one before with the items of
     /// its own events that were done: its steps and writes that were made, and its items and bytes that were accepted. So whatever else happens in the
     /// world, each guest's view is the run of its own items; and the books are exact (`is_sound`). Each event is answered as by `apply`, in
-    /// the world that the one before it left (`AllHappen`).
+    /// the world that the one before it left, and by the words that it left (`AllHappen`).
     ///
     /// `AllocError` where there is no memory for the answers: nothing has happened then.
     pub fn run<R: Rng>(
@@ -427,9 +437,11 @@ impl<S: SwapStore> World<S> {
     ) -> Result<Vec<Answer>, AllocError>
         requires { All IsProper events.items }
         ensures logs { IfOk result (λ answers. (h : ℕ) → log_at self.new.tenants h ≡ log_at self.old.tenants h ++ own h events.items answers.items) }
-        ensures happen { IfOk result (λ answers. AllHappen S.true_to_digests S.failed S.honest S.slots S.held tax.percent self.old events.items answers.items self.new) }
+        ensures happen { IfOk result (λ answers. AllHappen S.true_to_digests S.failed S.honest S.slots S.held tax.percent (R.stream rng.old) self.old events.items answers.items
+            (R.stream rng.new) self.new) }
         ensures count { IfOk result (λ answers. length answers.items ≡ length events.items) }
         ensures unchanged { OnErr result (self.new ≡ self.old) }
+        ensures undrawn { OnErr result (R.stream rng.new ≡ R.stream rng.old) }
         ensures boots { map boot_of self.new.tenants ≡ map boot_of self.old.tenants }
         ensures limits { LimitsStay self.old.tenants self.new.tenants }
         ensures frames { self.new.frames ≡ self.old.frames }

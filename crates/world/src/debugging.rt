@@ -55,7 +55,8 @@ impl<S: SwapStore> World<S> {
     ghost use Rattle.guest.specs.Guests.{standing};
     ghost use Rattle.world.specs.Debugging.{IsReady, IfStopped, written_items, OnlyPagesAndRoom};
     ghost use Rattle.world.specs.Events.{IsForRoom, WhyHalted};
-    ghost use Rattle.tenant.specs.Tenants.{TenantIs, NothingHappens};
+    ghost use Rattle.tenant.specs.Tenants.{TenantIs, Stays, NothingHappens};
+    ghost use Rattle.world.specs.Choices.{moment_of, IsReached, AreReached, ReachesBytes, WritesBytes};
     ghost use Rattle.world.specs.Victims.{OnlyPagesMove, WhyUnsupplied};
     ghost use Rattle.world.specs.Admission.{LimitsStay, BlockedStay};
     ghost use Rattle.world.specs.Worlds.{Changes, SameAround, boot_of, log_at, guest_at, pages_at, view_at};
@@ -80,6 +81,8 @@ impl<S: SwapStore> World<S> {
             page_at (pages_at self.new g t) p ≡ page_at (pages_at self.old g t) p }
         ensures others { (t : TenantIs) (q : ℕ) → q ≢ p → ((q ≡ reached.now.0) ⊎ (q ≡ reached.now.1)) →
             page_at (pages_at self.new g t) q ≡ page_at (pages_at self.old g t) q }
+        ensures chosen { IsReached self.old.frames (S.slots self.old.store) tax.percent access g reached.now p
+            (moment_of (R.stream rng.old) self.old) (moment_of (R.stream rng.new) self.new) }
         ensures err { IfErr result (WhyUnsupplied S.failed S.honest self.old self.new) }
         ensures no_failure { OnOk result (S.failed self.new.store ≡ S.failed self.old.store) }
         ensures hints { self.new.shares.hints ≡ self.old.shares.hints }
@@ -118,6 +121,8 @@ impl<S: SwapStore> World<S> {
         ensures stays { (t : TenantIs) (q : ℕ) → ((q ≡ reached.now.0) ⊎ (q ≡ reached.now.1)) →
             is_wanted access (kind_at (pages_at self.old g t) q) ≡ false →
             page_at (pages_at self.new g t) q ≡ page_at (pages_at self.old g t) q }
+        ensures chosen { AreReached self.old.frames (S.slots self.old.store) tax.percent access g reached.now
+            (moment_of (R.stream rng.old) self.old) (moment_of (R.stream rng.new) self.new) }
         ensures err { IfErr result (WhyUnsupplied S.failed S.honest self.old self.new) }
         ensures no_failure { OnOk result (S.failed self.new.store ≡ S.failed self.old.store) }
         ensures hints { self.new.shares.hints ≡ self.old.shares.hints }
@@ -157,6 +162,9 @@ impl<S: SwapStore> World<S> {
         ensures stays { (t : TenantIs) (q : ℕ) → SomePlaceIn (standing (guest_at self.old g t).guest) address count q →
             is_wanted access (kind_at (pages_at self.old g t) q) ≡ false →
             page_at (pages_at self.new g t) q ≡ page_at (pages_at self.old g t) q }
+        ensures chosen { IsErrOf result DebugError.NoPlace ⊎ ReachesBytes self.old.frames (S.slots self.old.store) tax.percent access g address count
+            (moment_of (R.stream rng.old) self.old) (moment_of (R.stream rng.new) self.new) }
+        ensures undrawn { IsErrOf result DebugError.NoPlace → R.stream rng.new ≡ R.stream rng.old }
         ensures stop { IfErr result (λ error. IfStopped error (WhyHalted S.failed S.honest self.old self.new)) }
         ensures never_full { IsErrOf result (DebugError.Stop RunStop.LogFull) → ⊥ }
         ensures hints { self.new.shares.hints ≡ self.old.shares.hints }
@@ -211,6 +219,9 @@ impl<S: SwapStore> World<S> {
         ensures stays { (t : TenantIs) (q : ℕ) → SomePlaceIn (standing (guest_at self.old g t).guest) address (length bytes.old) q →
             kind_at (pages_at self.old g t) q ≢ PageKind.Swapped →
             page_at (pages_at self.new g t) q ≡ page_at (pages_at self.old g t) q }
+        ensures chosen { IsErrOf result DebugError.NoPlace ⊎ ReachesBytes self.old.frames (S.slots self.old.store) tax.percent Access.Read g address (length bytes.old)
+            (moment_of (R.stream rng.old) self.old) (moment_of (R.stream rng.new) self.new) }
+        ensures undrawn { IsErrOf result DebugError.NoPlace → R.stream rng.new ≡ R.stream rng.old }
         ensures stop { IfErr result (λ error. IfStopped error (WhyHalted S.failed S.honest self.old self.new)) }
         ensures never_full { IsErrOf result (DebugError.Stop RunStop.LogFull) → ⊥ }
         ensures hints { self.new.shares.hints ≡ self.old.shares.hints }
@@ -260,6 +271,9 @@ impl<S: SwapStore> World<S> {
             ↔ (accepts (What.Write address bytes.items) (view_at self.old g t) ≡ false)) }
         ensures nothing { IsErrOf result DebugError.NoPlace → self.new ≡ self.old }
         ensures unchanged { OnErr result (OnlyPagesAndRoom g self.old.tenants self.new.tenants) }
+        ensures chosen { IsErrOf result DebugError.NoPlace ⊎ WritesBytes self.old.frames (S.slots self.old.store) tax.percent g address (length bytes.items)
+            (moment_of (R.stream rng.old) self.old) (moment_of (R.stream rng.new) self.new) }
+        ensures undrawn { IsErrOf result DebugError.NoPlace → R.stream rng.new ≡ R.stream rng.old }
         ensures stop { IfErr result (λ error. IfStopped error (WhyHalted S.failed S.honest self.old self.new)) }
         ensures full { IsErrOf result (DebugError.Stop RunStop.LogFull) → (t : TenantIs) → IsFull (guest_at self.old g t).guest.log }
         ensures room { OnOk result ((t : TenantIs) → IsFull (guest_at self.old g t).guest.log → ⊥) }
@@ -292,6 +306,7 @@ impl<S: SwapStore> World<S> {
             accepts (What.Write address bytes.items) (view_at self.old g t) ≡ true) }
         ensures placed { IsErrOf result DebugError.NoPlace → ⊥ }
         ensures unchanged { OnErr result (Changes NothingHappens g self.old.tenants self.new.tenants) }
+        ensures stays { Changes Stays g self.old.tenants self.new.tenants }
         ensures stop { IfErr result (λ error. IfStopped error IsForRoom) }
         ensures full { (t : TenantIs) → (IsErrOf result (DebugError.Stop RunStop.LogFull) ↔ IsFull (guest_at self.old g t).guest.log) }
         ensures around { SameAround self.old self.new }

@@ -54,12 +54,13 @@ pub(crate) fn stats_of(alloc: Global, tenants: &[Tenant]) -> Result<Vec<Stat>, A
 }
 
 impl<S: SwapStore> World<S> {
-    ghost use Rattle.std.specs.Prelude.{◌≡◌, ◌+◌, ◌<◌, ◌↔◌, ℕ, [], Some, None, OnOk, IfErr, length, map};
+    ghost use Rattle.std.specs.Prelude.{◌≡◌, ◌+◌, ◌<◌, ◌↔◌, ℕ, [], Some, None, OnOk, IfErr, OnErr, length, map};
     ghost use Rattle.mips_step.specs.declared.access.Why.{Why};
     ghost use Rattle.physmap.specs.declared.page.PageKind.{PageKind};
     ghost use Rattle.physmap.specs.Pages.{kind_at};
     ghost use Rattle.tenant.specs.Tenants.{TenantIs, pages_in};
     ghost use Rattle.world.specs.Admission.{IsAdmitted, IsNoRoom};
+    ghost use Rattle.world.specs.Choices.{moment_of, NoneLeaves, MakesRoom, IsSuppliedFor, IsFault, IsMet};
     ghost use Rattle.world.specs.Victims.{IsPolicys, OnlyPagesMove, SparedStay, OtherSparedStay, WhyLacking, WhyUnsupplied, all_resident};
     ghost use Rattle.tenant.specs.Tenants.{stat_of};
     ghost use Rattle.world.specs.Worlds.{guest_at, pages_at, needed_by, FailsOnce};
@@ -69,7 +70,8 @@ impl<S: SwapStore> World<S> {
     /// generator's next word modulo its pages, going round. The frame is free then but where other pages read it too.
     ///
     /// `NoFrame` where nobody has more resident pages than its minimum, for which no word is drawn, or where the store failed to write the
-    /// page; `NoSwap` where no slot is free; `Memory` where a request for memory was refused. Then no page has moved.
+    /// page; `NoSwap` where no slot is free; `Memory` where a request for memory was refused. Then no page has moved. One word is drawn at
+    /// most.
     pub fn evict_one<R: Rng>(
         &mut self,
         alloc: Global,
@@ -79,6 +81,8 @@ impl<S: SwapStore> World<S> {
         requires { self.old.pool.free ≡ [] }
         ensures moves { OnlyPagesMove self.old.tenants self.new.tenants }
         ensures policy { OnOk result (IsPolicys tax.percent (R.stream rng.old) None self.old.tenants self.new.tenants self.old.slots) }
+        ensures rest { OnOk result (R.stream rng.new ≡ (next_u32 (R.stream rng.old)).1) }
+        ensures stays { OnErr result (NoneLeaves tax.percent (moment_of (R.stream rng.old) self.old) (moment_of (R.stream rng.new) self.new)) }
         ensures fewer { OnOk result (all_resident self.new.tenants + 1 ≡ all_resident self.old.tenants) }
         ensures err { IfErr result
             (WhyLacking self.new.pool self.new.slots (map stat_of self.new.tenants) (FailsOnce S.failed self.old self.new) ⊥) }
@@ -104,6 +108,8 @@ impl<S: SwapStore> World<S> {
         requires { self.old.pool.free ≡ [] }
         ensures moves { OnlyPagesMove self.old.tenants self.new.tenants }
         ensures policy { OnOk result (IsPolicys tax.percent (R.stream rng.old) spared.now self.old.tenants self.new.tenants self.old.slots) }
+        ensures rest { OnOk result (R.stream rng.new ≡ (next_u32 (R.stream rng.old)).1) }
+        ensures stays { OnErr result (NoneLeaves tax.percent (moment_of (R.stream rng.old) self.old) (moment_of (R.stream rng.new) self.new)) }
         ensures spared { SparedStay spared.now self.old.tenants self.new.tenants }
         ensures fewer { OnOk result (all_resident self.new.tenants + 1 ≡ all_resident self.old.tenants) }
         ensures err { IfErr result
@@ -140,6 +146,8 @@ impl<S: SwapStore> World<S> {
     ) -> Result<(), FaultError>
         ensures moves { OnlyPagesMove self.old.tenants self.new.tenants }
         ensures spared { SparedStay spared.now self.old.tenants self.new.tenants }
+        ensures chosen { MakesRoom self.old.frames (S.slots self.old.store) tax.percent spared.now
+            (moment_of (R.stream rng.old) self.old) (moment_of (R.stream rng.new) self.new) }
         ensures room { OnOk result (0 < length self.new.pool.free) }
         ensures err { IfErr result
             (WhyLacking self.new.pool self.new.slots (map stat_of self.new.tenants) (FailsOnce S.failed self.old self.new) ⊥) }
@@ -153,6 +161,7 @@ impl<S: SwapStore> World<S> {
     {
         while self.free() == 0 {
             self.evict_sparing(alloc, spared, tax, rng)?;
+            self.is_sound();
         }
         Ok(())
     }
@@ -172,6 +181,8 @@ impl<S: SwapStore> World<S> {
         requires page { (t : TenantIs) → p < length (pages_at self.old g t) }
         ensures moves { OnlyPagesMove self.old.tenants self.new.tenants }
         ensures private { OnOk result ((t : TenantIs) → kind_at (pages_at self.new g t) p ≡ PageKind.Private) }
+        ensures chosen { IsSuppliedFor self.old.frames (S.slots self.old.store) tax.percent spared.now g p
+            (moment_of (R.stream rng.old) self.old) (moment_of (R.stream rng.new) self.new) }
         ensures others { OtherSparedStay g p spared.now self.old.tenants self.new.tenants }
         ensures err { IfErr result (WhyUnsupplied S.failed S.honest self.old self.new) }
         ensures no_failure { OnOk result (S.failed self.new.store ≡ S.failed self.old.store) }
@@ -183,7 +194,9 @@ impl<S: SwapStore> World<S> {
         ensures true_to_digests { S.true_to_digests self.new.store ↔ S.true_to_digests self.old.store }
     {
         self.make_room(alloc, spared, tax, rng)?;
-        match self.supply(alloc, g, p) {
+        let supplied = self.supply(alloc, g, p);
+        self.is_sound();
+        match supplied {
             Ok(()) => Ok(()),
             Err(SupplyError::NoFrame) => Err(FaultError::NoFrame),
             Err(SupplyError::Memory) => Err(FaultError::Memory),
@@ -212,6 +225,10 @@ impl<S: SwapStore> World<S> {
         ensures supplied { OnOk result (S.true_to_digests self.old.store → (t : TenantIs) (p : ℕ) (why : Why) →
             needed_by (guest_at self.old g t) ≡ Some (p, why) →
             kind_at (pages_at self.new g t) p ≡ PageKind.Private) }
+        ensures chosen { IsFault self.old.frames (S.slots self.old.store) (S.true_to_digests self.old.store) tax.percent g
+            (moment_of (R.stream rng.old) self.old) (moment_of (R.stream rng.new) self.new) }
+        ensures met { OnOk result (IsMet self.old.frames (S.slots self.old.store) (S.true_to_digests self.old.store) tax.percent g
+            (moment_of (R.stream rng.old) self.old) (moment_of (R.stream rng.new) self.new)) }
         ensures nothing { S.true_to_digests self.old.store → (t : TenantIs) →
             needed_by (guest_at self.old g t) ≡ None →
             self.new ≡ self.old }

@@ -8,7 +8,9 @@
 //!
 //! What is answered to an event is said by one definition, `IsAnswered` (`specs/Answers.antt`), a row for each kind of event; what a turn of
 //! the policy does by `IsTurn` (`specs/Turns.antt`); and that guests that are admitted by their minimums get a frame for each page that
-//! they need by `FindsRoom` (`specs/Admission.antt`).
+//! they need by `FindsRoom` (`specs/Admission.antt`). Which pages leave their frames for that is said from moment to moment
+//! (`specs/Choices.antt`): the policy's victims, by the tax and the generator's words in turn, and none while a frame is free; and which
+//! words each event goes by is `GoesByWords` (`specs/Words.antt`).
 //!
 //! Each event works on lent parts, with one guest's pages, by `paging`; `specs/Lent.antt` has what exact books say of those.
 #![tactic(auto)]

@@ -81,7 +81,9 @@ impl<S: SwapStore> World<S> {
     ghost use Rattle.flatvm.specs.Items.{run};
     ghost use Rattle.guest_log.specs.Logs.{IsFull};
     ghost use Rattle.mips_step.specs.declared.access.Why.{Why};
+    ghost use Rattle.rand_core.specs.Stream.{Stream};
     ghost use Rattle.world.specs.Steps.{NoneNeeds};
+    ghost use Rattle.world.specs.Choices.{moment_of, AreSteps, MakesSteps, MakesNone, IsRun};
     ghost use Rattle.world.specs.Events.{steps_for, IfStop, IsForRoom, IsSupplied, WhyHalted};
     ghost use Rattle.guest_log.specs.declared.stop.Stop.{Stop};
     ghost use Rattle.tenant.specs.Tenants.{TenantIs, Stays, AddsSteps, NothingHappens};
@@ -131,6 +133,10 @@ impl<S: SwapStore> World<S> {
         ensures view { IfOk result (λ steps. (t : TenantIs) → view_at self.new g t ≡ run (steps_of 0 steps) (view_at self.old g t)) }
         ensures needs_none { S.true_to_digests self.old.store → (t : TenantIs) → IfOk result (λ steps.
             NoneNeeds steps (view_at self.old g t) (pages_at self.old g t) (pages_at self.new g t)) }
+        ensures made { IfOk result (λ steps. (words : Stream) → AreSteps self.old.frames (S.slots self.old.store) (S.true_to_digests self.old.store) g steps
+            (moment_of words self.old) (moment_of words self.new)) }
+        ensures none { OnErr result ((words : Stream) → AreSteps self.old.frames (S.slots self.old.store) (S.true_to_digests self.old.store) g 0
+            (moment_of words self.old) (moment_of words self.new)) }
         ensures nothing { OnErr result (Changes NothingHappens g self.old.tenants self.new.tenants × SameAround self.old self.new) }
         ensures stays { Changes Stays g self.old.tenants self.new.tenants }
         ensures boots { map boot_of self.new.tenants ≡ map boot_of self.old.tenants }
@@ -145,7 +151,9 @@ impl<S: SwapStore> World<S> {
         ensures frames { self.new.frames ≡ self.old.frames }
         ensures level { self.new.level ≡ self.old.level }
     {
-        let (steps, needed) = match self.run_once(g, count) {
+        let ran = self.run_once(g, count);
+        self.is_sound();
+        let (steps, needed) = match ran {
             Ok(ran) => ran,
             Err(stop) => return Err(End::Stop(for_room(stop))),
         };
@@ -212,6 +220,10 @@ impl<S: SwapStore> World<S> {
         ensures few { IfOk result (λ steps. steps ≤ count) }
         ensures logs { IfOk result (λ steps. (h : ℕ) → log_at self.new.tenants h ≡ log_at self.old.tenants h ++ steps_for h g steps) }
         ensures not_made { OnErr result ((h : ℕ) → log_at self.new.tenants h ≡ log_at self.old.tenants h) }
+        ensures made { IfOk result (λ steps. MakesSteps self.old.frames (S.slots self.old.store) (S.true_to_digests self.old.store) tax.percent g steps
+            (moment_of (R.stream rng.old) self.old) (moment_of (R.stream rng.new) self.new)) }
+        ensures none { IfErr result (λ end. MakesNone self.old.frames (S.slots self.old.store) (S.true_to_digests self.old.store) tax.percent g end
+            (moment_of (R.stream rng.old) self.old) (moment_of (R.stream rng.new) self.new)) }
         ensures boots { map boot_of self.new.tenants ≡ map boot_of self.old.tenants }
         ensures limits { LimitsStay self.old.tenants self.new.tenants }
         ensures blocked { BlockedStay self.old.tenants self.new.tenants }
@@ -259,6 +271,8 @@ impl<S: SwapStore> World<S> {
     ) -> Ran
         requires { g < length self.old.tenants }
         ensures logs { (h : ℕ) → log_at self.new.tenants h ≡ log_at self.old.tenants h ++ steps_for h g result.steps }
+        ensures chosen { IsRun self.old.frames (S.slots self.old.store) (S.true_to_digests self.old.store) tax.percent g result.end
+            (moment_of (R.stream rng.old) self.old) (moment_of (R.stream rng.new) self.new) }
         ensures boots { map boot_of self.new.tenants ≡ map boot_of self.old.tenants }
         ensures limits { LimitsStay self.old.tenants self.new.tenants }
         ensures blocked { BlockedStay self.old.tenants self.new.tenants }

@@ -39,6 +39,7 @@ impl<S: SwapStore> World<S> {
     ghost use Rattle.tenant.specs.Lent.{WhyStays};
     ghost use Rattle.tenant.specs.Tenants.{TenantIs};
     ghost use Rattle.world.specs.Turns.{IsTurned, AreTurned, LosesPages, MayLose, AreFewer, AreCutShort, IsTurn};
+    ghost use Rattle.world.specs.Choices.{moment_of, IsSwapOut, IsStay, SwapOuts, SwapOutsEnd, TurnsBy};
     ghost use Rattle.world.specs.Victims.{OnlyPagesMove};
     ghost use Rattle.world.specs.Worlds.{Changes, SameAround, guest_at, pages_at, FailsOnce};
 
@@ -74,6 +75,8 @@ impl<S: SwapStore> World<S> {
         ensures unchanged { OnErr result (self.new.tenants ≡ self.old.tenants) }
         ensures err { IfErr result (WhyStays self.new.slots (FailsOnce S.failed self.old self.new)) }
         ensures no_failure { OnOk result (S.failed self.new.store ≡ S.failed self.old.store) }
+        ensures out { OnOk result (IsSwapOut self.old.frames (S.slots self.old.store) g (moment_of (R.stream rng.old) self.old) (moment_of (R.stream rng.new) self.new)) }
+        ensures stays { OnErr result (IsStay (moment_of (R.stream rng.old) self.old) (moment_of (R.stream rng.new) self.new)) }
         ensures rest { R.stream rng.new ≡ (next_u32 (R.stream rng.old)).1 }
         ensures hints { self.new.shares.hints ≡ self.old.shares.hints }
         ensures frames { self.new.frames ≡ self.old.frames }
@@ -83,7 +86,9 @@ impl<S: SwapStore> World<S> {
         ensures true_to_digests { S.true_to_digests self.new.store ↔ S.true_to_digests self.old.store }
     {
         let p = drawn_page(self.guest(g), &None, rng);
-        self.evict_of(g, p)
+        let swapped = self.evict_of(g, p);
+        self.is_sound();
+        swapped
     }
 
     // So many pages of a guest leave their frames, one after another, or up to the first one that stays.
@@ -97,6 +102,8 @@ impl<S: SwapStore> World<S> {
         requires more { (t : TenantIs) → MayLose count (guest_at self.old g t) }
         ensures loses { OnOk result (Changes (LosesPages count) g self.old.tenants self.new.tenants) }
         ensures fewer { OnErr result ((lost : ℕ) × (lost < count) × Changes (LosesPages lost) g self.old.tenants self.new.tenants) }
+        ensures outs { OnOk result (SwapOuts self.old.frames (S.slots self.old.store) g g (moment_of (R.stream rng.old) self.old) (moment_of (R.stream rng.new) self.new)) }
+        ensures end { OnErr result (SwapOutsEnd self.old.frames (S.slots self.old.store) g g (moment_of (R.stream rng.old) self.old) (moment_of (R.stream rng.new) self.new)) }
         ensures err { IfErr result (WhyStays self.new.slots (FailsOnce S.failed self.old self.new)) }
         ensures no_failure { OnOk result (S.failed self.new.store ≡ S.failed self.old.store) }
         ensures hints { self.new.shares.hints ≡ self.old.shares.hints }
@@ -120,6 +127,8 @@ impl<S: SwapStore> World<S> {
         ensures moves { OnlyPagesMove self.old.tenants self.new.tenants }
         ensures all { OnOk result (AreFewer actions.now (length self.old.tenants) self.old.tenants self.new.tenants) }
         ensures short { OnErr result (AreCutShort actions.now self.old.tenants self.new.tenants) }
+        ensures outs { OnOk result (SwapOuts self.old.frames (S.slots self.old.store) 0 (length self.old.tenants) (moment_of (R.stream rng.old) self.old) (moment_of (R.stream rng.new) self.new)) }
+        ensures end { OnErr result (SwapOutsEnd self.old.frames (S.slots self.old.store) 0 (length self.old.tenants) (moment_of (R.stream rng.old) self.old) (moment_of (R.stream rng.new) self.new)) }
         ensures err { IfErr result (WhyStays self.new.slots (FailsOnce S.failed self.old self.new)) }
         ensures hints { self.new.shares.hints ≡ self.old.shares.hints }
         ensures frames { self.new.frames ≡ self.old.frames }
@@ -157,6 +166,8 @@ impl<S: SwapStore> World<S> {
     ) -> Result<Turn, AllocError>
         ensures turn { IfOk result (λ turn. IsTurn tax.percent (FailsOnce S.failed self.old self.new) self.old turn self.new) }
         ensures unchanged { OnErr result (self.new ≡ self.old) }
+        ensures by_words { OnOk result (TurnsBy self.old.frames (S.slots self.old.store) (moment_of (R.stream rng.old) self.old) (moment_of (R.stream rng.new) self.new)) }
+        ensures undrawn { OnErr result (R.stream rng.new ≡ R.stream rng.old) }
         ensures hints { self.new.shares.hints ≡ self.old.shares.hints }
         ensures frames { self.new.frames ≡ self.old.frames }
         ensures slots { S.slots self.new.store ≡ S.slots self.old.store }

@@ -16,21 +16,21 @@ returns-in-Ok-told-clause-replies c =
     let text = c.in-Ok-told.replies in
     let count : length c.in-Ok.store.pages ≡ h.slots = ap length c.in-Ok.ensures.pages ∙ length-replicate h.slots _ in
     elim c.match-header.branch [
-      | in-None w ↦ subst (λ (f : Option Fail). IsOver f (config_of h) h.slots c.args.guests.items c.args.events.items (string_bytes text)) (sym w.in-None.is) (record {
+      | in-None w ↦ subst (λ (f : Option Fail). IsOver f (config_of h) h.seed h.slots c.args.guests.items c.args.events.items (string_bytes text)) (sym w.in-None.is) (record {
         store = c.in-Ok.store;
         whole = c.in-Ok.ensures.sound;
         count = count;
         transcript = answered w.simulate-told.result text
-            (λ (t : String Global). IsTranscript IsWhole (λ s. 0) IsWhole (λ s. length s.pages) slot_in (config_of h) c.args.guests.items c.in-Ok.store c.args.events.items (string_bytes t))
+            (λ (t : String Global). IsTranscript IsWhole (λ s. 0) IsWhole (λ s. length s.pages) slot_in (config_of h) h.seed c.args.guests.items c.in-Ok.store c.args.events.items (string_bytes t))
             (sym w.told-is ∙ c.in-Ok-told.is) w.simulate-told.ensures.transcript;
       })
-      | in-Some w ↦ subst (λ (f : Option Fail). IsOver f (config_of h) h.slots c.args.guests.items c.args.events.items (string_bytes text)) (sym w.in-Some.is) (record {
+      | in-Some w ↦ subst (λ (f : Option Fail). IsOver f (config_of h) h.seed h.slots c.args.guests.items c.args.events.items (string_bytes text)) (sym w.in-Some.is) (record {
         store = w.new-store.result;
         whole = subst IsWhole (sym w.new-store.ensures.store) c.in-Ok.ensures.sound;
         count = ap (λ (s : MemoryIs). length s.pages) w.new-store.ensures.store ∙ count;
         transcript = answered w.simulate-told-in-Some.result text
             (λ (t : String Global). IsTranscript (λ (s : FaultStore MemoryIs). IsWhole (store_of s)) (λ (s : FaultStore MemoryIs). with_fault (left_of s) 0) (λ (s : FaultStore MemoryIs). IsWhole (store_of s))
-            (λ (s : FaultStore MemoryIs). length (store_of s).pages) (λ (s : FaultStore MemoryIs). slot_in (store_of s)) (config_of h) c.args.guests.items w.new-store.result c.args.events.items (string_bytes t))
+            (λ (s : FaultStore MemoryIs). length (store_of s).pages) (λ (s : FaultStore MemoryIs). slot_in (store_of s)) (config_of h) h.seed c.args.guests.items w.new-store.result c.args.events.items (string_bytes t))
             (sym w.told-is ∙ c.in-Ok-told.is) w.simulate-told-in-Some.ensures.transcript;
       })
     ]

@@ -12,8 +12,9 @@ pub returns-in-World-clause-told : goal.returns-in-World-clause-told
 returns-in-World-clause-told g c =
     let s = g.S.SwapStore in
     let e = c.apply.ensures in
-    subst (λ (a : Act). IsTold s.true_to_digests s.failed s.honest s.slots s.held c.args.world.now a (said.Answered c.apply.result) c.apply.new.self) (sym c.in-World.is) (record {
+    subst (λ (a : Act). IsTold s.true_to_digests s.failed s.honest s.slots s.held (g.R.Rng.stream c.args.rng.now) c.args.world.now a (said.Answered c.apply.result) (g.R.Rng.stream c.apply.new.rng) c.apply.new.self) (sym c.in-World.is) (record {
       answered = e.answered;
+      by_words = e.by_words;
       logs = e.logs;
       boots = e.boots;
       limits = e.limits;
@@ -30,19 +31,25 @@ pub returns-in-Damage-clause-told : goal.returns-in-Damage-clause-told
 returns-in-Damage-clause-told g c =
     let s = g.S.SwapStore in
     let d = c.damage.ensures in
-    subst (λ (a : Act). IsTold s.true_to_digests s.failed s.honest s.slots s.held c.args.world.now a said.Damaged c.damage.new.self) (sym c.in-Damage.is) (record {
-      inverted = d.inverted;
-      others = d.others;
-      failures_stay = d.failed;
-      beside = beside_store c.args.world.now c.damage.new.self d.tenants d.pool d.slots d.shares d.frames d.level;
-    })
+    let words = g.R.Rng.stream c.args.rng.now in
+    subst (λ (a : Act). IsTold s.true_to_digests s.failed s.honest s.slots s.held words c.args.world.now a said.Damaged words c.damage.new.self) (sym c.in-Damage.is) (
+      record {
+        inverted = d.inverted;
+        others = d.others;
+        failures_stay = d.failed;
+        beside = beside_store c.args.world.now c.damage.new.self d.tenants d.pool d.slots d.shares d.frames d.level;
+      },
+      refl,
+    )
 
 pub returns-in-Dump-clause-told : goal.returns-in-Dump-clause-told
 returns-in-Dump-clause-told g c =
     let s = g.S.SwapStore in
     let w = c.args.world.now in
-    subst (λ (a : Act). IsTold s.true_to_digests s.failed s.honest s.slots s.held w a (said.Dumped c.dump_of.result) w) (sym c.in-Dump.is) (
+    let words = g.R.Rng.stream c.args.rng.now in
+    subst (λ (a : Act). IsTold s.true_to_digests s.failed s.honest s.slots s.held words w a (said.Dumped c.dump_of.result) words w) (sym c.in-Dump.is) (
       told_dump c.dump_of.result (s.true_to_digests w.store)
           (λ t text. string_bytes text ≡ dump_text (view_at w c.in-Dump.g t) (step_count (items_of (guest_at w c.in-Dump.g t))) None) c.dump_of.ensures,
+      refl,
       refl,
     )

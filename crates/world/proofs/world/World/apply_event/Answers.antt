@@ -1,6 +1,7 @@
 use Rattle.std.proofs.Common.{sym, subst}
 use Rattle.world.specs.declared.events.Event.{Event}
 use Rattle.world.specs.Answers.{IsAnswered}
+use Rattle.world.specs.Words.{GoesByWords}
 use Rattle.world.proofs.world.World.apply_event.Goals as goal
 
 pub returns-in-Step-clause-answered : goal.returns-in-Step-clause-answered
@@ -62,3 +63,9 @@ pub returns-in-Sample-clause-answered : goal.returns-in-Sample-clause-answered
 returns-in-Sample-clause-answered g c =
     let s = g.S.SwapStore in
     subst (λ (e : Event). IsAnswered s.true_to_digests s.failed s.honest c.args.tax.percent c.args.self.now c.apply_sample.new.self e c.apply_sample.result) (sym c.in-Sample.is) (c.apply_sample.ensures.answered c.args.tax.percent)
+
+pub returns-in-Sample-clause-by_words : goal.returns-in-Sample-clause-by_words
+returns-in-Sample-clause-by_words g c =
+    let s = g.S.SwapStore in
+    subst (λ (e : Event). GoesByWords s.true_to_digests s.slots c.args.tax.percent (g.R.Rng.stream c.args.rng.now) c.args.self.now e c.apply_sample.result (g.R.Rng.stream c.apply_sample.new.rng) c.apply_sample.new.self)
+    (sym c.in-Sample.is) (c.apply_sample.ensures.by_words c.args.tax.percent)

@@ -1,9 +1,12 @@
 use Rattle.world.proofs.Admitting.{limits_then, limits_move, blocked_move}
-use Rattle.std.proofs.Common.{ℕ, ◌≡◌, ◌++◌, List, get_or, length, refl, sym, ap, subst, ◌∙◌, arith}
+use Rattle.std.proofs.Common.{ℕ, true, ◌≡◌, ◌++◌, List, get_or, length, refl, sym, ap, subst, ◌∙◌, arith}
 use Rattle.std.proofs.lemmas.Result.{on_ok_weaker}
 use Rattle.items.specs.declared.item.Item.{Item}
 use Rattle.flatvm.specs.Replies.{SomePlaceIn}
-use Rattle.guest.specs.Guests.{standing}
+use Rattle.guest.specs.Guests.{standing, view_of}
+use Rattle.items.specs.declared.item.What.TheVariants.{Write}
+use Rattle.mips_step.specs.Step.{Machine}
+use Rattle.flatvm.specs.Items.{accepts}
 use Rattle.guest_log.specs.Logs.{IsFull}
 use Rattle.world.specs.declared.debugging.DebugError.TheVariants.{Stop}
 use Rattle.world.specs.declared.running.RunStop.TheVariants.{LogFull}
@@ -57,3 +60,12 @@ returns-in-Ok-clause-limits g c =
 
 pub returns-in-Ok-clause-blocked : goal.returns-in-Ok-clause-blocked
 returns-in-Ok-clause-blocked g c = c.write.ensures.blocked ∙ blocked_move c.args.self.now.tenants c.reach.new.self.tenants c.reach.ensures.moves
+
+pub returns-in-Ok-clause-accepted : goal.returns-in-Ok-clause-accepted
+returns-in-Ok-clause-accepted g c =
+    let ts = c.args.self.now.tenants in
+    let mid = c.reach.new.self.tenants in
+    on_ok_weaker c.write.result (λ accepted trust t.
+    subst (λ (m : Machine). accepts (Write c.args.address c.args.bytes.items) m ≡ true)
+    (moved_same (λ u. view_of u.guest) (λ u. refl) ts mid c.args.g t c.requires.guest c.reach.ensures.moves)
+    (accepted (c.reach.ensures.true_to_digests.1 trust) t)) c.write.ensures.accepted

@@ -44,6 +44,7 @@ returns-in-Ok-evict_of-clause-policy g c =
           subst (λ (u : TenantIs). IsNextResident (spared_of c.args.spared.now c.in-Some.g) (pages_in u) (word % length (pages_in u)) c.drawn_page-p.result) (c.guest.ensures t)
           (subst (λ (spared : Option (ℕ × ℕ)). IsNextResident spared (pages_in c.guest.result.now) (word % length (pages_in c.guest.result.now)) c.drawn_page-p.result) c.spared_of.ensures c.drawn_page-p.ensures.page);
       evicted = c.in-Ok-evict_of.ensures.page;
+      others = c.evict_of.ensures.moves;
     }
 
 pub returns-in-Ok-evict_of-clause-fewer : goal.returns-in-Ok-evict_of-clause-fewer

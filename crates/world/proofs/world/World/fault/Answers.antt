@@ -1,5 +1,5 @@
 use Rattle.world.proofs.Admitting.{still_admitted, limits_move, fault_room}
-use Rattle.std.proofs.Common.{ℕ, ◌≡◌, ◌<◌, get_or, length, sym, subst, ◌∙◌}
+use Rattle.std.proofs.Common.{ℕ, ◌≡◌, ◌<◌, inr, get_or, length, sym, subst, ◌∙◌}
 use Rattle.std.proofs.lemmas.Result.{on_ok_weaker}
 use Rattle.mips_step.specs.Accesses.{accesses, first_lack}
 use Rattle.paged_bus.specs.Lacking.{lacks_in}
@@ -37,6 +37,41 @@ returns-clause-supplied g c =
     subst (λ (u : TenantIs). c.need.result ≡ first_lack (lacks_in (pages_in u)) (accesses (view_of u.guest))) (c.guest.ensures t) (c.need.ensures.need (g.S.SwapStore.held w.store) kept) in
     subst (λ (q : ℕ). kind_at (pages_in (get_or c.supply_sparing-answer.new.self.tenants c.args.g t)) q ≡ Private)
     (first_of c.in-Some.needed p why (sym c.in-Some.is ∙ need ∙ some)) (private t)) c.supply_sparing-answer.ensures.private
+
+pub returns-clause-chosen : goal.returns-clause-chosen
+returns-clause-chosen g c =
+    inr (record {
+      p = c.in-Some.needed.0;
+      needed = λ trust t.
+          let w = c.args.self.now in
+          let ts = w.tenants in
+          let tenant = c.guest.result.now in
+          let kept = kept_of w.frames (g.S.SwapStore.slots w.store) (g.S.SwapStore.true_to_digests w.store) (g.S.SwapStore.held w.store) ts c.args.g tenant w.pool w.slots w.shares.entries
+          c.requires (c.guest.ensures tenant) trust c.is_sound.ensures in
+          let need : c.need.result ≡ first_lack (lacks_in (pages_in (get_or ts c.args.g t))) (accesses (view_of (get_or ts c.args.g t).guest)) =
+          subst (λ (u : TenantIs). c.need.result ≡ first_lack (lacks_in (pages_in u)) (accesses (view_of u.guest))) (c.guest.ensures t) (c.need.ensures.need (g.S.SwapStore.held w.store) kept) in
+          (c.in-Some.needed.1, sym need ∙ c.in-Some.is);
+      supplied = c.supply_sparing-answer.ensures.chosen;
+    })
+
+pub returns-clause-met : goal.returns-clause-met
+returns-clause-met g c =
+    on_ok_weaker c.supply_sparing-answer.result (λ private. inr (record {
+      its = record {
+        p = c.in-Some.needed.0;
+        needed = λ trust t.
+            let w = c.args.self.now in
+            let ts = w.tenants in
+            let tenant = c.guest.result.now in
+            let kept = kept_of w.frames (g.S.SwapStore.slots w.store) (g.S.SwapStore.true_to_digests w.store) (g.S.SwapStore.held w.store) ts c.args.g tenant w.pool w.slots w.shares.entries
+            c.requires (c.guest.ensures tenant) trust c.is_sound.ensures in
+            let need : c.need.result ≡ first_lack (lacks_in (pages_in (get_or ts c.args.g t))) (accesses (view_of (get_or ts c.args.g t).guest)) =
+            subst (λ (u : TenantIs). c.need.result ≡ first_lack (lacks_in (pages_in u)) (accesses (view_of u.guest))) (c.guest.ensures t) (c.need.ensures.need (g.S.SwapStore.held w.store) kept) in
+            (c.in-Some.needed.1, sym need ∙ c.in-Some.is);
+        supplied = c.supply_sparing-answer.ensures.chosen;
+      };
+      private = private;
+    })) c.supply_sparing-answer.ensures.private
 
 pub returns-clause-nothing : goal.returns-clause-nothing
 returns-clause-nothing g c = λ trust t none.

@@ -1,7 +1,6 @@
-use Rattle.std.proofs.Common.{ℕ, ◌++◌, List, Err, get_or, ap, ◌∙◌}
+use Rattle.std.proofs.Common.{ℕ, ◌++◌, List, Err, ap, ◌∙◌}
 use Rattle.items.specs.declared.item.Item.{Item}
 use Rattle.items.specs.declared.item.What.TheVariants.{In}
-use Rattle.guest.specs.Guests.{standing}
 use Rattle.world.specs.Events.{input_items}
 use Rattle.world.specs.Worlds.{item_for, log_at}
 use Rattle.world.proofs.Victims.{some_tenant}

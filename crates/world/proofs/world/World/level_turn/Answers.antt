@@ -1,4 +1,4 @@
-use Rattle.std.proofs.Common.{◌≡◌, ℕ, ◌<◌, List, IfErr, OnOk, OnErr, length, map, get_or, ap, sym, subst, ◌∙◌}
+use Rattle.std.proofs.Common.{◌≡◌, ◌⊎◌, ℕ, ◌<◌, List, None, false, IfErr, OnOk, OnErr, refl, length, map, get_or, ap, sym, subst, ◌∙◌}
 use Rattle.taxpolicy.proofs.Allotments.{each_target}
 use Rattle.reclaim.specs.Levels.{next_level_of}
 use Rattle.reclaim.specs.Plans.{actions_of}
@@ -6,10 +6,15 @@ use Rattle.reclaim.specs.declared.level.Level.{Level}
 use Rattle.reclaim.specs.declared.turn.Action.{Action}
 use Rattle.swapstore.specs.Failures.{one_more}
 use Rattle.tenant.specs.Lent.{WhyStays}
-use Rattle.tenant.specs.Tenants.{TenantIs, stat_of}
+use Rattle.sharetab.specs.Shares.{SharesAre}
+use Rattle.physmap.specs.Outline.{outline}
+use Rattle.tenant.specs.Tenants.{TenantIs, pages_in, stat_of}
+use Rattle.tenant.specs.declared.turning.Aim.TheVariants.{Kept}
+use Rattle.world.specs.Choices.{moment_of, SwapOuts, SwapOutsEnd}
 use Rattle.world.specs.Turns.{AreTurned, MayLose, AreFewer, AreCutShort}
 use Rattle.world.specs.Victims.{OnlyPagesMove}
 use Rattle.world.specs.Worlds.{WorldIs}
+use Rattle.world.proofs.Choices.{outs_or_end, same_around}
 use Rattle.world.proofs.Turning.{all_may, turn_of}
 use Rattle.world.proofs.world.World.level_turn.Goals as goal
 
@@ -64,3 +69,28 @@ returns-clause-turn g c =
     (subst (λ (l : List Action). OnErr c.swap_out_each.result (AreCutShort l mid new.tenants)) given
     (subst (λ (ts : List TenantIs). OnErr c.swap_out_each.result (AreCutShort c.deref-3.result.now ts new.tenants)) set e.short))
     (subst (λ s. IfErr c.swap_out_each.result (WhyStays new.slots (failed new.store ≡ one_more (failed s)))) store e.err)
+
+pub returns-clause-by_words : goal.returns-clause-by_words
+returns-clause-by_words g c =
+    let s = g.S.SwapStore in
+    let now = c.args.self.now in
+    let set = c.set_level.new.self in
+    let is = c.set_level.ensures in
+    let around = c.turn_each.ensures.around in
+    let words = g.R.Rng.stream c.args.rng.now in
+    let m = moment_of words set in
+    let m' = moment_of (g.R.Rng.stream c.swap_out_each.new.rng) c.swap_out_each.new.self in
+    let e = c.swap_out_each.ensures in
+    let all = length set.tenants in
+    let none : Action = record { balloon = None; swap_out = 0; blocked = false } in
+    record {
+      turned = m;
+      pages = λ h t inside.
+          ap (λ (x : WorldIs _). outline (pages_in (get_or x.tenants h t))) is ∙ (c.in_ok-aims.ensures.turned.each h t none Kept inside).pages;
+      around = same_around (moment_of words now) m refl (ap (λ (x : WorldIs _). x.pool) is ∙ around.pool) (ap (λ (x : WorldIs _). x.slots) is ∙ around.slots)
+          (ap (λ (x : WorldIs _). x.shares.entries) is ∙ ap (λ (x : SharesAre). x.entries) around.shares);
+      swaps = subst (λ (n : ℕ). (SwapOuts now.frames (s.slots now.store) 0 n m m') ⊎ (SwapOutsEnd now.frames (s.slots now.store) 0 n m m')) (ap (λ (x : WorldIs _). length x.tenants) is ∙ c.in_ok-aims.ensures.turned.count)
+          (subst (λ (n : ℕ). (SwapOuts n (s.slots now.store) 0 all m m') ⊎ (SwapOutsEnd n (s.slots now.store) 0 all m m')) (ap (λ (x : WorldIs _). x.frames) is ∙ around.frames)
+          (subst (λ (n : ℕ). (SwapOuts set.frames n 0 all m m') ⊎ (SwapOutsEnd set.frames n 0 all m m')) (ap (λ (x : WorldIs _). s.slots x.store) is ∙ ap s.slots around.store)
+          (outs_or_end c.swap_out_each.result (SwapOuts set.frames (s.slots set.store) 0 all m m') (SwapOutsEnd set.frames (s.slots set.store) 0 all m m') e.outs e.end)));
+    }

@@ -1,12 +1,15 @@
 use Rattle.std.proofs.Common.{◌≡◌, ◌↔◌}
+use Rattle.world.specs.Choices.{moment_of}
 use Rattle.world.specs.Victims.{OnlyPagesMove, SparedStay, all_resident}
+use Rattle.world.proofs.Choices.{Evicted}
 use Rattle.world.proofs.world.World.make_room.Given as goal
 
--- only pages have moved, and no call of the store has failed
+-- only pages have moved, of victims while no frame was free, and no call of the store has failed
 abbrev pub invariant-loop-alloc : goal.invariant-loop-alloc
 invariant-loop-alloc g l = record {
   moves : OnlyPagesMove l.fn.self.tenants l.self.tenants;
   spared : SparedStay l.spared l.fn.self.tenants l.self.tenants;
+  evicted : Evicted l.fn.self.frames (g.S.SwapStore.slots l.fn.self.store) l.tax.percent l.spared (moment_of (g.R.Rng.stream l.fn.rng) l.fn.self) (moment_of (g.R.Rng.stream l.rng) l.self);
   failed : g.S.SwapStore.failed l.self.store ≡ g.S.SwapStore.failed l.fn.self.store;
   hints : l.self.shares.hints ≡ l.fn.self.shares.hints;
   frames : l.self.frames ≡ l.fn.self.frames;

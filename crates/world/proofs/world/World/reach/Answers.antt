@@ -1,4 +1,4 @@
-use Rattle.std.proofs.Common.{◌≡◌, true, false, None, get_or, refl, sym, ap, subst, ◌∙◌}
+use Rattle.std.proofs.Common.{◌≡◌, ◌⊎◌, ◌↔◌, inr, true, false, None, get_or, refl, sym, ap, subst, ◌∙◌}
 use Rattle.flatvm.specs.Replies.{bytes_at, SomePlaceIn}
 use Rattle.guest.specs.Guests.{GuestIs, standing, without_pages, IsSized}
 use Rattle.guest.proofs.Placing.{view_none, moved_none, moved_places}
@@ -99,3 +99,25 @@ returns-in-Ok-clause-stays g c = λ t q some.
 pub returns-in-Err-clause-stays : goal.returns-in-Err-clause-stays
 returns-in-Err-clause-stays g c = λ t q some.
     c.supply_reached.ensures.stays t q ((c.in-Some.ensures.reached q).0 (subst (λ (x : GuestIs). SomePlaceIn (standing x) c.args.address c.args.count q) (sym (c.guest-4.ensures ∙ ap (λ (u : TenantIs). u.guest) (c.guest-3.ensures t))) some))
+
+pub returns-in-Ok-clause-chosen : goal.returns-in-Ok-clause-chosen
+returns-in-Ok-clause-chosen g c =
+    let pages = c.in-Some.pages in
+    inr (record {
+      pages = pages;
+      these = λ t q.
+          subst (λ (x : GuestIs). SomePlaceIn (standing x) c.args.address c.args.count q ↔ ((q ≡ pages.0) ⊎ (q ≡ pages.1))) (c.guest-4.ensures ∙ ap (λ (u : TenantIs). u.guest) (c.guest-3.ensures t))
+          (c.in-Some.ensures.reached q);
+      reached = c.supply_reached.ensures.chosen;
+    })
+
+pub returns-in-Err-clause-chosen : goal.returns-in-Err-clause-chosen
+returns-in-Err-clause-chosen g c =
+    let pages = c.in-Some.pages in
+    inr (record {
+      pages = pages;
+      these = λ t q.
+          subst (λ (x : GuestIs). SomePlaceIn (standing x) c.args.address c.args.count q ↔ ((q ≡ pages.0) ⊎ (q ≡ pages.1))) (c.guest-4.ensures ∙ ap (λ (u : TenantIs). u.guest) (c.guest-3.ensures t))
+          (c.in-Some.ensures.reached q);
+      reached = c.supply_reached.ensures.chosen;
+    })

@@ -28,9 +28,9 @@ loop-event-preserved g c =
       logs = λ h. subst (λ (l : List Answer). log_at c.apply-answer.new.self.tenants h ≡ log_at c.args.self.now.tenants h ++ own h (at.yielded ++ e ∷ []) l) (sym items)
           (logs_more h at.yielded at.answers.items e a (log_at c.args.self.now.tenants h) (log_at at.self.tenants h) (log_at c.apply-answer.new.self.tenants h)
           (sym at.invariant.count) (at.invariant.logs h) (c.apply-answer.ensures.logs h));
-      happen = subst (λ (l : List Answer). AllHappen store.true_to_digests store.failed store.honest store.slots store.held c.args.tax.percent c.args.self.now (at.yielded ++ e ∷ []) l c.apply-answer.new.self) (sym items)
-          (all_more store.true_to_digests store.failed store.honest store.slots store.held c.args.tax.percent c.args.self.now at.self c.apply-answer.new.self at.yielded at.answers.items e a at.invariant.happen
-          (record { answered = c.apply-answer.ensures.answered; logs = c.apply-answer.ensures.logs; boots = c.apply-answer.ensures.boots; limits = c.apply-answer.ensures.limits; blocked = c.apply-answer.ensures.blocked; frames = c.apply-answer.ensures.frames; slots_stay = c.apply-answer.ensures.slots; honesty = c.apply-answer.ensures.honest; trust = c.apply-answer.ensures.true_to_digests; room = c.apply-answer.ensures.room; sound = c.apply-answer.ensures.sound }));
+      happen = subst (λ (l : List Answer). AllHappen store.true_to_digests store.failed store.honest store.slots store.held c.args.tax.percent (g.R.Rng.stream c.args.rng.now) c.args.self.now (at.yielded ++ e ∷ []) l (g.R.Rng.stream c.apply-answer.new.rng) c.apply-answer.new.self) (sym items)
+          (all_more store.true_to_digests store.failed store.honest store.slots store.held c.args.tax.percent (g.R.Rng.stream c.args.rng.now) (g.R.Rng.stream at.rng) (g.R.Rng.stream c.apply-answer.new.rng) c.args.self.now at.self c.apply-answer.new.self at.yielded at.answers.items e a at.invariant.happen
+          (record { answered = c.apply-answer.ensures.answered; by_words = c.apply-answer.ensures.by_words; logs = c.apply-answer.ensures.logs; boots = c.apply-answer.ensures.boots; limits = c.apply-answer.ensures.limits; blocked = c.apply-answer.ensures.blocked; frames = c.apply-answer.ensures.frames; slots_stay = c.apply-answer.ensures.slots; honesty = c.apply-answer.ensures.honest; trust = c.apply-answer.ensures.true_to_digests; room = c.apply-answer.ensures.room; sound = c.apply-answer.ensures.sound }));
       count = omega (arith, ap length items, longer, length-append at.yielded (e ∷ []), at.invariant.count);
       len = omega (arith, c.push_reserved.ensures.len, ap length items, longer, at.invariant.len);
       room = omega (arith, c.push_reserved.ensures.len, c.push_reserved.ensures.capacity, gone, at.invariant.room);

@@ -13,7 +13,7 @@ invariant-loop-event g l = record {
   left : into_iter_len l.event-iterator ≡ length (into_iter_items l.event-iterator);
   proper : All IsProper (into_iter_items l.event-iterator);
   logs : (h : ℕ) → log_at l.self.tenants h ≡ log_at l.fn.self.tenants h ++ own h l.yielded l.answers.items;
-  happen : AllHappen g.S.SwapStore.true_to_digests g.S.SwapStore.failed g.S.SwapStore.honest g.S.SwapStore.slots g.S.SwapStore.held l.tax.percent l.fn.self l.yielded l.answers.items l.self;
+  happen : AllHappen g.S.SwapStore.true_to_digests g.S.SwapStore.failed g.S.SwapStore.honest g.S.SwapStore.slots g.S.SwapStore.held l.tax.percent (g.R.Rng.stream l.fn.rng) l.fn.self l.yielded l.answers.items (g.R.Rng.stream l.rng) l.self;
   count : length l.answers.items ≡ length l.yielded;
   len : vec_len l.answers ≡ length l.answers.items;
   room : vec_len l.answers + into_iter_len l.event-iterator ≤ vec_capacity l.answers;

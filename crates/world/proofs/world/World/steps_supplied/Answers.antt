@@ -1,6 +1,9 @@
 use Rattle.std.proofs.Common.{◌∙◌, Err, get_or, ap, sym, subst, arith}
-use Rattle.world.specs.declared.running.End.TheVariants.{Need}
+use Rattle.world.specs.declared.running.End.TheVariants.{Need, Stop}
+use Rattle.world.specs.declared.running.RunStop.{RunStop}
 use Rattle.world.proofs.Admitting.{limits_then, limits_stay, limits_move, blocked_stay, blocked_move}
+use Rattle.world.specs.Choices.{moment_of, StopsBy}
+use Rattle.world.proofs.Choices.{steps_where, met_where, fault_where, one_more_supplied, then_made, then_none, last_made, last_none, stop_not_done, stops_unmade, stops_faulted}
 use Rattle.world.proofs.Runs.{still_there, fault_stays, need_not_full, moved_room, fault_ready, ready_stays, ready_supplied, not_made_on, on_err}
 use Rattle.world.proofs.Victims.{fault_boots}
 use Rattle.world.proofs.Worlds.{same_logs}
@@ -25,11 +28,26 @@ loop-preserved g c =
     let boots = fault_boots c.some_steps.new.self.tenants c.fault.new.self.tenants c.fault.ensures.moves ∙ c.some_steps.ensures.boots in
     let store = c.some_steps.ensures.store in
     let mid = c.some_steps.new.self.tenants in
+    let s = g.S.SwapStore in
+    let w = c.args.self.now in
+    let from = c.loop.self in
+    let inv = c.loop.invariant in
+    let half = c.some_steps.new.self in
     record {
       inside = still_there c.args.g at.self.tenants c.fault.new.self.tenants at.invariant.inside boots;
       logs = λ h.
           fault_stays c.some_steps.new.self.tenants c.fault.new.self.tenants c.fault.ensures.moves h
           ∙ same_logs c.args.g at.self.tenants c.some_steps.new.self.tenants at.invariant.inside c.in-Err-Need.ensures.nothing.0 h ∙ at.invariant.logs h;
+      supplied = one_more_supplied w.frames (s.slots w.store) (s.true_to_digests w.store) c.args.tax.percent c.args.g at.counter
+          (moment_of (g.R.Rng.stream c.args.rng.now) w) (moment_of (g.R.Rng.stream at.rng) from) (moment_of (g.R.Rng.stream c.fault.new.rng) c.fault.new.self) inv.supplied
+          (record {
+            between = moment_of (g.R.Rng.stream at.rng) half;
+            none = steps_where w.frames from.frames (s.slots w.store) (s.slots from.store) (s.true_to_digests w.store) (s.true_to_digests from.store) c.args.tax.percent c.args.g inv.frames inv.slots inv.trust.1 0
+                (moment_of (g.R.Rng.stream at.rng) from) (moment_of (g.R.Rng.stream at.rng) half) (c.in-Err-Need.ensures.none (g.R.Rng.stream at.rng));
+            met = met_where w.frames half.frames (s.slots w.store) (s.slots half.store) (s.true_to_digests w.store) (s.true_to_digests half.store) c.args.tax.percent c.args.g
+                (c.some_steps.ensures.frames ∙ inv.frames) (ap s.slots store ∙ inv.slots) (λ before. subst s.true_to_digests (sym store) (inv.trust.1 before))
+                (moment_of (g.R.Rng.stream at.rng) half) (moment_of (g.R.Rng.stream c.fault.new.rng) c.fault.new.self) c.in_default.ensures.met;
+          });
       boots = boots ∙ at.invariant.boots;
       limits = limits_then c.args.self.now.tenants at.self.tenants c.fault.new.self.tenants at.invariant.limits
           (limits_then at.self.tenants mid c.fault.new.self.tenants (limits_stay c.args.g at.self.tenants mid at.invariant.inside c.some_steps.ensures.stays) (limits_move mid c.fault.new.self.tenants c.fault.ensures.moves));
@@ -114,3 +132,75 @@ returns-clause-limits g c =
 
 pub returns-clause-blocked : goal.returns-clause-blocked
 returns-clause-blocked g c = blocked_stay c.args.g c.loop.self.tenants c.some_steps-2.new.self.tenants c.loop.invariant.inside c.some_steps-2.ensures.stays ∙ c.loop.invariant.blocked
+
+pub returns-in-Ok-clause-made : goal.returns-in-Ok-clause-made
+returns-in-Ok-clause-made g c =
+    let s = g.S.SwapStore in
+    let w = c.args.self.now in
+    let from = c.loop.self in
+    let at = c.loop.invariant in
+    let m = moment_of (g.R.Rng.stream c.args.rng.now) w in
+    let mid = moment_of (g.R.Rng.stream c.loop.rng) from in
+    let m' = moment_of (g.R.Rng.stream c.loop.rng) c.some_steps.new.self in
+    then_made w.frames (s.slots w.store) (s.true_to_digests w.store) c.args.tax.percent c.args.g c.loop.counter c.in-Ok.steps m mid m' at.supplied (omega arith) c.in-Ok.ensures.some
+    (steps_where w.frames from.frames (s.slots w.store) (s.slots from.store) (s.true_to_digests w.store) (s.true_to_digests from.store) c.args.tax.percent c.args.g at.frames at.slots at.trust.1 c.in-Ok.steps mid m' (c.in-Ok.ensures.made (g.R.Rng.stream c.loop.rng)))
+
+pub returns-in-Err-Stop-clause-none : goal.returns-in-Err-Stop-clause-none
+returns-in-Err-Stop-clause-none g c =
+    let s = g.S.SwapStore in
+    let w = c.args.self.now in
+    let from = c.loop.self in
+    let at = c.loop.invariant in
+    let m = moment_of (g.R.Rng.stream c.args.rng.now) w in
+    let mid = moment_of (g.R.Rng.stream c.loop.rng) from in
+    let m' = moment_of (g.R.Rng.stream c.loop.rng) c.some_steps.new.self in
+    then_none w.frames (s.slots w.store) (s.true_to_digests w.store) c.args.tax.percent c.args.g c.loop.counter _ m mid m' at.supplied (omega arith)
+    (stops_unmade w.frames (s.slots w.store) (s.true_to_digests w.store) c.args.tax.percent c.args.g _ mid m' (stop_not_done _)
+    (steps_where w.frames from.frames (s.slots w.store) (s.slots from.store) (s.true_to_digests w.store) (s.true_to_digests from.store) c.args.tax.percent c.args.g at.frames at.slots at.trust.1 0 mid m' (c.in-Err-Stop.ensures.none (g.R.Rng.stream c.loop.rng))))
+
+pub returns-in-Err-clause-none : goal.returns-in-Err-clause-none
+returns-in-Err-clause-none g c =
+    let s = g.S.SwapStore in
+    let w = c.args.self.now in
+    let from = c.loop.self in
+    let at = c.loop.invariant in
+    let m = moment_of (g.R.Rng.stream c.args.rng.now) w in
+    let mid = moment_of (g.R.Rng.stream c.loop.rng) from in
+    let half = c.some_steps.new.self in
+    let between = moment_of (g.R.Rng.stream c.loop.rng) half in
+    let m' = moment_of (g.R.Rng.stream c.fault.new.rng) c.fault.new.self in
+    let store = c.some_steps.ensures.store in
+    then_none w.frames (s.slots w.store) (s.true_to_digests w.store) c.args.tax.percent c.args.g c.loop.counter _ m mid m' at.supplied (omega arith)
+    (subst (λ (why : RunStop). StopsBy w.frames (s.slots w.store) (s.true_to_digests w.store) c.args.tax.percent c.args.g (Stop why) mid m') (sym c.stop_of.ensures)
+    (stops_faulted w.frames (s.slots w.store) (s.true_to_digests w.store) c.args.tax.percent c.args.g c.in-Err.error mid m' (record {
+      between = between;
+      none = steps_where w.frames from.frames (s.slots w.store) (s.slots from.store) (s.true_to_digests w.store) (s.true_to_digests from.store) c.args.tax.percent c.args.g at.frames at.slots at.trust.1 0 mid between (c.in-Err-Need.ensures.none (g.R.Rng.stream c.loop.rng));
+      fault = fault_where w.frames half.frames (s.slots w.store) (s.slots half.store) (s.true_to_digests w.store) (s.true_to_digests half.store) c.args.tax.percent c.args.g
+          (c.some_steps.ensures.frames ∙ at.frames) (ap s.slots store ∙ at.slots) (λ before. subst s.true_to_digests (sym store) (at.trust.1 before)) between m' c.fault.ensures.chosen;
+    })))
+
+pub returns-clause-made : goal.returns-clause-made
+returns-clause-made g c =
+    let s = g.S.SwapStore in
+    let w = c.args.self.now in
+    let from = c.loop.self in
+    let at = c.loop.invariant in
+    let m = moment_of (g.R.Rng.stream c.args.rng.now) w in
+    let mid = moment_of (g.R.Rng.stream c.loop.rng) from in
+    let m' = moment_of (g.R.Rng.stream c.loop.rng) c.some_steps-2.new.self in
+    last_made c.some_steps-2.result _ w.frames (s.slots w.store) (s.true_to_digests w.store) c.args.tax.percent c.args.g c.loop.counter m mid m' at.supplied (omega arith)
+    (λ count steps. steps_where w.frames from.frames (s.slots w.store) (s.slots from.store) (s.true_to_digests w.store) (s.true_to_digests from.store) c.args.tax.percent c.args.g at.frames at.slots at.trust.1 count mid m' (steps (g.R.Rng.stream c.loop.rng)))
+    c.some_steps-2.ensures.some c.some_steps-2.ensures.made
+
+pub returns-clause-none : goal.returns-clause-none
+returns-clause-none g c =
+    let s = g.S.SwapStore in
+    let w = c.args.self.now in
+    let from = c.loop.self in
+    let at = c.loop.invariant in
+    let m = moment_of (g.R.Rng.stream c.args.rng.now) w in
+    let mid = moment_of (g.R.Rng.stream c.loop.rng) from in
+    let m' = moment_of (g.R.Rng.stream c.loop.rng) c.some_steps-2.new.self in
+    last_none c.some_steps-2.result _ w.frames (s.slots w.store) (s.true_to_digests w.store) c.args.tax.percent c.args.g c.loop.counter m mid m' at.supplied (omega arith)
+    (λ none. steps_where w.frames from.frames (s.slots w.store) (s.slots from.store) (s.true_to_digests w.store) (s.true_to_digests from.store) c.args.tax.percent c.args.g at.frames at.slots at.trust.1 0 mid m' (none (g.R.Rng.stream c.loop.rng)))
+    c.some_steps-2.ensures.early c.some_steps-2.ensures.none

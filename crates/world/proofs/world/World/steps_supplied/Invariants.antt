@@ -1,7 +1,9 @@
 use Rattle.std.proofs.Common.{◌≡◌, ℕ, ◌<◌, ◌↔◌, length, map, slice_index_or}
+use Rattle.world.specs.Choices.{moment_of}
 use Rattle.world.specs.Admission.{LimitsStay, BlockedStay}
 use Rattle.world.specs.Worlds.{boot_of, log_at}
 use Rattle.tenant.specs.Tenants.{TenantIs}
+use Rattle.world.proofs.Choices.{Supplied}
 use Rattle.world.proofs.Runs.{IsReady}
 use Rattle.world.proofs.world.World.steps_supplied.Given as goal
 
@@ -10,6 +12,7 @@ abbrev pub invariant-loop : goal.invariant-loop
 invariant-loop g l = record {
   inside : l.g < length l.self.tenants;
   logs : (h : ℕ) → log_at l.self.tenants h ≡ log_at l.fn.self.tenants h;
+  supplied : Supplied l.fn.self.frames (g.S.SwapStore.slots l.fn.self.store) (g.S.SwapStore.true_to_digests l.fn.self.store) l.tax.percent l.g l.counter (moment_of (g.R.Rng.stream l.fn.rng) l.fn.self) (moment_of (g.R.Rng.stream l.rng) l.self);
   boots : map boot_of l.self.tenants ≡ map boot_of l.fn.self.tenants;
   limits : LimitsStay l.fn.self.tenants l.self.tenants;
   blocked : BlockedStay l.fn.self.tenants l.self.tenants;

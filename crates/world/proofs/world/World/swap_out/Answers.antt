@@ -10,4 +10,4 @@ drawn_page-p-requires g c =
     subst (λ (u : TenantIs). u.minimum < resident_pages (pages_in u)) (sym (c.guest.ensures t)) (c.requires.more t)
 
 pub returns-clause-err : goal.returns-clause-err
-returns-clause-err g c = still_err c.evict_of.result c.args.self.now.slots c.evict_of.new.self.slots _ c.evict_of.ensures.slots_unchanged c.evict_of.ensures.err
+returns-clause-err g c = still_err c.evict_of-swapped.result c.args.self.now.slots c.evict_of-swapped.new.self.slots _ c.evict_of-swapped.ensures.slots_unchanged c.evict_of-swapped.ensures.err

@@ -1,4 +1,5 @@
 use Rattle.std.proofs.Common.{◌≡◌, ◌↔◌, length}
+use Rattle.world.specs.Choices.{moment_of, SwapOuts}
 use Rattle.world.specs.Turns.{AreFewer, SameFrom}
 use Rattle.world.specs.Victims.{OnlyPagesMove}
 use Rattle.world.proofs.world.World.swap_out_each.Given as goal
@@ -10,6 +11,7 @@ invariant-loop-g w l = record {
   moves : OnlyPagesMove l.fn.self.tenants l.self.tenants;
   fewer : AreFewer l.actions l.g l.fn.self.tenants l.self.tenants;
   others : SameFrom l.g l.fn.self.tenants l.self.tenants;
+  outs : SwapOuts l.fn.self.frames (w.S.SwapStore.slots l.fn.self.store) 0 l.g (moment_of (w.R.Rng.stream l.fn.rng) l.fn.self) (moment_of (w.R.Rng.stream l.rng) l.self);
   failed : w.S.SwapStore.failed l.self.store ≡ w.S.SwapStore.failed l.fn.self.store;
   hints : l.self.shares.hints ≡ l.fn.self.shares.hints;
   frames : l.self.frames ≡ l.fn.self.frames;

@@ -1,4 +1,5 @@
 use Rattle.std.proofs.Common.{◌≡◌, ◌<◌, ◌↔◌, length}
+use Rattle.world.specs.Choices.{moment_of, SwapOuts}
 use Rattle.world.specs.Turns.{LosesPages}
 use Rattle.world.specs.Worlds.{Changes}
 use Rattle.world.proofs.world.World.swap_out_pages.Given as goal
@@ -8,6 +9,7 @@ abbrev pub invariant-loop : goal.invariant-loop
 invariant-loop g l = record {
   inside : l.g < length l.self.tenants;
   loses : Changes (LosesPages l.counter) l.g l.fn.self.tenants l.self.tenants;
+  outs : SwapOuts l.fn.self.frames (g.S.SwapStore.slots l.fn.self.store) l.g l.g (moment_of (g.R.Rng.stream l.fn.rng) l.fn.self) (moment_of (g.R.Rng.stream l.rng) l.self);
   failed : g.S.SwapStore.failed l.self.store ≡ g.S.SwapStore.failed l.fn.self.store;
   hints : l.self.shares.hints ≡ l.fn.self.shares.hints;
   frames : l.self.frames ≡ l.fn.self.frames;
