@@ -10,7 +10,7 @@ use std::fmt;
 use std::sync::Arc;
 use swapstore::MemStore;
 use taxpolicy::Tax;
-use world::{End, World};
+use world::{Cause, End, World};
 
 /// How many frames there are: the guests have 512 pages.
 pub const FRAMES: u32 = 300;
@@ -94,7 +94,7 @@ fn run(alloc: Global, world: &mut World<MemStore>, g: usize, tax: Tax, rng: &mut
         if g >= world.count() {
             break;
         }
-        if world.fault(alloc, g, tax, rng).is_err() {
+        if world.fault(alloc, g, Cause::Fault, tax, rng).is_err() {
             break;
         }
     }

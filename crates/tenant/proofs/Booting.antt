@@ -31,14 +31,13 @@ use Rattle.paging.specs.Faith.{IsFaithful, Faithful, IsHeld, Kept}
 use Rattle.paging.specs.Supplies.{Supplies}
 use Rattle.paging.proofs.Booking.{below_one}
 use Rattle.paging.proofs.Exchanging.{frames_by_page, slots_by_page, tickets_by_page, same_bytes, new_at, other_at, same_length, reads_stay}
-use Rattle.guest.specs.Guests.{GuestIs, view_of}
+use Rattle.guest.specs.Guests.{GuestIs, view_of, without_pages, Intact}
 use Rattle.guest.specs.Loading.{segment_reaches, Reaches, IsBeside}
 use Rattle.guest.specs.Views.{pages_seen}
 use Rattle.guest.proofs.BootPages.{placed_size, beside_is_zeros}
 use Rattle.guest.proofs.Keeping.{booted_intact}
 use Rattle.tenant.specs.Lent.{UsedStay}
-use Rattle.tenant.specs.Loading.{boot_page, AreUntouched, AreLoaded, IsLoaded, IsFrameFirst, FramesFirst}
-use Rattle.tenant.specs.Tenants.{TenantIs, pages_in, beside_pages, IsKept}
+use Rattle.tenant.specs.Loading.{boot_page, AreUntouched, AreLoaded, IsLoaded, IsFrameFirst, FramesFirst, NonePrivate}
 use Rattle.tenant.proofs.Keeping.{used_held}
 
 -- ---- one page
@@ -209,6 +208,13 @@ next_frames_first image next pool pool' ps ps' others a now f = record {
     before : (o : ℕ) → (o ≡ next → ⊥) → kind_at ps o ≡ kind_at ps' o
     before o apart = sym (ap kind_of (others o apart))
 
+pub next_none_private : (next : ℕ) (pool pool' : FreeList) (ps ps' : List Page) → ((o : ℕ) → (o ≡ next → ⊥) → page_at ps' o ≡ page_at ps o)
+    → IsFrameFirst pool pool' (page_at ps' next) → pool.free ≡ [] → NonePrivate ps → NonePrivate ps'
+next_none_private next pool pool' ps ps' others now none before q here = elim (cases_eq q next) [
+  | inl e ↦ absurd (omega (arith, now.free (ap (kind_at ps') (sym e) ∙ here), ap length none))
+  | inr apart ↦ before q (sym (ap kind_of (others q apart)) ∙ here)
+]
+
 -- ---- a page that the image doesn't reach
 
 zeros_faithful : (bytes : List ℕ) (q : Page) → q ≡ page.Zero → zeros 4096 ≡ bytes → IsFaithful bytes q
@@ -248,6 +254,11 @@ none_touched image n ps is = record {
 
 pub none_loaded : (held : ℕ → Option (List ℕ)) (image : Image) (count : ℕ) (ps : List Page) → AreLoaded held image count 0 ps
 none_loaded held image count ps = record { faithful = λ p below inside. absurd (omega (arith, below)); lies = λ p below inside. absurd (omega (arith, below)) }
+
+pub zeros_none_private : (n : ℕ) (ps : List Page) → ps ≡ replicate n page.Zero → NonePrivate ps
+zeros_none_private n ps is p here =
+    let both : kind.Zero ≡ kind.Private = sym (ap kind_of (ap (λ (l : List Page). page_at l p) is ∙ same_at n p page.Zero)) ∙ here in
+    absurd (cc)
 
 pub none_away : (pool : FreeList) (n : ℕ) (ps : List Page) → ps ≡ replicate n page.Zero → FramesFirst pool ps
 none_away pool n ps is = record {
@@ -290,34 +301,29 @@ fold_size (s ∷ segments) memory size is within =
 boot_length : (image : Image) (count : ℕ) → FitsPages image count → length (boot_memory image count) ≡ count * 4096
 boot_length image count fits = fold_size image.segments.items (zeros (count * 4096)) (count * 4096) (length-zeros (count * 4096)) (λ k d h. fits k d h)
 
-pub booted_kept : (held : ℕ → Option (List ℕ)) (image : Image) (count : ℕ) (t : TenantIs) → FitsPages image count → length (pages_in t) ≡ count
-    → t.guest.boot ≡ boot_machine image count → t.guest.log.items ≡ [] → t.guest.cpu ≡ t.guest.boot.cpu → t.guest.bus.devices ≡ t.guest.boot.world.devices
-    → AreLoaded held image count count (pages_in t) → IsKept held t
-booted_kept held image count t fits size boot none cpu devices loaded =
-    let g = t.guest in
+pub booted_run : (held : ℕ → Option (List ℕ)) (image : Image) (count : ℕ) (g : GuestIs) → FitsPages image count → length g.bus.pages ≡ count
+    → g.boot ≡ boot_machine image count → g.log.items ≡ [] → g.cpu ≡ g.boot.cpu → g.bus.devices ≡ g.boot.world.devices
+    → AreLoaded held image count count g.bus.pages → Intact g × Kept held (pages_seen (view_of g)) g.bus.pages
+booted_run held image count g fits size boot none cpu devices loaded =
     let view : view_of g ≡ boot_machine image count = ap (λ (items : List Item). run items g.boot) none ∙ boot in
-    let faithful : Faithful (boot_page image count) (pages_in t) = λ p inside. loaded.faithful p (omega (arith, inside, size)) inside in
-    record {
-      intact = booted_intact g none cpu devices
+    let faithful : Faithful (boot_page image count) g.bus.pages = λ p inside. loaded.faithful p (omega (arith, inside, size)) inside in (
+      booted_intact g none cpu devices
           (ap (λ (m : Machine). length m.world.memory) boot ∙ boot_length image count fits ∙ sym (ap (λ (n : ℕ). n * 4096) size))
-          (subst (λ (m : Machine). Faithful (pages_seen m) (pages_in t)) (sym boot) faithful);
-      pages = subst (λ (m : Machine). Kept held (pages_seen m) (pages_in t)) (sym view) (record {
+          (subst (λ (m : Machine). Faithful (pages_seen m) g.bus.pages) (sym boot) faithful),
+      subst (λ (m : Machine). Kept held (pages_seen m) g.bus.pages) (sym view) (record {
         faithful = faithful;
         lies = λ p inside. loaded.lies p (omega (arith, inside, size)) inside;
-      });
-    }
+      }),
+    )
 
-pub loaded_kept : (held : ℕ → Option (List ℕ)) (image its_image loaded_image : Image) (count : ℕ) (g : GuestIs) (new t : TenantIs) → FitsPages image count → its_image ≡ image → loaded_image ≡ image
+pub loaded_run : (held : ℕ → Option (List ℕ)) (image its_image loaded_image : Image) (count : ℕ) (g g' : GuestIs) → FitsPages image count → its_image ≡ image → loaded_image ≡ image
     → g.cpu ≡ g.boot.cpu → g.bus ≡ record { pages = replicate count page.Zero; devices = fresh_devices count; waiting = None } → g.boot ≡ boot_machine its_image count → g.log.items ≡ []
-    → new.guest ≡ record g { seats = 4 } → beside_pages t ≡ beside_pages new → length (pages_in t) ≡ length (pages_in new)
-    → AreLoaded held loaded_image (length (pages_in new)) (length (pages_in new)) (pages_in t) → IsKept held t
-loaded_kept held image its_image loaded_image count g new t fits its same cpu bus boot none guest beside size loaded =
-    let counted : length (pages_in new) ≡ count = ap (λ (h : GuestIs). length h.bus.pages) guest ∙ ap (λ (b : PagedBusIs). length b.pages) bus ∙ length-replicate count page.Zero in
-    let boots : t.guest.boot ≡ boot_machine image count =
-    ap (λ (u : TenantIs). u.guest.boot) beside ∙ ap (λ (h : GuestIs). h.boot) guest ∙ boot ∙ ap (λ (i : Image). boot_machine i count) its in
-    booted_kept held image count t fits (size ∙ counted) boots (ap (λ (u : TenantIs). u.guest.log.items) beside ∙ ap (λ (h : GuestIs). h.log.items) guest ∙ none)
-    (ap (λ (u : TenantIs). u.guest.cpu) beside ∙ ap (λ (h : GuestIs). h.cpu) guest ∙ cpu
-    ∙ sym (ap (λ (u : TenantIs). u.guest.boot.cpu) beside ∙ ap (λ (h : GuestIs). h.boot.cpu) guest))
-    (ap (λ (u : TenantIs). u.guest.bus.devices) beside ∙ ap (λ (h : GuestIs). h.bus.devices) guest ∙ ap (λ (b : PagedBusIs). b.devices) bus
-    ∙ sym (ap (λ (m : Machine). m.world.devices) boots))
-    (subst (λ (i : Image). AreLoaded held i count count (pages_in t)) same (subst (λ (n : ℕ). AreLoaded held loaded_image n n (pages_in t)) counted loaded))
+    → without_pages g' ≡ without_pages g → length g'.bus.pages ≡ length g.bus.pages
+    → AreLoaded held loaded_image (length g.bus.pages) (length g.bus.pages) g'.bus.pages → Intact g' × Kept held (pages_seen (view_of g')) g'.bus.pages
+loaded_run held image its_image loaded_image count g g' fits its same cpu bus boot none beside size loaded =
+    let counted : length g.bus.pages ≡ count = ap (λ (b : PagedBusIs). length b.pages) bus ∙ length-replicate count page.Zero in
+    let boots : g'.boot ≡ boot_machine image count = ap (λ (h : GuestIs). h.boot) beside ∙ boot ∙ ap (λ (i : Image). boot_machine i count) its in
+    booted_run held image count g' fits (size ∙ counted) boots (ap (λ (h : GuestIs). h.log.items) beside ∙ none)
+    (ap (λ (h : GuestIs). h.cpu) beside ∙ cpu ∙ sym (ap (λ (h : GuestIs). h.boot.cpu) beside))
+    (ap (λ (h : GuestIs). h.bus.devices) beside ∙ ap (λ (b : PagedBusIs). b.devices) bus ∙ sym (ap (λ (m : Machine). m.world.devices) boots))
+    (subst (λ (i : Image). AreLoaded held i count count g'.bus.pages) same (subst (λ (n : ℕ). AreLoaded held loaded_image n n g'.bus.pages) counted loaded))

@@ -1,4 +1,5 @@
 pub mod Lent
 pub mod Loading
+pub mod Seats
 pub mod Tenants
 pub mod Turns

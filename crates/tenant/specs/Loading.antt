@@ -3,12 +3,13 @@ use Rattle.std.specs.Prelude.{◌≡◌, ℕ, ◌<◌, ◌≤◌, List, [], Opti
 use Rattle.frames.specs.FreeList.{FreeList}
 use Rattle.elf32.specs.declared.image.Image.{Image}
 use Rattle.mips_step.specs.World.{page_bytes}
-use Rattle.flatvm.specs.Boot.{boot_memory}
+use Rattle.flatvm.specs.Boot.{boot_machine, boot_memory}
 use Rattle.physmap.specs.declared.page.Page.{Page}
 use Rattle.physmap.specs.declared.page.Page.TheVariants.{Zero}
 use Rattle.physmap.specs.declared.page.PageKind.TheVariants.{Private, Swapped}
 use Rattle.physmap.specs.Pages.{page_at, kind_of, kind_at}
 use Rattle.paging.specs.Faith.{IsFaithful, IsHeld}
+use Rattle.guest.specs.Guests.{GuestIs}
 use Rattle.guest.specs.Loading.{IsBeside}
 use Rattle.tenant.specs.declared.loading.BootError.{BootError}
 use Rattle.tenant.specs.declared.loading.BootError.TheVariants.{Limits, Segment, AdmitFrames, AdmitSlots, Room, Store, Memory}
@@ -16,6 +17,16 @@ use Rattle.tenant.specs.declared.loading.BootError.TheVariants.{Limits, Segment,
 -- the bytes of a page as an image boots in a memory of so many pages
 abbrev pub boot_page : Image → ℕ → ℕ → List ℕ
 boot_page image count p = page_bytes p (boot_memory image count)
+
+-- A guest is at the boot of an image in a memory of its own of so many pages, with a log of at most so many runs, and nothing has happened
+-- to it; it has no seat, and a page that the image doesn't reach was never touched.
+pub record IsAtBoot (image : Image) (count log_runs : ℕ) (g : GuestIs) : Type 0 where
+  pub boot : g.boot ≡ boot_machine image count
+  pub items : g.log.items ≡ []
+  pub limit : g.log.limit ≡ log_runs
+  pub seats : g.seats ≡ 0
+  pub size : length g.bus.pages ≡ count
+  pub beside : (p : ℕ) → IsBeside image p → page_at g.bus.pages p ≡ Zero
 
 -- each page from a number on, and each that the image doesn't reach, was never touched
 pub record AreUntouched (image : Image) (next : ℕ) (pages : List Page) : Type 0 where
@@ -45,25 +56,20 @@ pub record FramesFirst (pool : FreeList) (pages : List Page) : Type 0 where
   pub full : (p : ℕ) → kind_at pages p ≡ Swapped → pool.free ≡ []
   pub below : (p q : ℕ) → kind_at pages p ≡ Private → kind_at pages q ≡ Swapped → p < q
 
--- why a page of an image has no place: neither a frame nor a slot is free, or no frame and the store failed to write one
-abbrev pub WhyNotLoaded : FreeList → FreeList → Type 0 → BootError → Type 0
-WhyNotLoaded pool slots failed Limits = ⊥
-WhyNotLoaded pool slots failed Segment = ⊥
-WhyNotLoaded pool slots failed AdmitFrames = ⊥
-WhyNotLoaded pool slots failed AdmitSlots = ⊥
-WhyNotLoaded pool slots failed Room = (pool.free ≡ []) × (slots.free ≡ [])
-WhyNotLoaded pool slots failed Store = (pool.free ≡ []) × (0 < length slots.free) × failed
-WhyNotLoaded pool slots failed Memory = Unit {0}
+-- no page is in a frame of its own
+abbrev pub NonePrivate : List Page → Type 0
+NonePrivate pages = (p : ℕ) → kind_at pages p ≡ Private → ⊥
 
--- a refusal that a page of an image can bring
-abbrev pub IsOfLoading : BootError → Type 0
-IsOfLoading Limits = ⊥
-IsOfLoading Segment = ⊥
-IsOfLoading AdmitFrames = ⊥
-IsOfLoading AdmitSlots = ⊥
-IsOfLoading Room = Unit {0}
-IsOfLoading Store = Unit {0}
-IsOfLoading Memory = Unit {0}
+-- why an image has no place: neither a frame nor a slot was free for a page of it, or the store failed to write one, or a request for
+-- memory was refused
+abbrev pub WhyNotLoaded : Type 0 → BootError → Type 0
+WhyNotLoaded failed Limits = ⊥
+WhyNotLoaded failed Segment = ⊥
+WhyNotLoaded failed AdmitFrames = ⊥
+WhyNotLoaded failed AdmitSlots = ⊥
+WhyNotLoaded failed Room = Unit {0}
+WhyNotLoaded failed Store = failed
+WhyNotLoaded failed Memory = Unit {0}
 
 -- the number by which the refusal of a world is known
 abbrev pub boot_number : BootError → ℕ

@@ -5,7 +5,6 @@ use Rattle.items.specs.declared.item.Item.{Item}
 use Rattle.items.specs.Entries.{steps_of}
 use Rattle.elf32.specs.declared.image.Image.{Image}
 use Rattle.flatvm.specs.Boot.{boot_machine}
-use Rattle.loghead.specs.Heads.{SeatIs}
 use Rattle.physmap.specs.declared.page.Page.{Page}
 use Rattle.physmap.specs.declared.page.Page.TheVariants.{Zero}
 use Rattle.physmap.specs.Pages.{page_at}
@@ -19,6 +18,7 @@ use Rattle.paging.specs.Faith.{Kept}
 use Rattle.guest.specs.Guests.{GuestIs, view_of, Intact, without_pages}
 use Rattle.guest.specs.Loading.{IsBeside}
 use Rattle.guest.specs.Views.{pages_seen}
+use Rattle.tenant.specs.declared.opened.PolicyState.{PolicyState}
 
 -- what is seen of a guest in a world
 pub record TenantIs : Type 0 where
@@ -32,10 +32,9 @@ pub record TenantIs : Type 0 where
   -- whether it is to make no step for want of memory
   pub blocked : Bool
 
--- a seat of a guest, of this number
-pub record IsSeat (g : GuestIs) (number : ℕ) (seat : SeatIs) : Type 0 where
-  pub its_head : seat.head ≡ g.head
-  pub its_number : seat.number ≡ number
+-- a guest with what the policy goes by
+abbrev pub tenant_of : GuestIs → PolicyState → TenantIs
+tenant_of guest state = record { guest = guest; shares = state.shares; minimum = state.minimum; sample = state.sample; blocked = state.blocked }
 
 abbrev pub pages_in : TenantIs → List Page
 pages_in t = t.guest.bus.pages

@@ -7,16 +7,22 @@
 //! `evict_page`, `scan_page` and `loaded` nothing is lost or made (`Conserves`), and the guest is still its run.
 #![tactic(auto)]
 
+pub mod counts;
 pub mod laws;
 pub mod loading;
 mod moves;
+pub mod opened;
+pub mod seats;
 mod stepping;
 mod supplying;
 pub mod tenant;
 pub mod turning;
 
+pub use counts::{Cause, MoveCounts};
 pub use loading::{BootError, loaded};
 pub use moves::{EvictError, evict_page, scan_page, store_page, supply_page};
+pub use opened::{Opened, PolicyState};
+pub use seats::Seats;
 pub use stepping::{run_in, step_in};
 pub use tenant::Tenant;
 pub use turning::Aim;

@@ -1,5 +1,5 @@
 //! A guest's image comes into its pages.
-ghost use Rattle.std.specs.Prelude.{◌≡◌, ℕ, ◌+◌, ◌<◌, ◌≤◌, ◌^◌, ◌↔◌, IfOk, IfErr, OnOk, Option, List, length, replicate};
+ghost use Rattle.std.specs.Prelude.{◌≡◌, ℕ, ◌+◌, ◌<◌, ◌≤◌, ◌^◌, ◌↔◌, IfOk, IfErr, OnOk, IsErrOf, Option, List, [], length, replicate};
 ghost use Rattle.frames.specs.Counts.{count_of, below};
 ghost use Rattle.frames.specs.FreeList.{FreeList};
 ghost use Rattle.sharetab.specs.Entries.{EntriesAre};
@@ -9,15 +9,16 @@ ghost use Rattle.physmap.specs.declared.page.Page.{Page};
 ghost use Rattle.physmap.specs.declared.page.PageKind.{PageKind};
 ghost use Rattle.physmap.specs.Pages.{page_at, kind_at};
 ghost use Rattle.physmap.specs.Holdings.{slots_held};
+ghost use Rattle.guest.specs.Guests.{Intact, view_of, without_pages};
 ghost use Rattle.guest.specs.Loading.{Reaches};
+ghost use Rattle.guest.specs.Views.{pages_seen};
+ghost use Rattle.paging.specs.Faith.{Kept};
 ghost use Rattle.paging.specs.Moves.{Conserves, Reads};
 ghost use Rattle.paging.specs.Supplies.{Supplies, WantsFrame};
 ghost use Rattle.tenant.specs.Loading.{boot_number};
 ghost use Rattle.tenant.specs.Lent.{UsedStay, WhyStays};
-ghost use Rattle.tenant.specs.Loading.{boot_page, AreUntouched, AreLoaded, IsLoaded, IsFrameFirst, FramesFirst, WhyNotLoaded, IsOfLoading};
-ghost use Rattle.tenant.specs.Tenants.{TenantIs, pages_in, beside_pages, IsKept, IsBooted};
+ghost use Rattle.tenant.specs.Loading.{IsAtBoot, boot_page, AreUntouched, AreLoaded, IsLoaded, IsFrameFirst, FramesFirst, NonePrivate, WhyNotLoaded};
 
-use crate::Tenant;
 use crate::moves::{EvictError, store_page};
 use crate::supplying::supply_first_from;
 use elf32::Image;
@@ -68,94 +69,101 @@ impl BootError {
 // A page that was never touched gets a frame with the bytes that the image has for it.
 fn load_in_frame(
     alloc: Global,
-    tenant: &mut Tenant,
+    guest: &mut Guest,
     image: &Image,
     p: Ppn,
     pool: &mut Pool,
 ) -> Result<(), SupplyError>
-    requires fits { FitsPages image.now (length (pages_in tenant.old)) }
-    requires there { p < length (pages_in tenant.old) }
-    requires untouched { kind_at (pages_in tenant.old) p ≡ PageKind.Zero }
+    requires fits { FitsPages image.now (length guest.old.bus.pages) }
+    requires there { p < length guest.old.bus.pages }
+    requires untouched { kind_at guest.old.bus.pages p ≡ PageKind.Zero }
     ensures conserves { (book : FreeList) (entries : EntriesAre) →
-        Conserves (pages_in tenant.old) pool.old book entries (pages_in tenant.new) pool.new book entries }
-    ensures reads { (entries : EntriesAre) → Reads entries (pages_in tenant.old) → Reads entries (pages_in tenant.new) }
-    ensures rest { beside_pages tenant.new ≡ beside_pages tenant.old }
-    ensures count { length (pages_in tenant.new) ≡ length (pages_in tenant.old) }
-    ensures loaded { OnOk result (Supplies (pages_in tenant.old) p (boot_page image.now (length (pages_in tenant.old)) p) (pages_in tenant.new)) }
+        Conserves guest.old.bus.pages pool.old book entries guest.new.bus.pages pool.new book entries }
+    ensures reads { (entries : EntriesAre) → Reads entries guest.old.bus.pages → Reads entries guest.new.bus.pages }
+    ensures rest { without_pages guest.new ≡ without_pages guest.old }
+    ensures count { length guest.new.bus.pages ≡ length guest.old.bus.pages }
+    ensures loaded { OnOk result (Supplies guest.old.bus.pages p (boot_page image.now (length guest.old.bus.pages) p) guest.new.bus.pages) }
     ensures some { OnOk result (0 < length pool.old.free) }
+    ensures taken { OnOk result (length pool.old.free ≡ length pool.new.free + 1) }
     ensures err { IfErr result (WantsFrame pool.old) }
 {
-    supply_first_from(alloc, tenant, p, pool)?;
-    tenant.load_page(image, p);
+    supply_first_from(alloc, guest, p, pool)?;
+    guest.load_page(image, p);
     Ok(())
 }
 
 // A page that was never touched gets the free slot of the lowest number, to which the bytes that the image has for it are written.
 fn load_in_slot<S: SwapStore>(
-    tenant: &mut Tenant,
+    guest: &mut Guest,
     image: &Image,
     p: Ppn,
     slots: &mut SlotBook,
     store: &mut S,
 ) -> Result<(), EvictError>
-    requires fits { FitsPages image.now (length (pages_in tenant.old)) }
-    requires there { p < length (pages_in tenant.old) }
-    requires untouched { kind_at (pages_in tenant.old) p ≡ PageKind.Zero }
-    requires once { (k : ℕ) → count_of k slots.old.free + slots_held k (pages_in tenant.old) ≤ below k (S.slots store.old) }
+    requires fits { FitsPages image.now (length guest.old.bus.pages) }
+    requires there { p < length guest.old.bus.pages }
+    requires untouched { kind_at guest.old.bus.pages p ≡ PageKind.Zero }
+    requires once { (k : ℕ) → count_of k slots.old.free + slots_held k guest.old.bus.pages ≤ below k (S.slots store.old) }
     ensures conserves { (pool : FreeList) (entries : EntriesAre) →
-        Conserves (pages_in tenant.old) pool slots.old entries (pages_in tenant.new) pool slots.new entries }
-    ensures reads { (entries : EntriesAre) → Reads entries (pages_in tenant.old) → Reads entries (pages_in tenant.new) }
+        Conserves guest.old.bus.pages pool slots.old entries guest.new.bus.pages pool slots.new entries }
+    ensures reads { (entries : EntriesAre) → Reads entries guest.old.bus.pages → Reads entries guest.new.bus.pages }
     ensures used { S.true_to_digests store.old → UsedStay slots.old (S.held store.old) (S.held store.new) }
-    ensures rest { beside_pages tenant.new ≡ beside_pages tenant.old }
-    ensures count { length (pages_in tenant.new) ≡ length (pages_in tenant.old) }
-    ensures loaded { OnOk result (IsLoaded (S.true_to_digests store.old) (S.held store.new) p (boot_page image.now (length (pages_in tenant.old)) p)
-        (pages_in tenant.old) (pages_in tenant.new)) }
-    ensures away { OnOk result (kind_at (pages_in tenant.new) p ≡ PageKind.Swapped) }
-    ensures err { IfErr result (WhyStays slots.old (S.failed store.new ≡ one_more (S.failed store.old))) }
+    ensures rest { without_pages guest.new ≡ without_pages guest.old }
+    ensures count { length guest.new.bus.pages ≡ length guest.old.bus.pages }
+    ensures loaded { OnOk result (IsLoaded (S.true_to_digests store.old) (S.held store.new) p (boot_page image.now (length guest.old.bus.pages) p)
+        guest.old.bus.pages guest.new.bus.pages) }
+    ensures away { OnOk result (kind_at guest.new.bus.pages p ≡ PageKind.Swapped) }
+    ensures taken { OnOk result (length slots.old.free ≡ length slots.new.free + 1) }
+    ensures none { IsErrOf result EvictError.NoSwap → slots.old.free ≡ [] }
+    ensures err { IfErr result (WhyStays slots.new (S.failed store.new ≡ one_more (S.failed store.old))) }
+    ensures no_failure { OnOk result (S.failed store.new ≡ S.failed store.old) }
     ensures slots { S.slots store.new ≡ S.slots store.old }
     ensures honest { S.honest store.new ↔ S.honest store.old }
     ensures true_to_digests { S.true_to_digests store.new ↔ S.true_to_digests store.old }
 {
     let mut bytes = [0; 4096];
     load_image_page(image, p, &mut bytes);
-    store_page(tenant, p, &bytes, slots, store)
+    store_page(guest, p, &bytes, slots, store)
 }
 
 // A page that was never touched gets a frame where one is free, else a slot, with the bytes that the image has for it.
 fn load_one<S: SwapStore>(
     alloc: Global,
-    tenant: &mut Tenant,
+    guest: &mut Guest,
     image: &Image,
     p: Ppn,
     pool: &mut Pool,
     slots: &mut SlotBook,
     store: &mut S,
 ) -> Result<(), BootError>
-    requires fits { FitsPages image.now (length (pages_in tenant.old)) }
-    requires there { p < length (pages_in tenant.old) }
-    requires untouched { kind_at (pages_in tenant.old) p ≡ PageKind.Zero }
-    requires once { (k : ℕ) → count_of k slots.old.free + slots_held k (pages_in tenant.old) ≤ below k (S.slots store.old) }
+    requires fits { FitsPages image.now (length guest.old.bus.pages) }
+    requires there { p < length guest.old.bus.pages }
+    requires untouched { kind_at guest.old.bus.pages p ≡ PageKind.Zero }
+    requires once { (k : ℕ) → count_of k slots.old.free + slots_held k guest.old.bus.pages ≤ below k (S.slots store.old) }
     ensures conserves { (entries : EntriesAre) →
-        Conserves (pages_in tenant.old) pool.old slots.old entries (pages_in tenant.new) pool.new slots.new entries }
-    ensures reads { (entries : EntriesAre) → Reads entries (pages_in tenant.old) → Reads entries (pages_in tenant.new) }
+        Conserves guest.old.bus.pages pool.old slots.old entries guest.new.bus.pages pool.new slots.new entries }
+    ensures reads { (entries : EntriesAre) → Reads entries guest.old.bus.pages → Reads entries guest.new.bus.pages }
     ensures used { S.true_to_digests store.old → UsedStay slots.old (S.held store.old) (S.held store.new) }
-    ensures rest { beside_pages tenant.new ≡ beside_pages tenant.old }
-    ensures count { length (pages_in tenant.new) ≡ length (pages_in tenant.old) }
-    ensures loaded { OnOk result (IsLoaded (S.true_to_digests store.old) (S.held store.new) p (boot_page image.now (length (pages_in tenant.old)) p)
-        (pages_in tenant.old) (pages_in tenant.new)) }
-    ensures frame_first { OnOk result (IsFrameFirst pool.old pool.new (page_at (pages_in tenant.new) p)) }
-    ensures err { IfErr result (WhyNotLoaded pool.old slots.old (S.failed store.new ≡ one_more (S.failed store.old))) }
+    ensures rest { without_pages guest.new ≡ without_pages guest.old }
+    ensures count { length guest.new.bus.pages ≡ length guest.old.bus.pages }
+    ensures loaded { OnOk result (IsLoaded (S.true_to_digests store.old) (S.held store.new) p (boot_page image.now (length guest.old.bus.pages) p)
+        guest.old.bus.pages guest.new.bus.pages) }
+    ensures frame_first { OnOk result (IsFrameFirst pool.old pool.new (page_at guest.new.bus.pages p)) }
+    ensures taken { OnOk result (length pool.old.free + length slots.old.free ≡ length pool.new.free + length slots.new.free + 1) }
+    ensures room { IsErrOf result BootError.Room → length pool.old.free + length slots.old.free ≡ 0 }
+    ensures err { IfErr result (WhyNotLoaded (S.failed store.new ≡ one_more (S.failed store.old))) }
+    ensures no_failure { OnOk result (S.failed store.new ≡ S.failed store.old) }
     ensures slots { S.slots store.new ≡ S.slots store.old }
     ensures honest { S.honest store.new ↔ S.honest store.old }
     ensures true_to_digests { S.true_to_digests store.new ↔ S.true_to_digests store.old }
 {
     if pool.free() > 0 {
-        return match load_in_frame(alloc, tenant, image, p, pool) {
+        return match load_in_frame(alloc, guest, image, p, pool) {
             Ok(()) => Ok(()),
             Err(_) => Err(BootError::Memory),
         };
     }
-    match load_in_slot(tenant, image, p, slots, store) {
+    match load_in_slot(guest, image, p, slots, store) {
         Ok(()) => Ok(()),
         Err(EvictError::NoSwap) => Err(BootError::Room),
         Err(EvictError::SwapWrite) => Err(BootError::Store),
@@ -165,36 +173,41 @@ fn load_one<S: SwapStore>(
 // The next page is loaded, where the image reaches it; else it stays as it is, zeros.
 fn load_next<S: SwapStore>(
     alloc: Global,
-    tenant: &mut Tenant,
+    guest: &mut Guest,
     image: &Image,
     p: Ppn,
     pool: &mut Pool,
     slots: &mut SlotBook,
     store: &mut S,
 ) -> Result<(), BootError>
-    requires fits { FitsPages image.now (length (pages_in tenant.old)) }
-    requires there { p < length (pages_in tenant.old) }
-    requires untouched { AreUntouched image.now p (pages_in tenant.old) }
-    requires frames_first { FramesFirst pool.old (pages_in tenant.old) }
-    requires once { (k : ℕ) → count_of k slots.old.free + slots_held k (pages_in tenant.old) ≤ below k (S.slots store.old) }
+    requires fits { FitsPages image.now (length guest.old.bus.pages) }
+    requires there { p < length guest.old.bus.pages }
+    requires untouched { AreUntouched image.now p guest.old.bus.pages }
+    requires frames_first { FramesFirst pool.old guest.old.bus.pages }
+    requires once { (k : ℕ) → count_of k slots.old.free + slots_held k guest.old.bus.pages ≤ below k (S.slots store.old) }
     ensures conserves { (entries : EntriesAre) →
-        Conserves (pages_in tenant.old) pool.old slots.old entries (pages_in tenant.new) pool.new slots.new entries }
-    ensures reads { (entries : EntriesAre) → Reads entries (pages_in tenant.old) → Reads entries (pages_in tenant.new) }
+        Conserves guest.old.bus.pages pool.old slots.old entries guest.new.bus.pages pool.new slots.new entries }
+    ensures reads { (entries : EntriesAre) → Reads entries guest.old.bus.pages → Reads entries guest.new.bus.pages }
     ensures used { S.true_to_digests store.old → UsedStay slots.old (S.held store.old) (S.held store.new) }
-    ensures rest { beside_pages tenant.new ≡ beside_pages tenant.old }
-    ensures count { length (pages_in tenant.new) ≡ length (pages_in tenant.old) }
-    ensures untouched { OnOk result (AreUntouched image.now (p + 1) (pages_in tenant.new)) }
+    ensures rest { without_pages guest.new ≡ without_pages guest.old }
+    ensures count { length guest.new.bus.pages ≡ length guest.old.bus.pages }
+    ensures untouched { OnOk result (AreUntouched image.now (p + 1) guest.new.bus.pages) }
     ensures loaded { OnOk result (S.true_to_digests store.old →
-        AreLoaded (S.held store.old) image.now (length (pages_in tenant.old)) p (pages_in tenant.old) →
-        AreLoaded (S.held store.new) image.now (length (pages_in tenant.old)) (p + 1) (pages_in tenant.new)) }
-    ensures frames_first { OnOk result (FramesFirst pool.new (pages_in tenant.new)) }
-    ensures err { IfErr result (WhyNotLoaded pool.old slots.old (S.failed store.new ≡ one_more (S.failed store.old))) }
+        AreLoaded (S.held store.old) image.now (length guest.old.bus.pages) p guest.old.bus.pages →
+        AreLoaded (S.held store.new) image.now (length guest.old.bus.pages) (p + 1) guest.new.bus.pages) }
+    ensures frames_first { OnOk result (FramesFirst pool.new guest.new.bus.pages) }
+    ensures no_frames { pool.old.free ≡ [] → OnOk result (pool.new.free ≡ []) }
+    ensures none_private { pool.old.free ≡ [] → NonePrivate guest.old.bus.pages → OnOk result (NonePrivate guest.new.bus.pages) }
+    ensures taken { OnOk result (length pool.old.free + length slots.old.free ≤ length pool.new.free + length slots.new.free + 1) }
+    ensures room { IsErrOf result BootError.Room → length pool.old.free + length slots.old.free ≡ 0 }
+    ensures err { IfErr result (WhyNotLoaded (S.failed store.new ≡ one_more (S.failed store.old))) }
+    ensures no_failure { OnOk result (S.failed store.new ≡ S.failed store.old) }
     ensures slots { S.slots store.new ≡ S.slots store.old }
     ensures honest { S.honest store.new ↔ S.honest store.old }
     ensures true_to_digests { S.true_to_digests store.new ↔ S.true_to_digests store.old }
 {
     if reaches(image, p) {
-        load_one(alloc, tenant, image, p, pool, slots, store)
+        load_one(alloc, guest, image, p, pool, slots, store)
     } else {
         Ok(())
     }
@@ -203,34 +216,39 @@ fn load_next<S: SwapStore>(
 // Each page that the image reaches is loaded, in rising order.
 fn load<S: SwapStore>(
     alloc: Global,
-    tenant: &mut Tenant,
+    guest: &mut Guest,
     image: &Image,
     pool: &mut Pool,
     slots: &mut SlotBook,
     store: &mut S,
 ) -> Result<(), BootError>
-    requires fits { FitsPages image.now (length (pages_in tenant.old)) }
-    requires few { length (pages_in tenant.old) ≤ 2 ^ 20 }
-    requires untouched { pages_in tenant.old ≡ replicate (length (pages_in tenant.old)) Page.Zero }
+    requires fits { FitsPages image.now (length guest.old.bus.pages) }
+    requires few { length guest.old.bus.pages ≤ 2 ^ 20 }
+    requires untouched { guest.old.bus.pages ≡ replicate (length guest.old.bus.pages) Page.Zero }
     requires once { (k : ℕ) → count_of k slots.old.free ≤ below k (S.slots store.old) }
     ensures conserves { (entries : EntriesAre) →
-        Conserves (pages_in tenant.old) pool.old slots.old entries (pages_in tenant.new) pool.new slots.new entries }
-    ensures reads { (entries : EntriesAre) → Reads entries (pages_in tenant.old) → Reads entries (pages_in tenant.new) }
+        Conserves guest.old.bus.pages pool.old slots.old entries guest.new.bus.pages pool.new slots.new entries }
+    ensures reads { (entries : EntriesAre) → Reads entries guest.old.bus.pages → Reads entries guest.new.bus.pages }
     ensures used { S.true_to_digests store.old → UsedStay slots.old (S.held store.old) (S.held store.new) }
-    ensures rest { beside_pages tenant.new ≡ beside_pages tenant.old }
-    ensures count { length (pages_in tenant.new) ≡ length (pages_in tenant.old) }
-    ensures untouched { OnOk result (AreUntouched image.now (length (pages_in tenant.old)) (pages_in tenant.new)) }
+    ensures rest { without_pages guest.new ≡ without_pages guest.old }
+    ensures count { length guest.new.bus.pages ≡ length guest.old.bus.pages }
+    ensures untouched { OnOk result (AreUntouched image.now (length guest.old.bus.pages) guest.new.bus.pages) }
     ensures loaded { OnOk result (S.true_to_digests store.old →
-        AreLoaded (S.held store.new) image.now (length (pages_in tenant.old)) (length (pages_in tenant.old)) (pages_in tenant.new)) }
-    ensures frames_first { OnOk result (FramesFirst pool.new (pages_in tenant.new)) }
-    ensures err { IfErr result IsOfLoading }
+        AreLoaded (S.held store.new) image.now (length guest.old.bus.pages) (length guest.old.bus.pages) guest.new.bus.pages) }
+    ensures frames_first { OnOk result (FramesFirst pool.new guest.new.bus.pages) }
+    ensures no_frames { pool.old.free ≡ [] → OnOk result (pool.new.free ≡ []) }
+    ensures none_private { pool.old.free ≡ [] → OnOk result (NonePrivate guest.new.bus.pages) }
+    ensures taken { OnOk result (length pool.old.free + length slots.old.free ≤ length pool.new.free + length slots.new.free + length guest.old.bus.pages) }
+    ensures room { IsErrOf result BootError.Room → length pool.old.free + length slots.old.free < length guest.old.bus.pages }
+    ensures err { IfErr result (WhyNotLoaded (S.failed store.new ≡ one_more (S.failed store.old))) }
+    ensures no_failure { OnOk result (S.failed store.new ≡ S.failed store.old) }
     ensures slots { S.slots store.new ≡ S.slots store.old }
     ensures honest { S.honest store.new ↔ S.honest store.old }
     ensures true_to_digests { S.true_to_digests store.new ↔ S.true_to_digests store.old }
 {
-    let count = tenant.count();
+    let count = guest.count();
     for p in 0..count {
-        load_next(alloc, tenant, image, Ppn::new(p), pool, slots, store)?;
+        load_next(alloc, guest, image, Ppn::new(p), pool, slots, store)?;
     }
     Ok(())
 }
@@ -242,35 +260,37 @@ fn owner(image: &Arc<Image, Global>) -> Result<Arc<Image, Global>, AllocError>
     image.clone()
 }
 
-/// A guest at the boot of an image, in a memory of `pages` pages that holds it. Each page that the image reaches has its bytes, in
-/// rising order in a frame of the pool while one is free, then in the free slot of the lowest number; no other page was touched.
+/// A guest at the boot of an image, in a memory of `pages` pages that holds it, with no seat yet. Each page that the image reaches has its
+/// bytes, in rising order in a frame of the pool while one is free, then in the free slot of the lowest number; no other page was touched.
 ///
-/// `Room` where neither frame nor slot is free for one, `Store` where the store failed to write one, `Memory` where a request for
-/// memory was refused; frames and slots that were taken are gone then.
+/// `Room` where neither frame nor slot is free for one, so only where both together are fewer than the pages; `Store` where the store
+/// failed to write one, `Memory` where a request for memory was refused. Frames and slots that were taken are gone then.
 pub fn loaded<S: SwapStore>(
     alloc: Global,
     image: Arc<Image, Global>,
     pages: u32,
-    shares: u32,
-    minimum: u32,
     log_runs: u32,
     pool: &mut Pool,
     slots: &mut SlotBook,
     store: &mut S,
-) -> Result<Tenant, BootError>
+) -> Result<Guest, BootError>
     requires fits { FitsPages image.value pages }
     requires few { pages ≤ 2 ^ 20 }
-    requires least { 2 ≤ minimum }
-    requires most { minimum ≤ pages }
     requires once { (k : ℕ) → count_of k slots.old.free ≤ below k (S.slots store.old) }
-    ensures conserves { IfOk result (λ t. (entries : EntriesAre) →
-        Conserves (replicate pages Page.Zero) pool.old slots.old entries (pages_in t) pool.new slots.new entries) }
-    ensures reads { IfOk result (λ t. (entries : EntriesAre) → Reads entries (pages_in t)) }
+    ensures conserves { IfOk result (λ g. (entries : EntriesAre) →
+        Conserves (replicate pages Page.Zero) pool.old slots.old entries g.bus.pages pool.new slots.new entries) }
+    ensures reads { IfOk result (λ g. (entries : EntriesAre) → Reads entries g.bus.pages) }
     ensures used { S.true_to_digests store.old → UsedStay slots.old (S.held store.old) (S.held store.new) }
-    ensures booted { IfOk result (IsBooted image.value pages shares minimum log_runs) }
-    ensures kept { IfOk result (λ t. S.true_to_digests store.old → IsKept (S.held store.new) t) }
-    ensures frames_first { IfOk result (λ t. FramesFirst pool.new (pages_in t)) }
-    ensures err { IfErr result IsOfLoading }
+    ensures booted { IfOk result (IsAtBoot image.value pages log_runs) }
+    ensures intact { IfOk result (λ g. S.true_to_digests store.old → Intact g) }
+    ensures kept { IfOk result (λ g. S.true_to_digests store.old → Kept (S.held store.new) (pages_seen (view_of g)) g.bus.pages) }
+    ensures frames_first { IfOk result (λ g. FramesFirst pool.new g.bus.pages) }
+    ensures no_frames { pool.old.free ≡ [] → OnOk result (pool.new.free ≡ []) }
+    ensures none_private { IfOk result (λ g. pool.old.free ≡ [] → NonePrivate g.bus.pages) }
+    ensures taken { OnOk result (length pool.old.free + length slots.old.free ≤ length pool.new.free + length slots.new.free + pages) }
+    ensures room { IsErrOf result BootError.Room → length pool.old.free + length slots.old.free < pages }
+    ensures err { IfErr result (WhyNotLoaded (S.failed store.new ≡ one_more (S.failed store.old))) }
+    ensures no_failure { OnOk result (S.failed store.new ≡ S.failed store.old) }
     ensures slots { S.slots store.new ≡ S.slots store.old }
     ensures honest { S.honest store.new ↔ S.honest store.old }
     ensures true_to_digests { S.true_to_digests store.new ↔ S.true_to_digests store.old }
@@ -278,14 +298,13 @@ pub fn loaded<S: SwapStore>(
     let Ok(its_image) = owner(&image) else {
         return Err(BootError::Memory);
     };
-    let Ok(guest) = Guest::boot(alloc, its_image, pages, log_runs) else {
+    let Ok(mut guest) = Guest::boot(alloc, its_image, pages, log_runs) else {
         return Err(BootError::Memory);
     };
-    let mut tenant = Tenant::new(guest, shares, minimum);
-    match load(alloc, &mut tenant, &image, pool, slots, store) {
-        Ok(()) => Ok(tenant),
+    match load(alloc, &mut guest, &image, pool, slots, store) {
+        Ok(()) => Ok(guest),
         Err(error) => {
-            tenant.close();
+            guest.close();
             Err(error)
         }
     }

@@ -1,5 +1,5 @@
 //! The moves of one guest's pages, each with what lies around them, after which nothing is lost or made.
-ghost use Rattle.std.specs.Prelude.{◌≡◌, ℕ, ◌<◌, ◌≤◌, ◌↔◌, IsTrue, All, List, [], ◌∷◌, Option, Some, OnOk, OnErr, IfErr, IsErrOf, length, slice_set};
+ghost use Rattle.std.specs.Prelude.{◌≡◌, ℕ, ◌+◌, ◌<◌, ◌≤◌, ◌↔◌, IsTrue, All, List, [], ◌∷◌, Option, Some, OnOk, OnErr, IfErr, IsErrOf, length, slice_set};
 ghost use Rattle.std.specs.Option.{option_to_list};
 ghost use Rattle.sha2.specs.Sha256.{sha256};
 ghost use Rattle.frames.specs.Counts.{count_of};
@@ -10,7 +10,7 @@ ghost use Rattle.physmap.specs.declared.page.Page.{Page};
 ghost use Rattle.physmap.specs.declared.page.PageKind.{PageKind};
 ghost use Rattle.physmap.specs.Pages.{page_at, kind_at, is_resident, shown, slot_of, digest_of};
 ghost use Rattle.paging.specs.Moves.{SameNumbers, MovesFrames, Conserves, Reads, Covered, OwnOnce};
-ghost use Rattle.paging.specs.Faith.{Kept};
+ghost use Rattle.paging.specs.Faith.{Faithful, Kept};
 ghost use Rattle.paging.specs.Scans.{Answered, Comes, HintsAfter};
 ghost use Rattle.paging.specs.Supplies.{WhyAway, IsDamaged};
 ghost use Rattle.tenant.specs.Lent.{Lent, UsedStay, WhyStays};
@@ -63,6 +63,7 @@ pub fn evict_page<P: Pages, S: SwapStore>(
     requires lent { Lent (S.slots store.old) (P.pages pages.old) pool.old slots.old shares.old.entries }
     ensures conserves { Conserves (P.pages pages.old) pool.old slots.old shares.old.entries (P.pages pages.new) pool.new slots.new shares.new.entries }
     ensures reads { Reads shares.old.entries (P.pages pages.old) → Reads shares.new.entries (P.pages pages.new) }
+    ensures faithful { (view : ℕ → List ℕ) → Faithful view (P.pages pages.old) → Faithful view (P.pages pages.new) }
     ensures kept { S.true_to_digests store.old → (view : ℕ → List ℕ) →
         Kept (S.held store.old) view (P.pages pages.old) → Kept (S.held store.new) view (P.pages pages.new) }
     ensures used { S.true_to_digests store.old → UsedStay slots.old (S.held store.old) (S.held store.new) }
@@ -120,7 +121,9 @@ pub fn store_page<P: Pages, S: SwapStore>(
         (Page.Swapped (slot_of (page_at (P.pages pages.new) p)) (sha256 bytes.now))) }
     ensures lowest { OnOk result (All (λ other. slot_of (page_at (P.pages pages.new) p) ≤ other) slots.old.free) }
     ensures written { OnOk result (S.true_to_digests store.old → S.held store.new (slot_of (page_at (P.pages pages.new) p)) ≡ Some bytes.now) }
-    ensures err { IfErr result (WhyStays slots.old (S.failed store.new ≡ one_more (S.failed store.old))) }
+    ensures taken { OnOk result (length slots.old.free ≡ length slots.new.free + 1) }
+    ensures none { IsErrOf result EvictError.NoSwap → slots.old.free ≡ [] }
+    ensures err { IfErr result (WhyStays slots.new (S.failed store.new ≡ one_more (S.failed store.old))) }
     ensures no_failure { OnOk result (S.failed store.new ≡ S.failed store.old) }
     ensures unchanged { OnErr result (P.pages pages.new ≡ P.pages pages.old) }
     ensures slots_unchanged { OnErr result (SameNumbers slots.old slots.new) }
@@ -156,6 +159,8 @@ pub fn supply_page<P: Pages, S: SwapStore>(
     requires lent { Lent (S.slots store.old) (P.pages pages.old) pool.old slots.old shares.old.entries }
     ensures conserves { Conserves (P.pages pages.old) pool.old slots.old shares.old.entries (P.pages pages.new) pool.new slots.new shares.new.entries }
     ensures reads { Reads shares.old.entries (P.pages pages.old) → Reads shares.new.entries (P.pages pages.new) }
+    ensures faithful { (view : ℕ → List ℕ) → Faithful view (P.pages pages.old) →
+        (kind_at (P.pages pages.old) p ≡ PageKind.Swapped → OnOk result (shown (page_at (P.pages pages.new) p) ≡ view p)) → Faithful view (P.pages pages.new) }
     ensures kept { S.true_to_digests store.old → (view : ℕ → List ℕ) →
         Kept (S.held store.old) view (P.pages pages.old) → Kept (S.held store.new) view (P.pages pages.new) }
     ensures used { S.true_to_digests store.old → UsedStay slots.old (S.held store.old) (S.held store.new) }
@@ -201,6 +206,7 @@ pub fn scan_page<P: Pages>(
     ensures conserves { (book : FreeList) →
         Conserves (P.pages pages.old) pool.old book shares.old.entries (P.pages pages.new) pool.new book shares.new.entries }
     ensures reads { Reads shares.old.entries (P.pages pages.old) → Reads shares.new.entries (P.pages pages.new) }
+    ensures faithful { (view : ℕ → List ℕ) → Faithful view (P.pages pages.old) → Faithful view (P.pages pages.new) }
     ensures kept { (held : ℕ → Option (List ℕ)) (view : ℕ → List ℕ) → Kept held view (P.pages pages.old) → Kept held view (P.pages pages.new) }
     ensures count { length (P.pages pages.new) ≡ length (P.pages pages.old) }
     ensures rest { P.rest pages.new ≡ P.rest pages.old }

@@ -1,5 +1,5 @@
 //! Pages that get a frame of their own from a pool.
-ghost use Rattle.std.specs.Prelude.{◌≡◌, ℕ, ◌<◌, ◌⊎◌, ◌↔◌, IfErr, OnOk, OnErr, Option, List, length};
+ghost use Rattle.std.specs.Prelude.{◌≡◌, ℕ, ◌+◌, ◌<◌, ◌⊎◌, ◌↔◌, IfErr, OnOk, OnErr, Option, List, length};
 ghost use Rattle.word32.specs.Zeros.{zeros};
 ghost use Rattle.sha2.specs.Sha256.{sha256};
 ghost use Rattle.frames.specs.FreeList.{FreeList};
@@ -39,6 +39,7 @@ pub(crate) fn supply_first_from<P: Pages>(
     ensures rest { P.rest pages.new ≡ P.rest pages.old }
     ensures supplied { OnOk result (Supplies (P.pages pages.old) p (zeros 4096) (P.pages pages.new)) }
     ensures some { OnOk result (0 < length pool.old.free) }
+    ensures taken { OnOk result (length pool.old.free ≡ length pool.new.free + 1) }
     ensures err { IfErr result (WantsFrame pool.old) }
     ensures unchanged { OnErr result (P.pages pages.new ≡ P.pages pages.old) }
     ensures pool_unchanged { OnErr result (SameNumbers pool.old pool.new) }

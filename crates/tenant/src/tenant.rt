@@ -1,10 +1,10 @@
 //! A guest of a world.
 ghost use Rattle.std.specs.Prelude.{◌≡◌};
 
-use elf32::Image;
+use crate::{Cause, MoveCounts, PolicyState, Seats};
 use flatvm::Reply;
 use frames::{Frame, SharePage, ShareTicket, SlotTicket};
-use guest::{Guest, Progress, Refused, Seat, Stepped, Stop};
+use guest::{Guest, Progress, Refused, Stepped, Stop};
 use items::Item;
 use mips_step::Why;
 use paging::Pages;
@@ -18,61 +18,50 @@ use taxpolicy::{SAMPLE_SIZE, Stat};
 use word32::Ppn;
 
 /// A guest with its four seats, and with what the policy goes by: its shares of the memory, the least number of pages that are left to
-/// it, what a sample of its pages says, and whether it is blocked for want of memory. In clauses it is a record, `TenantIs`.
+/// it, what a sample of its pages says, and whether it is blocked for want of memory. In clauses it is a record, `TenantIs`. `open`
+/// hands out what it is made of.
 ///
-/// Seat 0 makes its steps and brings its console's input, seat 1 drains its console and sets its balloon's target for those who
-/// run the world, seat 2 sets it for the policy, and seat 3 pokes and writes for the debugger; but any seat may bring any item
-/// that is no step.
+/// It counts why its pages have moved (`MoveCounts`), of which no clause speaks.
 pub struct Tenant {
-    guest: Guest,
-    runner: Seat,
-    console: Seat,
-    policy: Seat,
-    debugger: Seat,
-    shares: u32,
-    minimum: u32,
-    sample: Sample,
-    blocked: bool,
+    pub(crate) guest: Guest,
+    pub(crate) seats: Seats,
+    pub(crate) state: PolicyState,
+    pub(crate) counts: MoveCounts,
 }
 
 impl Model for Tenant {
     ghost use Rattle.std.specs.Prelude.{◌≤◌, length};
-    ghost use Rattle.tenant.specs.Tenants.{TenantIs, IsSeat};
+    ghost use Rattle.tenant.specs.Tenants.{TenantIs, tenant_of};
+    ghost use Rattle.tenant.specs.Seats.{AreSeats};
 
     ghost Value = { TenantIs };
 
-    ghost view = { λ t. record { guest = t.guest; shares = t.shares; minimum = t.minimum; sample = t.sample; blocked = t.blocked } };
+    ghost view = { λ t. tenant_of t.guest t.state };
 
-    ghost invariant = { λ t. IsSeat t.guest 0 t.runner × IsSeat t.guest 1 t.console × IsSeat t.guest 2 t.policy × IsSeat t.guest 3 t.debugger
-        × (2 ≤ t.minimum) × (t.minimum ≤ length t.guest.bus.pages) };
+    ghost invariant = { λ t. AreSeats t.guest t.seats × (2 ≤ t.state.minimum) × (t.state.minimum ≤ length t.guest.bus.pages) };
 }
 
 impl Tenant {
     ghost use Rattle.std.specs.Prelude.{◌≡◌, ◌≢◌, ◌+◌, ◌<◌, ◌≤◌, ◌^◌, ℕ, true, false, List, Option, None, Some, OnOk, OnErr, IfOk, IfSome, IfNone, IsErrOf, ◌↔◌};
-    ghost use Rattle.std.specs.Prelude.{length, slice_set};
-    ghost use Rattle.elf32.specs.Images.{FitsPages};
+    ghost use Rattle.std.specs.Prelude.{length};
     ghost use Rattle.items.specs.Items.{is_step};
     ghost use Rattle.items.specs.Entries.{step_by, steps_of};
     ghost use Rattle.guest_log.specs.Logs.{IsFull};
     ghost use Rattle.mips_step.specs.Given.{step_given};
     ghost use Rattle.mips_step.specs.Accesses.{accesses, first_lack};
-    ghost use Rattle.mips_step.specs.World.{page_bytes};
     ghost use Rattle.flatvm.specs.Answers.{replied};
-    ghost use Rattle.flatvm.specs.Boot.{boot_memory};
     ghost use Rattle.flatvm.specs.Items.{accepts, reply, run};
     ghost use Rattle.mips_tlb.specs.declared.kind.Kind.TheVariants.{Store};
-    ghost use Rattle.physmap.specs.declared.page.Page.{Page};
-    ghost use Rattle.physmap.specs.declared.page.PageKind.{PageKind};
-    ghost use Rattle.physmap.specs.Pages.{page_at, kind_at, is_resident, NoneInFrame, own_frame};
+    ghost use Rattle.physmap.specs.Pages.{kind_at, is_resident, NoneInFrame};
     ghost use Rattle.physmap.specs.Holdings.{private_pages, shared_pages, swapped_pages, resident_pages};
     ghost use Rattle.physmap.specs.Outline.{outline};
     ghost use Rattle.paged_bus.specs.Lacking.{lacks_in};
     ghost use Rattle.paged_bus.specs.Writes.{WritesTo};
     ghost use Rattle.mips_step.specs.declared.access.Why.{Why};
     ghost use Rattle.physmap.specs.declared.page.Returned.{Returned};
-    ghost use Rattle.guest.specs.Guests.{view_of, standing, need_of, HandsBack, last_given, HasPaused};
+    ghost use Rattle.guest.specs.Guests.{view_of, standing, need_of, Intact, HandsBack, last_given, HasPaused};
     ghost use Rattle.guest.specs.declared.progress.Pause.{Pause};
-    ghost use Rattle.tenant.specs.Tenants.{TenantIs, pages_in, beside_pages, IsKept, Stays, Adds, AddsSteps, NothingHappens};
+    ghost use Rattle.tenant.specs.Tenants.{TenantIs, pages_in, IsKept, Stays, Adds, AddsSteps, NothingHappens};
     ghost use Rattle.tenant.specs.Tenants.{stat_of, IsUnsampled, IsSampled};
     ghost use Rattle.taxpolicy.specs.Sample.{after_words};
 
@@ -88,16 +77,17 @@ impl Tenant {
         ensures unsampled { IsUnsampled result }
         ensures unblocked { result.blocked ≡ false }
     {
+        let seats = Seats::of(&mut guest);
         Tenant {
-            runner: guest.seat(),
-            console: guest.seat(),
-            policy: guest.seat(),
-            debugger: guest.seat(),
             guest,
-            shares,
-            minimum,
-            sample: Sample::new(),
-            blocked: false,
+            seats,
+            state: PolicyState {
+                shares,
+                minimum,
+                sample: Sample::new(),
+                blocked: false,
+            },
+            counts: MoveCounts::new(),
         }
     }
 
@@ -112,7 +102,7 @@ impl Tenant {
     pub fn shares(&self) -> u32
         ensures { result ≡ self.now.shares }
     {
-        self.shares
+        self.state.shares
     }
 
     /// How many of its resident pages it always keeps, 2 to its pages: those who look for a page that is to leave its frame take none of them.
@@ -121,28 +111,28 @@ impl Tenant {
         ensures least { 2 ≤ result }
         ensures most { result ≤ length (pages_in self.now) }
     {
-        self.minimum
+        self.state.minimum
     }
 
     /// What the sample of its pages says.
     pub fn sampled(&self) -> &Sample
         ensures { result.now ≡ self.now.sample }
     {
-        &self.sample
+        &self.state.sample
     }
 
     /// Whether it is blocked: it is to make no step while memory is low.
     pub fn is_blocked(&self) -> bool
         ensures { result ≡ self.now.blocked }
     {
-        self.blocked
+        self.state.blocked
     }
 
     /// Blocks it, or lets it go on. All else stays.
     pub fn set_blocked(&mut self, blocked: bool)
         ensures { self.new ≡ record self.old { blocked = blocked } }
     {
-        self.blocked = blocked;
+        self.state.blocked = blocked;
     }
 
     /// Ends a period of the sample of its pages and begins the next: of the pages that were drawn for the period that ends, a draw counts
@@ -152,7 +142,7 @@ impl Tenant {
         ensures sampled { IsSampled (R.stream rng.old) self.old self.new }
         ensures rest { R.stream rng.new ≡ after_words 100 (R.stream rng.old) }
     {
-        self.guest.sample(&mut self.sample, rng);
+        self.guest.sample(&mut self.state.sample, rng);
     }
 
     /// How many pages it has, at most 2^20.
@@ -212,9 +202,9 @@ impl Tenant {
             pages: self.page_count(),
             resident: self.resident(),
             given: self.guest.view().devices.given(),
-            active: self.sample.active,
+            active: self.state.sample.active,
             sample: SAMPLE_SIZE as u16,
-            minimum: self.minimum,
+            minimum: self.state.minimum,
         }
     }
 
@@ -227,20 +217,6 @@ impl Tenant {
         self.guest.need()
     }
 
-    /// Puts the bytes that a page has as the image boots into the frame that the page has for its own. All else stays.
-    pub fn load_page(&mut self, image: &Image, p: Ppn)
-        requires fits { FitsPages image.now (length (pages_in self.old)) }
-        requires there { p < length (pages_in self.old) }
-        requires private { kind_at (pages_in self.old) p ≡ PageKind.Private }
-        ensures pages { pages_in self.new ≡ slice_set (pages_in self.old) p (Page.Private (record {
-          number = (own_frame (page_at (pages_in self.old) p)).number;
-          bytes = page_bytes p (boot_memory image.now (length (pages_in self.old)));
-        })) }
-        ensures rest { beside_pages self.new ≡ beside_pages self.old }
-    {
-        self.guest.load_page(image, p);
-    }
-
     /// One step, with room made for it in the log, by `Guest::log_room` and `Guest::step`.
     pub fn step(&mut self) -> Result<Stepped, Stop>
         ensures need { (held : ℕ → Option (List ℕ)) → IsKept held self.old →
@@ -250,11 +226,12 @@ impl Tenant {
         ensures hands_back { IfOk result (λ s. HandsBack (step_given (standing self.old.guest)) (pages_in self.old) s (pages_in self.new)) }
         ensures full { IsErrOf result Stop.LogFull ↔ IsFull self.old.guest.log }
         ensures unchanged { OnErr result (NothingHappens self.old self.new) }
+        ensures intact { Intact self.old.guest → Intact self.new.guest }
         ensures kept { (held : ℕ → Option (List ℕ)) → IsKept held self.old → IsKept held self.new }
         ensures stays { Stays self.old self.new }
     {
         self.guest.log_room()?;
-        Ok(self.guest.step(&mut self.runner))
+        Ok(self.guest.step(&mut self.seats.runner))
     }
 
     /// At most `count` steps of it, with room made for them in the log, by `Guest::log_room` and `Guest::run`: none of them accesses a page
@@ -280,11 +257,12 @@ impl Tenant {
         ensures nothing { IfOk result (λ p. p.steps ≡ 0 → NothingHappens self.old self.new) }
         ensures full { IsErrOf result Stop.LogFull ↔ IsFull self.old.guest.log }
         ensures unchanged { OnErr result (NothingHappens self.old self.new) }
+        ensures intact { Intact self.old.guest → Intact self.new.guest }
         ensures kept { (held : ℕ → Option (List ℕ)) → IsKept held self.old → IsKept held self.new }
         ensures stays { Stays self.old self.new }
     {
         self.guest.log_room()?;
-        Ok(self.guest.run(count, &mut self.runner))
+        Ok(self.guest.run(count, &mut self.seats.runner))
     }
 
     /// What happens to the guest by an item of one of its seats that is no step, as `Guest::input` has it.
@@ -302,34 +280,39 @@ impl Tenant {
         ensures full { IsErrOf result (Refused.Stop Stop.LogFull) ↔ IsFull self.old.guest.log }
         ensures unchanged { OnErr result (NothingHappens self.old self.new) }
         ensures outline { outline (pages_in self.new) ≡ outline (pages_in self.old) }
+        ensures intact { Intact self.old.guest → Intact self.new.guest }
         ensures kept { (held : ℕ → Option (List ℕ)) → IsKept held self.old → IsKept held self.new }
         ensures stays { Stays self.old self.new }
     {
         match item.seat.number() {
-            0 => self.guest.input(item, &mut self.runner),
-            1 => self.guest.input(item, &mut self.console),
-            2 => self.guest.input(item, &mut self.policy),
-            _ => self.guest.input(item, &mut self.debugger),
+            0 => self.guest.input(item, &mut self.seats.runner),
+            1 => self.guest.input(item, &mut self.seats.console),
+            2 => self.guest.input(item, &mut self.seats.policy),
+            _ => self.guest.input(item, &mut self.seats.debugger),
         }
+    }
+
+    /// Counts a page that left its frame for a slot, by why.
+    pub fn count_eviction(&mut self, cause: Cause)
+        ensures { self.new ≡ self.old }
+    {
+        self.counts.count_eviction(cause);
+    }
+
+    /// How often its pages have moved, and why.
+    pub fn counts(&self) -> MoveCounts {
+        self.counts
     }
 
     /// Gives the guest up, and with it what its pages hold.
     pub fn close(self) {
         let Tenant {
             guest,
-            runner,
-            console,
-            policy,
-            debugger,
-            shares: _,
-            minimum: _,
-            sample: _,
-            blocked: _,
+            seats,
+            state: _,
+            counts: _,
         } = self;
-        drop(runner);
-        drop(console);
-        drop(policy);
-        drop(debugger);
+        seats.close();
         guest.close();
     }
 }
@@ -364,14 +347,17 @@ impl Pages for Tenant {
     }
 
     fn supply_zero(&mut self, p: Ppn, frame: Frame) {
+        self.counts.count_first();
         self.guest.supply_zero(p, frame);
     }
 
     fn supply_copy(&mut self, p: Ppn, frame: Frame) -> ShareTicket {
+        self.counts.count_copy();
         self.guest.supply_copy(p, frame)
     }
 
     fn supply_swapped(&mut self, p: Ppn, frame: Frame) -> SlotTicket {
+        self.counts.count_read();
         self.guest.supply_swapped(p, frame)
     }
 
@@ -384,6 +370,7 @@ impl Pages for Tenant {
     }
 
     fn share(&mut self, p: Ppn, share: SharePage, ticket: ShareTicket) -> Frame {
+        self.counts.count_join();
         self.guest.share(p, share, ticket)
     }
 

@@ -1,5 +1,6 @@
 -- One guest more is booted, and why a world is not.
-use Rattle.std.proofs.Common.{All, ℕ, suc, ◌≡◌, ◌+◌, ◌-◌, ◌≤◌, sum_by, refl, inl, inr, List, [], ◌∷◌, ◌++◌, length, get_or, sym, ap, subst, ◌∙◌, arith, length-append}
+use Rattle.std.specs.Result.{IsErrAnd}
+use Rattle.std.proofs.Common.{Result, Ok, Err, IfErr, All, ℕ, suc, ◌≡◌, ◌+◌, ◌-◌, ◌<◌, ◌≤◌, sum_by, refl, inl, inr, List, [], ◌∷◌, ◌++◌, length, get_or, sym, ap, subst, ◌∙◌, arith, length-append}
 use Rattle.std.proofs.lemmas.Bool.{cases_lt}
 use Rattle.std.proofs.lemmas.List.{get_or_append_left}
 use Rattle.std.proofs.lemmas.List.Sums.{sum_by-cons}
@@ -9,8 +10,10 @@ use Rattle.tenant.specs.declared.loading.BootError.{BootError}
 use Rattle.tenant.specs.declared.loading.BootError.TheVariants as error
 use Rattle.tenant.specs.Tenants.{TenantIs, pages_in, IsBooted}
 use Rattle.world.specs.Admission.{IsAdmitted}
-use Rattle.world.specs.Boots.{AreWithinLimits, HoldsImage, HasFramesFor, HasSlotsFor, AreAdmitted, AreBooted, WhyNotBooted}
-use Rattle.tenant.specs.Loading.{IsOfLoading}
+use Rattle.world.specs.Boots.{AreWithinLimits, HoldsImage, HasFramesFor, HasSlotsFor, AreAdmitted, AreBooted, FramesComeFirst, WhyNotBooted}
+use Rattle.frames.specs.FreeList.{FreeList}
+use Rattle.physmap.specs.Pages.{kind_at}
+use Rattle.tenant.specs.Loading.{FramesFirst, NonePrivate, WhyNotLoaded}
 use Rattle.world.proofs.Worlds.{get_last}
 
 abbrev IsBootOf : ℕ → NewGuest → TenantIs → Type 0
@@ -37,15 +40,62 @@ one_booted runs guests guest ts ts' size more boots a = record {
   ];
 }
 
-pub why_of_loading : (config : Config) (slots : ℕ) (guests : List NewGuest) (e : BootError)
-    → AreWithinLimits config slots guests × All HoldsImage guests × AreAdmitted config slots guests → IsOfLoading e → WhyNotBooted config slots guests e
-why_of_loading config slots guests error.Limits is i = absurd i
-why_of_loading config slots guests error.Segment is i = absurd i
-why_of_loading config slots guests error.AdmitFrames is i = absurd i
-why_of_loading config slots guests error.AdmitSlots is i = absurd i
-why_of_loading config slots guests error.Room is i = is
-why_of_loading config slots guests error.Store is i = is
-why_of_loading config slots guests error.Memory is i = is
+pub why_of_loading : (failed : Type 0) (config : Config) (slots : ℕ) (guests : List NewGuest) (e : BootError)
+    → AreWithinLimits config slots guests × All HoldsImage guests × AreAdmitted config slots guests
+    → (e ≡ error.Room → config.frames + slots < sum_by (λ (g : NewGuest). g.pages) guests) → WhyNotLoaded failed e → WhyNotBooted config slots guests e
+why_of_loading failed config slots guests error.Limits is room i = absurd i
+why_of_loading failed config slots guests error.Segment is room i = absurd i
+why_of_loading failed config slots guests error.AdmitFrames is room i = absurd i
+why_of_loading failed config slots guests error.AdmitSlots is room i = absurd i
+why_of_loading failed config slots guests error.Room is room i = (is.0, is.1, is.2, room refl)
+why_of_loading failed config slots guests error.Store is room i = is
+why_of_loading failed config slots guests error.Memory is room i = is
+
+pub if_err_both : {T E : Type 0} {P Q R : E → Type 0} (r : Result T E) → ((e : E) → P e → Q e → R e) → IfErr r P → IfErr r Q → IfErr r R
+if_err_both (Ok x) f p q = tt
+if_err_both (Err e) f p q = f e p q
+
+pub if_err_and : {T E : Type 0} {P Q : E → Type 0} (r : Result T E) → ((e : E) → P e → Q e) → IsErrAnd r P → IfErr r Q
+if_err_and (Ok x) f p = tt
+if_err_and (Err e) f p = f e p
+
+-- ---- frames first
+
+pub none_first : (pool : FreeList) (ts : List TenantIs) → ts ≡ [] → FramesComeFirst pool ts
+none_first pool ts none = record {
+  full = λ g p t inside away. absurd (omega (arith, inside, ap length none));
+  below = λ g p q t inside here away. absurd (omega (arith, inside, ap length none));
+  earlier = λ g h p q t before inside away here. absurd (omega (arith, inside, ap length none));
+}
+
+pub one_more_first : (pool pool' : FreeList) (ts ts' : List TenantIs) → length ts' ≡ length ts + 1
+    → ((t : TenantIs) → ts' ≡ ts ++ get_or ts' (length ts) t ∷ []) → ((t : TenantIs) → FramesFirst pool' (pages_in (get_or ts' (length ts) t)))
+    → (pool.free ≡ [] → pool'.free ≡ []) → ((t : TenantIs) → pool.free ≡ [] → NonePrivate (pages_in (get_or ts' (length ts) t)))
+    → FramesComeFirst pool ts → FramesComeFirst pool' ts'
+one_more_first pool pool' ts ts' size more first stays none f = record {
+  full = λ g p t inside away. elim (cases_lt g (length ts)) [
+    | inl before ↦ stays (f.full g p t before (was g t before p ∙ away))
+    | inr past ↦ (first t).full p (last g t past inside p ∙ away)
+  ];
+  below = λ g p q t inside here away. elim (cases_lt g (length ts)) [
+    | inl before ↦ f.below g p q t before (was g t before p ∙ here) (was g t before q ∙ away)
+    | inr past ↦ (first t).below p q (last g t past inside p ∙ here) (last g t past inside q ∙ away)
+  ];
+  earlier = λ g h p q t order inside away here. elim (cases_lt h (length ts)) [
+    | inl before ↦ f.earlier g h p q t order before (was g t (omega (arith, order, before)) p ∙ away) (was h t before q ∙ here)
+    | inr past ↦
+        let sooner : g < length ts = omega (arith, order, inside, size) in
+        none t (f.full g p t sooner (was g t sooner p ∙ away)) q (last h t past inside q ∙ here)
+  ];
+}
+  where
+    was : (g : ℕ) (t : TenantIs) → g < length ts → (p : ℕ) → kind_at (pages_in (get_or ts g t)) p ≡ kind_at (pages_in (get_or ts' g t)) p
+    was g t before p =
+        ap (λ (u : TenantIs). kind_at (pages_in u) p)
+        (sym (ap (λ (l : List TenantIs). get_or l g t) (more t) ∙ get_or_append_left ts (get_or ts' (length ts) t ∷ []) t g before))
+
+    last : (g : ℕ) (t : TenantIs) → length ts ≤ g → g < length ts' → (p : ℕ) → kind_at (pages_in (get_or ts' (length ts) t)) p ≡ kind_at (pages_in (get_or ts' g t)) p
+    last g t past inside p = ap (λ (k : ℕ). kind_at (pages_in (get_or ts' k t)) p) (omega (arith, past, inside, size))
 
 -- ---- guests that are admitted
 
@@ -87,3 +137,24 @@ booted_admitted runs frames slots guests ts b some enough room = record {
   frames_for = omega (arith, frames_wanted runs guests ts b, enough);
   slots_for = omega (arith, slots_wanted runs guests ts b, room);
 }
+
+-- the pages that a guest always keeps and the others are all
+each_page : (guest : NewGuest) → guest.pages ≤ guest.minimum + 1 + (guest.pages - guest.minimum)
+each_page guest = omega arith
+
+all_pages : (guests : List NewGuest) → sum_by (λ (g : NewGuest). g.pages) guests ≤ sum_by (λ (g : NewGuest). g.minimum + 1) guests + sum_by (λ (g : NewGuest). g.pages - g.minimum) guests
+all_pages [] = omega arith
+all_pages (guest ∷ guests) =
+    omega (
+      arith,
+      sum_by-cons (λ (g : NewGuest). g.pages) guest guests,
+      sum_by-cons (λ (g : NewGuest). g.minimum + 1) guest guests,
+      sum_by-cons (λ (g : NewGuest). g.pages - g.minimum) guest guests,
+      each_page guest,
+      all_pages guests,
+    )
+
+-- who is admitted finds room
+pub admitted_find_room : (frames slots : ℕ) (guests : List NewGuest) → HasFramesFor guests frames → HasSlotsFor guests slots
+    → frames + slots < sum_by (λ (g : NewGuest). g.pages) guests → ⊥
+admitted_find_room frames slots guests enough room few = omega (arith, enough, room, few, all_pages guests)

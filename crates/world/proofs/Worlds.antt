@@ -24,7 +24,10 @@ use Rattle.paging.specs.declared.supply.SupplyError.TheVariants.{NoFrame, Memory
 use Rattle.paging.specs.Supplies.{WhyAway}
 use Rattle.paging.proofs.Starting.{books_of_nothing, books_with_owner}
 use Rattle.paging.specs.Books.{Books, pages_of}
+use Rattle.paging.specs.Faith.{Kept}
 use Rattle.paging.specs.Moves.{Conserves, Reads}
+use Rattle.guest.specs.Guests.{GuestIs, view_of, Intact}
+use Rattle.guest.specs.Views.{pages_seen}
 use Rattle.paging.proofs.Booking.{books_after, reads_each}
 use Rattle.tenant.proofs.Lending.{lent as books_lend}
 use Rattle.tenant.specs.Lent.{Lent, UsedStay}
@@ -264,6 +267,10 @@ pub get_last : {X : Type 0} (xs : List X) (a d : X) → get_or (xs ++ a ∷ []) 
 get_last [] a d = refl
 get_last (x ∷ xs) a d = get_last xs a d
 
+-- the last guest, where one was added to those that there are
+pub last_tenant : (ts inside : List TenantIs) (new t : TenantIs) → inside ≡ ts → get_or (inside ++ new ∷ []) (length ts) t ≡ new
+last_tenant ts inside new t same = ap (λ (l : List TenantIs). get_or (l ++ new ∷ []) (length ts) t) same ∙ get_last ts new t
+
 -- a slot that is free is one of them all, and is free once
 pub slots_once : (frames slots : ℕ) (trusted : Type 0) (held : ℕ → Option (List ℕ)) (ts : List TenantIs) (pool book : FreeList) (es : EntriesAre)
     → Sound frames slots trusted held ts pool book es → (k : ℕ) → count_of k book.free ≤ below k slots
@@ -290,6 +297,22 @@ sound_add frames slots n trusted trusted' held held' ts t pool pool' book book' 
     others : trusted → (j : ℕ) → j < length ts → IsKept held' (get_or ts j t)
     others now j h =
         used_kept book held held' (get_or ts j t) (used now) (λ slot some. not_free frames slots ts j t pool book es slot h s.books some) (All-get_or (IsKept held) ts j t h (s.kept now))
+
+-- the same of a guest that has its seats now
+pub sound_add_new : (frames slots n : ℕ) (trusted trusted' : Type 0) (held held' : ℕ → Option (List ℕ)) (ts : List TenantIs) (g : GuestIs) (t : TenantIs) (pool pool' book book' : FreeList) (es : EntriesAre)
+    → t.guest ≡ record g { seats = 4 } → Conserves (replicate n page.Zero) pool book es g.bus.pages pool' book' es → Reads es g.bus.pages
+    → (trusted' → trusted) → (trusted → Intact g) → (trusted → Kept held' (pages_seen (view_of g)) g.bus.pages) → (trusted → UsedStay book held held')
+    → Sound frames slots trusted held ts pool book es → Sound frames slots trusted' held' (ts ++ t ∷ []) pool' book' es
+sound_add_new frames slots n trusted trusted' held held' ts g t pool pool' book book' es seated conserves reads trust intact kept used s =
+    let seats : GuestIs = record g { seats = 4 } in
+    let same : seats.bus.pages ≡ pages_in t = ap (λ (h : GuestIs). h.bus.pages) (sym seated) in
+    sound_add frames slots n trusted trusted' held held' ts t pool pool' book book' es
+    (subst (λ (ps : List Page). Conserves (replicate n page.Zero) pool book es ps pool' book' es) same conserves) (subst (Reads es) same reads) trust
+    (λ (now : trusted). record {
+      intact = subst Intact (sym seated) (record { shows = (intact now).shows; accepted = (intact now).accepted });
+      pages = subst (λ (h : GuestIs). Kept held' (pages_seen (view_of h)) h.bus.pages) (sym seated) (kept now);
+    })
+    used s
 
 -- an item that is no step leaves where pages are
 pub input_sound : (frames slots : ℕ) (trusted : Type 0) (held : ℕ → Option (List ℕ)) (ts : List TenantIs) (g : ℕ) (t t' : TenantIs) (pool book : FreeList) (es : EntriesAre)

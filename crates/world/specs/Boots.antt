@@ -1,11 +1,14 @@
 -- Which worlds can be booted, and what they are then.
-use Rattle.std.specs.Prelude.{◌≡◌, ℕ, ◌+◌, ◌-◌, ◌<◌, ◌≤◌, true, List, All, length, sum_by, slice_index_or}
+use Rattle.std.specs.Prelude.{◌≡◌, ℕ, ◌+◌, ◌-◌, ◌<◌, ◌≤◌, true, List, [], All, length, sum_by, slice_index_or}
+use Rattle.frames.specs.FreeList.{FreeList}
 use Rattle.elf32.specs.Images.{FitsPages}
+use Rattle.physmap.specs.declared.page.PageKind.TheVariants.{Private, Swapped}
+use Rattle.physmap.specs.Pages.{kind_at}
 use Rattle.world.specs.declared.boot.Config.{Config}
 use Rattle.world.specs.declared.boot.NewGuest.{NewGuest}
 use Rattle.tenant.specs.declared.loading.BootError.{BootError}
 use Rattle.tenant.specs.declared.loading.BootError.TheVariants.{Limits, Segment, AdmitFrames, AdmitSlots, Room, Store, Memory}
-use Rattle.tenant.specs.Tenants.{TenantIs, IsBooted}
+use Rattle.tenant.specs.Tenants.{TenantIs, pages_in, IsBooted}
 
 -- the numbers of a guest are within their limits
 pub record IsWithinLimits (guest : NewGuest) : Type 0 where
@@ -44,6 +47,25 @@ pub record AreBooted (log_runs : ℕ) (guests : List NewGuest) (tenants : List T
       IsBooted (slice_index_or guests g guest).image.value (slice_index_or guests g guest).pages (slice_index_or guests g guest).shares
       (slice_index_or guests g guest).minimum log_runs (slice_index_or tenants g t)
 
+-- Frames come first, guests and pages rising: where a page of a guest is in a slot, no frame is free, no page of it above that one is in a
+-- frame, and none of a later guest.
+pub record FramesComeFirst (pool : FreeList) (tenants : List TenantIs) : Type 0 where
+  pub full : (g p : ℕ) (t : TenantIs) → g < length tenants → kind_at (pages_in (slice_index_or tenants g t)) p ≡ Swapped → pool.free ≡ []
+  pub below : (g p q : ℕ) (t : TenantIs) → g < length tenants → kind_at (pages_in (slice_index_or tenants g t)) p ≡ Private →
+      kind_at (pages_in (slice_index_or tenants g t)) q ≡ Swapped → p < q
+  pub earlier : (g h p q : ℕ) (t : TenantIs) → g < h → h < length tenants → kind_at (pages_in (slice_index_or tenants g t)) p ≡ Swapped →
+      kind_at (pages_in (slice_index_or tenants h t)) q ≡ Private → ⊥
+
+-- a refusal that comes before a page is loaded
+abbrev pub IsOfNumbers : BootError → Type 0
+IsOfNumbers Limits = Unit {0}
+IsOfNumbers Segment = Unit {0}
+IsOfNumbers AdmitFrames = Unit {0}
+IsOfNumbers AdmitSlots = Unit {0}
+IsOfNumbers Room = ⊥
+IsOfNumbers Store = ⊥
+IsOfNumbers Memory = ⊥
+
 -- why a world with so many slots is not booted; the first that holds, in this order
 abbrev pub WhyNotBooted : Config → ℕ → List NewGuest → BootError → Type 0
 WhyNotBooted config slots guests Limits = AreWithinLimits config slots guests → ⊥
@@ -52,6 +74,7 @@ WhyNotBooted config slots guests AdmitFrames =
     AreWithinLimits config slots guests × All HoldsImage guests × (config.admit ≡ true) × (HasFramesFor guests config.frames → ⊥)
 WhyNotBooted config slots guests AdmitSlots =
     AreWithinLimits config slots guests × All HoldsImage guests × (config.admit ≡ true) × HasFramesFor guests config.frames × (HasSlotsFor guests slots → ⊥)
-WhyNotBooted config slots guests Room = AreWithinLimits config slots guests × All HoldsImage guests × AreAdmitted config slots guests
+WhyNotBooted config slots guests Room =
+    AreWithinLimits config slots guests × All HoldsImage guests × AreAdmitted config slots guests × (config.frames + slots < sum_by (λ g. g.pages) guests)
 WhyNotBooted config slots guests Store = AreWithinLimits config slots guests × All HoldsImage guests × AreAdmitted config slots guests
 WhyNotBooted config slots guests Memory = AreWithinLimits config slots guests × All HoldsImage guests × AreAdmitted config slots guests

@@ -9,6 +9,7 @@ use rand_core::Rng;
 use std::alloc::{AllocError, Global};
 use swapstore::SwapStore;
 use taxpolicy::Tax;
+use tenant::Cause;
 use word32::Ppn;
 
 impl<S: SwapStore> World<S> {
@@ -281,7 +282,7 @@ impl<S: SwapStore> World<S> {
         ensures true_to_digests { S.true_to_digests self.new.store ↔ S.true_to_digests self.old.store }
     {
         if g < self.count() {
-            Answer::Faulted(self.fault(alloc, g, tax, rng))
+            Answer::Faulted(self.fault(alloc, g, Cause::Fault, tax, rng))
         } else {
             Answer::Nowhere
         }

@@ -35,12 +35,14 @@ pub struct NewGuest {
 }
 
 impl<S: SwapStore> World<S> {
-    ghost use Rattle.std.specs.Prelude.{◌≡◌, ◌↔◌, true, All, IfOk, IfErr, None, [], length};
+    ghost use Rattle.std.specs.Prelude.{◌≡◌, ◌+◌, ◌<◌, ◌↔◌, true, All, IfOk, IfErr, None, [], length, sum_by};
     ghost use Rattle.sharetab.specs.Maps.{at_page};
     ghost use Rattle.sharetab.specs.declared.guest_page.GuestPage.{GuestPage};
     ghost use Rattle.world.specs.Admission.{IsAdmitted};
-    ghost use Rattle.world.specs.Boots.{IsWithinLimits, AreWithinLimits, HoldsImage, AreAdmitted, AreBooted, WhyNotBooted};
-    ghost use Rattle.tenant.specs.Loading.{IsOfLoading};
+    ghost use Rattle.swapstore.specs.Failures.{one_more};
+    ghost use Rattle.world.specs.Boots.{IsWithinLimits, AreWithinLimits, HoldsImage, AreAdmitted, AreBooted, FramesComeFirst, WhyNotBooted};
+    ghost use Rattle.tenant.specs.Loading.{WhyNotLoaded};
+    ghost use Rattle.tenant.specs.declared.loading.BootError.{BootError};
     ghost use Rattle.reclaim.specs.declared.level.Level.{Level};
 
     // A world of no guest gets guests, in their order.
@@ -60,7 +62,10 @@ impl<S: SwapStore> World<S> {
         ensures slots { IfOk result (λ w. S.slots w.store ≡ S.slots self.store) }
         ensures honest { IfOk result (λ w. S.honest w.store ↔ S.honest self.store) }
         ensures true_to_digests { IfOk result (λ w. S.true_to_digests w.store ↔ S.true_to_digests self.store) }
-        ensures err { IfErr result (λ refused. IsOfLoading refused.0) }
+        ensures frames_first { IfOk result (λ w. FramesComeFirst w.pool w.tenants) }
+        ensures room { IfErr result (λ refused. refused.0 ≡ BootError.Room →
+            length self.pool.free + length self.slots.free < sum_by (λ g. g.pages) guests.items) }
+        ensures err { IfErr result (λ refused. WhyNotLoaded (S.failed refused.1 ≡ one_more (S.failed self.store)) refused.0) }
         ensures back { IfErr result (λ refused. (S.slots refused.1 ≡ S.slots self.store) × (S.honest refused.1 ↔ S.honest self.store) ×
             (S.true_to_digests refused.1 ↔ S.true_to_digests self.store)) }
     {
@@ -84,7 +89,8 @@ impl<S: SwapStore> World<S> {
     /// It is refused, and the store comes back, where a number is outside its limits or there are no or more than 16 guests
     /// (`Limits`); else where a guest's pages don't hold its image (`Segment`); else, where guests are to be admitted by their minimums,
     /// where there are too few frames for these (`AdmitFrames`), or too few slots for their other pages (`AdmitSlots`); else where a page
-    /// of an image found neither frame nor slot (`Room`), the store failed to write one (`Store`), or a request for memory was refused
+    /// of an image found neither frame nor slot (`Room`), so only where frames and slots together are fewer than the guests' pages, and
+    /// never where they are admitted by their minimums; the store failed to write one (`Store`), or a request for memory was refused
     /// (`Memory`).
     pub fn boot(
         alloc: Global,
@@ -101,7 +107,10 @@ impl<S: SwapStore> World<S> {
         ensures true_to_digests { IfOk result (λ w. S.true_to_digests w.store ↔ S.true_to_digests store) }
         ensures within { IfOk result (λ w. AreWithinLimits config (S.slots store) guests.items × All HoldsImage guests.items × AreAdmitted config (S.slots store) guests.items) }
         ensures admitted { IfOk result (λ w. config.admit ≡ true → IsAdmitted config.frames (S.slots store) w.tenants) }
+        ensures frames_first { IfOk result (λ w. FramesComeFirst w.pool w.tenants) }
         ensures err { IfErr result (λ refused. WhyNotBooted config (S.slots store) guests.items refused.0) }
+        ensures failed { IfErr result (λ refused. refused.0 ≡ BootError.Store → S.failed refused.1 ≡ one_more (S.failed store)) }
+        ensures admitted_find_room { IfErr result (λ refused. refused.0 ≡ BootError.Room → config.admit ≡ true → ⊥) }
         ensures back { IfErr result (λ refused. (S.slots refused.1 ≡ S.slots store) × (S.honest refused.1 ↔ S.honest store) ×
             (S.true_to_digests refused.1 ↔ S.true_to_digests store)) }
     {

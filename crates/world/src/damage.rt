@@ -17,6 +17,8 @@ impl<S: Damage> World<S> {
         ensures others { OthersStay slot (S.held self.old.store) (S.held self.new.store) }
         ensures failed { S.failed self.new.store ≡ S.failed self.old.store }
         ensures store_slots { S.slots self.new.store ≡ S.slots self.old.store }
+        ensures dishonest { S.honest self.new.store → ⊥ }
+        ensures untrue { S.true_to_digests self.new.store → ⊥ }
         ensures tenants { self.new.tenants ≡ self.old.tenants }
         ensures pool { self.new.pool ≡ self.old.pool }
         ensures slots { self.new.slots ≡ self.old.slots }

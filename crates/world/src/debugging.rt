@@ -13,6 +13,7 @@ use rand_core::Rng;
 use std::alloc::Global;
 use swapstore::SwapStore;
 use taxpolicy::Tax;
+use tenant::Cause;
 use victims::Spared;
 use word32::Ppn;
 
@@ -99,7 +100,7 @@ impl<S: SwapStore> World<S> {
             guest: g,
             pages: *reached,
         });
-        self.supply_sparing(alloc, g, p, &spared, tax, rng)
+        self.supply_sparing(alloc, g, p, &spared, Cause::Debugger, tax, rng)
     }
 
     // Each of two pages that a debugger reaches gets a frame of its own, where it is wanted, the one of the lower number first.

@@ -1,5 +1,5 @@
 //! What may happen in a world, and what is answered.
-use crate::running::stop_of;
+use crate::running::{for_room, stop_of};
 use crate::{DebugError, Evicted, FaultError, Ran, RunStop, Turn};
 use flatvm::Reply;
 use guest::{Refused, Stop};
@@ -91,10 +91,7 @@ impl From<Stop> for RunStop {
     ghost from_gives = { λ stop why. why ≡ for_room stop };
 
     fn from(stop: Stop) -> Self {
-        match stop {
-            Stop::Memory => RunStop::Memory,
-            Stop::LogFull => RunStop::LogFull,
-        }
+        for_room(stop)
     }
 }
 

@@ -12,7 +12,7 @@ use rand_core::Rng;
 use std::alloc::{AllocError, Global};
 use swapstore::SwapStore;
 use taxpolicy::{Stat, Tax, victim};
-use tenant::{EvictError, Tenant};
+use tenant::{Cause, EvictError, Tenant};
 use victims::{Spared, spared_of};
 use word32::Ppn;
 
@@ -94,7 +94,7 @@ impl<S: SwapStore> World<S> {
         ensures honest { S.honest self.new.store ↔ S.honest self.old.store }
         ensures true_to_digests { S.true_to_digests self.new.store ↔ S.true_to_digests self.old.store }
     {
-        self.evict_sparing(alloc, &None, tax, rng)
+        self.evict_sparing(alloc, &None, Cause::Order, tax, rng)
     }
 
     // A page of the policy's victim leaves its frame for a slot, as by `evict_one`, but for the pages that are spared.
@@ -102,6 +102,7 @@ impl<S: SwapStore> World<S> {
         &mut self,
         alloc: Global,
         spared: &Option<Spared>,
+        cause: Cause,
         tax: Tax,
         rng: &mut R,
     ) -> Result<(), FaultError>
@@ -129,7 +130,7 @@ impl<S: SwapStore> World<S> {
             return Err(FaultError::NoFrame);
         };
         let p = drawn_page(self.guest(g), &spared_of(spared, g), rng);
-        match self.evict_of(g, p) {
+        match self.evict_of(g, p, cause) {
             Ok(()) => Ok(()),
             Err(EvictError::NoSwap) => Err(FaultError::NoSwap),
             Err(EvictError::SwapWrite) => Err(FaultError::NoFrame),
@@ -141,6 +142,7 @@ impl<S: SwapStore> World<S> {
         &mut self,
         alloc: Global,
         spared: &Option<Spared>,
+        cause: Cause,
         tax: Tax,
         rng: &mut R,
     ) -> Result<(), FaultError>
@@ -160,7 +162,7 @@ impl<S: SwapStore> World<S> {
         ensures true_to_digests { S.true_to_digests self.new.store ↔ S.true_to_digests self.old.store }
     {
         while self.free() == 0 {
-            self.evict_sparing(alloc, spared, tax, rng)?;
+            self.evict_sparing(alloc, spared, cause, tax, rng)?;
             self.is_sound();
         }
         Ok(())
@@ -174,6 +176,7 @@ impl<S: SwapStore> World<S> {
         g: usize,
         p: Ppn,
         spared: &Option<Spared>,
+        cause: Cause,
         tax: Tax,
         rng: &mut R,
     ) -> Result<(), FaultError>
@@ -193,7 +196,7 @@ impl<S: SwapStore> World<S> {
         ensures honest { S.honest self.new.store ↔ S.honest self.old.store }
         ensures true_to_digests { S.true_to_digests self.new.store ↔ S.true_to_digests self.old.store }
     {
-        self.make_room(alloc, spared, tax, rng)?;
+        self.make_room(alloc, spared, cause, tax, rng)?;
         let supplied = self.supply(alloc, g, p);
         self.is_sound();
         match supplied {
@@ -206,7 +209,8 @@ impl<S: SwapStore> World<S> {
     }
 
     /// The page that a guest's next step needs gets a frame of its own, with its bytes. Where none is free, pages of victims leave
-    /// theirs one after another (`evict_one`) until one is. Where no page is needed it does nothing.
+    /// theirs one after another (`evict_one`) until one is, and are counted by the cause (`Fault`, or `Run` in a run of steps). Where no
+    /// page is needed it does nothing.
     ///
     /// `NoFrame` where none is free and the store failed to write a victim's page or nobody has more resident pages than its minimum;
     /// `NoSwap` where neither frame nor slot is free; `SwapRead` where the store failed to read the page's slot; `SwapDamaged` where
@@ -217,6 +221,7 @@ impl<S: SwapStore> World<S> {
         &mut self,
         alloc: Global,
         g: usize,
+        cause: Cause,
         tax: Tax,
         rng: &mut R,
     ) -> Result<(), FaultError>
@@ -247,7 +252,7 @@ impl<S: SwapStore> World<S> {
         let Some(needed) = self.guest(g).need() else {
             return Ok(());
         };
-        let answer = self.supply_sparing(alloc, g, needed.0, &None, tax, rng);
+        let answer = self.supply_sparing(alloc, g, needed.0, &None, cause, tax, rng);
         self.is_sound();
         self.shared_frames_are_named();
         answer

@@ -1,6 +1,6 @@
 //! Which worlds are booted: limits of their numbers, and whether guests are admitted.
-ghost use Rattle.std.specs.Prelude.{◌≡◌, ◌↔◌, ◌≤◌, IsTrue, All, MatchOption, sum_by, ◌+◌, ◌-◌};
-ghost use Rattle.world.specs.Boots.{IsWithinLimits, AreWithinLimits, HoldsImage, HasFramesFor, HasSlotsFor, AreAdmitted, WhyNotBooted};
+ghost use Rattle.std.specs.Prelude.{◌≡◌, ◌↔◌, ◌≤◌, IsTrue, All, IfSome, MatchOption, sum_by, ◌+◌, ◌-◌};
+ghost use Rattle.world.specs.Boots.{IsWithinLimits, AreWithinLimits, HoldsImage, HasFramesFor, HasSlotsFor, AreAdmitted, IsOfNumbers, WhyNotBooted};
 
 use crate::boot::{Config, NewGuest};
 use tenant::BootError;
@@ -86,8 +86,9 @@ fn has_slots(slots: u32, guests: &[NewGuest]) -> bool
 /// Why a world with so many slots and these guests is refused whatever memory there is, if it is: the first of `Limits`, `Segment`,
 /// `AdmitFrames` and `AdmitSlots` that holds.
 pub(crate) fn refusal(config: Config, slots: u32, guests: &[NewGuest]) -> Option<BootError>
-    ensures { MatchOption result
+    ensures why { MatchOption result
         (AreWithinLimits config slots guests.now × All HoldsImage guests.now × AreAdmitted config slots guests.now) (WhyNotBooted config slots guests.now) }
+    ensures first { IfSome result IsOfNumbers }
 {
     if !are_within_limits(config, slots, guests) {
         return Some(BootError::Limits);

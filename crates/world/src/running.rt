@@ -9,7 +9,7 @@ use rand_core::Rng;
 use std::alloc::Global;
 use swapstore::SwapStore;
 use taxpolicy::Tax;
-use tenant::run_in;
+use tenant::{Cause, run_in};
 use word32::Ppn;
 
 /// Why a guest's run stopped before all of its steps were made.
@@ -66,7 +66,7 @@ pub(crate) fn stop_of(error: FaultError) -> RunStop
 }
 
 // Why a run of steps stops where its log has no room.
-fn for_room(stop: Stop) -> RunStop
+pub(crate) fn for_room(stop: Stop) -> RunStop
     ensures { result ≡ for_room stop }
 {
     match stop {
@@ -250,7 +250,7 @@ impl<S: SwapStore> World<S> {
                 Err(End::Stop(why)) => return Err(End::Stop(why)),
                 Err(End::Done) => unreachable!(),
             }
-            if let Err(error) = self.fault(alloc, g, tax, rng) {
+            if let Err(error) = self.fault(alloc, g, Cause::Run, tax, rng) {
                 return Err(End::Stop(stop_of(error)));
             }
         }

@@ -9,7 +9,7 @@ use reclaim::{Action, Level, plan};
 use std::alloc::{AllocError, Global};
 use swapstore::SwapStore;
 use taxpolicy::Tax;
-use tenant::{Aim, EvictError};
+use tenant::{Aim, Cause, EvictError};
 
 /// What became of a turn of the policy.
 #[derive(Debug, Drop)]
@@ -86,7 +86,7 @@ impl<S: SwapStore> World<S> {
         ensures true_to_digests { S.true_to_digests self.new.store ↔ S.true_to_digests self.old.store }
     {
         let p = drawn_page(self.guest(g), &None, rng);
-        let swapped = self.evict_of(g, p);
+        let swapped = self.evict_of(g, p, Cause::Level);
         self.is_sound();
         swapped
     }

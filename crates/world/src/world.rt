@@ -15,7 +15,10 @@ use std::alloc::Global;
 use std::marker::Model;
 use std::sync::Arc;
 use swapstore::{SlotBook, SwapStore};
-use tenant::{BootError, EvictError, Tenant, evict_page, loaded, scan_page, step_in, supply_page};
+use tenant::{
+    BootError, Cause, EvictError, MoveCounts, Tenant, evict_page, loaded, scan_page, step_in,
+    supply_page,
+};
 use word32::Ppn;
 
 /// What became of a page that was to leave its frame.
@@ -85,7 +88,9 @@ impl<S: SwapStore> World<S> {
     ghost use Rattle.guest.specs.Guests.{standing};
     ghost use Rattle.world.specs.Evictions.{Became};
     ghost use Rattle.tenant.specs.Lent.{WhyStays};
-    ghost use Rattle.tenant.specs.Loading.{FramesFirst, IsOfLoading};
+    ghost use Rattle.swapstore.specs.Failures.{one_more};
+    ghost use Rattle.tenant.specs.Loading.{FramesFirst, NonePrivate, WhyNotLoaded};
+    ghost use Rattle.tenant.specs.declared.loading.BootError.{BootError};
     ghost use Rattle.tenant.specs.Tenants.{TenantIs, pages_in, IsBooted, Stays, Adds, NothingHappens};
     ghost use Rattle.reclaim.specs.declared.level.Level.{Level};
     ghost use Rattle.world.specs.Worlds.{WorldIs, Sound, Changes, PagesMove, SameAround, guest_at, pages_at, view_at, needed_by, FailsOnce};
@@ -130,8 +135,9 @@ impl<S: SwapStore> World<S> {
     /// minimum, 2 to its pages, and a log of at most `log_runs` runs. Each page that the image reaches has its bytes: in rising order in a
     /// frame while one is free, then in the free slot of the lowest number.
     ///
-    /// `Room` where neither frame nor slot was free for one of them, `Store` where the store failed to write one, `Memory` where a
-    /// request for memory was refused: the world is given up then, and its store comes back.
+    /// `Room` where neither frame nor slot was free for one of them, so only where those that are free are fewer than its pages; `Store`
+    /// where the store failed to write one, `Memory` where a request for memory was refused: the world is given up then, and its store
+    /// comes back.
     pub fn add(
         self,
         alloc: Global,
@@ -156,7 +162,13 @@ impl<S: SwapStore> World<S> {
         ensures slots { IfOk result (λ w. S.slots w.store ≡ S.slots self.store) }
         ensures honest { IfOk result (λ w. S.honest w.store ↔ S.honest self.store) }
         ensures true_to_digests { IfOk result (λ w. S.true_to_digests w.store ↔ S.true_to_digests self.store) }
-        ensures err { IfErr result (λ refused. IsOfLoading refused.0) }
+        ensures no_frames { IfOk result (λ w. self.pool.free ≡ [] → w.pool.free ≡ []) }
+        ensures none_private { IfOk result (λ w. (t : TenantIs) → self.pool.free ≡ [] →
+            NonePrivate (pages_in (slice_index_or w.tenants (length self.tenants) t))) }
+        ensures taken { IfOk result (λ w. length self.pool.free + length self.slots.free ≤ length w.pool.free + length w.slots.free + pages) }
+        ensures no_failure { IfOk result (λ w. S.failed w.store ≡ S.failed self.store) }
+        ensures room { IfErr result (λ refused. refused.0 ≡ BootError.Room → length self.pool.free + length self.slots.free < pages) }
+        ensures err { IfErr result (λ refused. WhyNotLoaded (S.failed refused.1 ≡ one_more (S.failed self.store)) refused.0) }
         ensures back { IfErr result (λ refused. (S.slots refused.1 ≡ S.slots self.store) × (S.honest refused.1 ↔ S.honest self.store) ×
             (S.true_to_digests refused.1 ↔ S.true_to_digests self.store)) }
     {
@@ -170,9 +182,9 @@ impl<S: SwapStore> World<S> {
             level,
         } = self;
         match loaded(
-            alloc, image, pages, shares, minimum, log_runs, &mut pool, &mut slots, &mut store,
+            alloc, image, pages, log_runs, &mut pool, &mut slots, &mut store,
         ) {
-            Ok(tenant) => match tenants.push(tenant) {
+            Ok(guest) => match tenants.push(Tenant::new(guest, shares, minimum)) {
                 Ok(()) => Ok(World {
                     tenants,
                     pool,
@@ -272,6 +284,13 @@ impl<S: SwapStore> World<S> {
         ensures { (t : TenantIs) → result.now ≡ slice_index_or self.now.tenants g t }
     {
         &self.tenants[g]
+    }
+
+    /// How often the pages of a guest have moved since its boot, and why. No clause speaks of it, and nothing goes by it.
+    pub fn counts(&self, g: usize) -> MoveCounts
+        requires { g < length self.now.tenants }
+    {
+        self.tenants[g].counts()
     }
 
     /// Where a page of a guest is; None exactly where it has no such page.
@@ -379,8 +398,43 @@ impl<S: SwapStore> World<S> {
         )
     }
 
+    // A resident page leaves its frame, and is counted with the cause.
+    pub(crate) fn evict_of(&mut self, g: usize, p: Ppn, cause: Cause) -> Result<(), EvictError>
+        requires guest { g < length self.old.tenants }
+        requires page { (t : TenantIs) → p < length (pages_at self.old g t) }
+        requires resident { (t : TenantIs) → IsTrue (is_resident (kind_at (pages_at self.old g t) p)) }
+        ensures moves { Changes PagesMove g self.old.tenants self.new.tenants }
+        ensures page { OnOk result ((t : TenantIs) →
+            Became p Evicted.Done (pages_at self.old g t) (pages_at self.new g t) self.old.slots) }
+        ensures err { IfErr result (WhyStays self.old.slots (FailsOnce S.failed self.old self.new)) }
+        ensures no_failure { OnOk result (S.failed self.new.store ≡ S.failed self.old.store) }
+        ensures unchanged { OnErr result (self.new.tenants ≡ self.old.tenants) }
+        ensures pool_unchanged { OnErr result (self.new.pool ≡ self.old.pool) }
+        ensures slots_unchanged { OnErr result (SameNumbers self.old.slots self.new.slots) }
+        ensures shares_unchanged { OnErr result (self.new.shares ≡ self.old.shares) }
+        ensures hints { self.new.shares.hints ≡ self.old.shares.hints }
+        ensures frames { self.new.frames ≡ self.old.frames }
+        ensures level { self.new.level ≡ self.old.level }
+        ensures slots { S.slots self.new.store ≡ S.slots self.old.store }
+        ensures honest { S.honest self.new.store ↔ S.honest self.old.store }
+        ensures true_to_digests { S.true_to_digests self.new.store ↔ S.true_to_digests self.old.store }
+    {
+        self.move_out(g, p)?;
+        self.count_eviction(g, cause);
+        Ok(())
+    }
+
+    // Counts a page of a guest that has left its frame.
+    fn count_eviction(&mut self, g: usize, cause: Cause)
+        ensures { self.new ≡ self.old }
+    {
+        if let Some(tenant) = self.tenants.get_mut(g) {
+            tenant.count_eviction(cause);
+        }
+    }
+
     // A resident page leaves its frame.
-    pub(crate) fn evict_of(&mut self, g: usize, p: Ppn) -> Result<(), EvictError>
+    fn move_out(&mut self, g: usize, p: Ppn) -> Result<(), EvictError>
         requires guest { g < length self.old.tenants }
         requires page { (t : TenantIs) → p < length (pages_at self.old g t) }
         requires resident { (t : TenantIs) → IsTrue (is_resident (kind_at (pages_at self.old g t) p)) }
@@ -438,7 +492,7 @@ impl<S: SwapStore> World<S> {
         if !kind.is_resident() {
             return Ok(Evicted::Skipped);
         }
-        match self.evict_of(g, p) {
+        match self.evict_of(g, p, Cause::Order) {
             Ok(()) => Ok(Evicted::Done),
             Err(error) => Err(error),
         }

@@ -1,31 +1,30 @@
-use Rattle.std.proofs.Common.{ℕ, ◌+◌, [], length, subst, sym, ◌∙◌}
+use Rattle.std.proofs.Common.{ℕ, ◌+◌, [], length, subst, sym, ◌∙◌, arith}
 use Rattle.tenant.specs.Loading.{AreUntouched, AreLoaded}
-use Rattle.tenant.specs.Tenants.{pages_in}
 use Rattle.tenant.proofs.Giving.{then_moves}
 use Rattle.tenant.proofs.Booting.{loading_once, loading_used}
 use Rattle.tenant.proofs.loading.load.Goals as goal
 
 pub load_next-requires-clause-once : goal.load_next-requires-clause-once
 load_next-requires-clause-once g c =
-    loading_once (pages_in c.args.tenant.now) (pages_in c.loop-p.tenant) c.args.pool.now c.loop-p.pool c.args.slots.now c.loop-p.slots (g.S.SwapStore.slots c.args.store.now) (g.S.SwapStore.slots c.loop-p.store)
-    (length (pages_in c.args.tenant.now)) c.requires.untouched (c.loop-p.invariant.conserves []) c.requires.once c.loop-p.invariant.slots
+    loading_once c.args.guest.now.bus.pages c.loop-p.guest.bus.pages c.args.pool.now c.loop-p.pool c.args.slots.now c.loop-p.slots (g.S.SwapStore.slots c.args.store.now) (g.S.SwapStore.slots c.loop-p.store)
+    (length c.args.guest.now.bus.pages) c.requires.untouched (c.loop-p.invariant.conserves []) c.requires.once c.loop-p.invariant.slots
 
 pub returns-in_err-load_next-clause-conserves : goal.returns-in_err-load_next-clause-conserves
 returns-in_err-load_next-clause-conserves g c = λ es.
-    then_moves (pages_in c.args.tenant.now) (pages_in c.loop-p.tenant) (pages_in c.load_next.new.tenant) c.args.pool.now c.loop-p.pool c.load_next.new.pool c.args.slots.now c.loop-p.slots c.load_next.new.slots es es
+    then_moves c.args.guest.now.bus.pages c.loop-p.guest.bus.pages c.load_next.new.guest.bus.pages c.args.pool.now c.loop-p.pool c.load_next.new.pool c.args.slots.now c.loop-p.slots c.load_next.new.slots es es
     (c.loop-p.invariant.conserves es) (c.load_next.ensures.conserves es)
 
 pub returns-in_err-load_next-clause-used : goal.returns-in_err-load_next-clause-used
 returns-in_err-load_next-clause-used g c = λ trust.
-    loading_used (pages_in c.args.tenant.now) (pages_in c.loop-p.tenant) c.args.pool.now c.loop-p.pool c.args.slots.now c.loop-p.slots (length (pages_in c.args.tenant.now))
+    loading_used c.args.guest.now.bus.pages c.loop-p.guest.bus.pages c.args.pool.now c.loop-p.pool c.args.slots.now c.loop-p.slots (length c.args.guest.now.bus.pages)
     (g.S.SwapStore.held c.args.store.now) (g.S.SwapStore.held c.loop-p.store) (g.S.SwapStore.held c.load_next.new.store) c.requires.untouched (c.loop-p.invariant.conserves [])
     (c.loop-p.invariant.used trust) (c.load_next.ensures.used (c.loop-p.invariant.true_to_digests.1 trust))
 
 pub loop-p-preserved : goal.loop-p-preserved
 loop-p-preserved g c =
-    let first = pages_in c.args.tenant.now in
-    let mid = pages_in c.loop-p.tenant in
-    let new = pages_in c.load_next.new.tenant in
+    let first = c.args.guest.now.bus.pages in
+    let mid = c.loop-p.guest.bus.pages in
+    let new = c.load_next.new.guest.bus.pages in
     let inv = c.loop-p.invariant in
     let e = c.load_next.ensures in
     let held = g.S.SwapStore.held c.load_next.new.store in
@@ -43,6 +42,10 @@ loop-p-preserved g c =
           (c.in_ok-load_next.ensures.loaded (inv.true_to_digests.1 trust)
           (subst (λ (q : ℕ). AreLoaded (g.S.SwapStore.held c.loop-p.store) c.args.image.now (length mid) q mid) (sym c.new.ensures)
           (subst (λ (n : ℕ). AreLoaded (g.S.SwapStore.held c.loop-p.store) c.args.image.now n c.loop-p.p mid) (sym inv.count) (inv.loaded trust)))));
+      no_frames = λ none. c.in_ok-load_next.ensures.no_frames (inv.no_frames none);
+      none_private = λ none. c.in_ok-load_next.ensures.none_private (inv.no_frames none) (inv.none_private none);
+      taken = omega (arith, inv.taken, c.in_ok-load_next.ensures.taken, c.new.ensures);
+      no_failure = c.in_ok-load_next.ensures.no_failure ∙ inv.no_failure;
       frames_first = c.in_ok-load_next.ensures.frames_first;
       slots = e.slots ∙ inv.slots;
       honest = (λ h. inv.honest.0 (e.honest.0 h), λ h. e.honest.1 (inv.honest.1 h));

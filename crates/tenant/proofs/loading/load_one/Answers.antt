@@ -1,3 +1,4 @@
+use Rattle.std.proofs.Common.{length, Err, ap, ◌∙◌, arith}
 use Rattle.tenant.proofs.loading.load_one.Goals as goal
 
 pub returns-in-Ok-clause-conserves : goal.returns-in-Ok-clause-conserves
@@ -14,3 +15,8 @@ returns-in-Err-NoSwap-clause-conserves g c = λ es. c.load_in_slot.ensures.conse
 
 pub returns-in-Err-SwapWrite-clause-conserves : goal.returns-in-Err-SwapWrite-clause-conserves
 returns-in-Err-SwapWrite-clause-conserves g c = λ es. c.load_in_slot.ensures.conserves c.args.pool.now es
+
+pub returns-in-Err-NoSwap-clause-room : goal.returns-in-Err-NoSwap-clause-room
+returns-in-Err-NoSwap-clause-room g c = λ room.
+    let none = c.load_in_slot.ensures.none (c.in-Err-NoSwap.is ∙ ap Err c.in-Err-NoSwap.field-0-is) in
+    omega (arith, c.if-free-gt0.false, c.free.ensures, ap length none)

@@ -9,46 +9,43 @@ use Rattle.paging.specs.Moves.{Conserves, Reads}
 use Rattle.paged_bus.specs.Buses.{PagedBusIs}
 use Rattle.guest.specs.Guests.{GuestIs}
 use Rattle.guest.specs.Loading.{IsBeside}
-use Rattle.tenant.specs.Tenants.{TenantIs, pages_in}
-use Rattle.tenant.proofs.Booting.{untouched_reads, loaded_kept}
+use Rattle.tenant.proofs.Booting.{untouched_reads, loaded_run}
 use Rattle.tenant.proofs.loading.loaded.Goals as goal
 
 pub load-requires-clause-fits : goal.load-requires-clause-fits
 load-requires-clause-fits g c =
-    let none : pages_in c.new-tenant.result ≡ replicate c.args.pages Zero = ap (λ (h : GuestIs). h.bus.pages) c.new-tenant.ensures.guest ∙ ap (λ (b : PagedBusIs). b.pages) c.in-Ok-boot.ensures.bus in
+    let none : c.in-Ok-boot.guest.bus.pages ≡ replicate c.args.pages Zero = ap (λ (b : PagedBusIs). b.pages) c.in-Ok-boot.ensures.bus in
     subst (FitsPages c.deref.result.now) (sym (ap length none ∙ length-replicate c.args.pages Zero)) (subst (λ (i : Image). FitsPages i c.args.pages) (sym c.deref.ensures) c.requires.fits)
 
 pub returns-in-Ok-load-clause-conserves : goal.returns-in-Ok-load-clause-conserves
 returns-in-Ok-load-clause-conserves g c = λ es.
-    let none : pages_in c.new-tenant.result ≡ replicate c.args.pages Zero = ap (λ (h : GuestIs). h.bus.pages) c.new-tenant.ensures.guest ∙ ap (λ (b : PagedBusIs). b.pages) c.in-Ok-boot.ensures.bus in
-    subst (λ (ps : List Page). Conserves ps c.args.pool.now c.args.slots.now es (pages_in c.load.new.tenant) c.load.new.pool c.load.new.slots es) none (c.load.ensures.conserves es)
+    let none : c.in-Ok-boot.guest.bus.pages ≡ replicate c.args.pages Zero = ap (λ (b : PagedBusIs). b.pages) c.in-Ok-boot.ensures.bus in
+    subst (λ (ps : List Page). Conserves ps c.args.pool.now c.args.slots.now es c.load.new.guest.bus.pages c.load.new.pool c.load.new.slots es) none (c.load.ensures.conserves es)
 
 pub returns-in-Ok-load-clause-reads : goal.returns-in-Ok-load-clause-reads
 returns-in-Ok-load-clause-reads g c = λ es.
-    let none : pages_in c.new-tenant.result ≡ replicate c.args.pages Zero = ap (λ (h : GuestIs). h.bus.pages) c.new-tenant.ensures.guest ∙ ap (λ (b : PagedBusIs). b.pages) c.in-Ok-boot.ensures.bus in
+    let none : c.in-Ok-boot.guest.bus.pages ≡ replicate c.args.pages Zero = ap (λ (b : PagedBusIs). b.pages) c.in-Ok-boot.ensures.bus in
     c.load.ensures.reads es (subst (Reads es) (sym none) (untouched_reads es c.args.pages))
+
+pub returns-in-Ok-load-clause-intact : goal.returns-in-Ok-load-clause-intact
+returns-in-Ok-load-clause-intact g c = λ trust.
+    (loaded_run (g.S.SwapStore.held c.load.new.store) c.args.image.value c.in-Ok.its_image.value c.deref.result.now c.args.pages c.in-Ok-boot.guest c.load.new.guest c.requires.fits c.in-Ok.ensures c.deref.ensures
+    c.in-Ok-boot.ensures.cpu c.in-Ok-boot.ensures.bus c.in-Ok-boot.ensures.boot c.in-Ok-boot.ensures.log c.load.ensures.rest c.load.ensures.count (c.in-Ok-load.ensures.loaded trust)).0
 
 pub returns-in-Ok-load-clause-kept : goal.returns-in-Ok-load-clause-kept
 returns-in-Ok-load-clause-kept g c = λ trust.
-    loaded_kept (g.S.SwapStore.held c.load.new.store) c.args.image.value c.in-Ok.its_image.value c.deref.result.now c.args.pages c.in-Ok-boot.guest c.new-tenant.result c.load.new.tenant c.requires.fits c.in-Ok.ensures c.deref.ensures
-    c.in-Ok-boot.ensures.cpu c.in-Ok-boot.ensures.bus c.in-Ok-boot.ensures.boot c.in-Ok-boot.ensures.log c.new-tenant.ensures.guest c.load.ensures.rest c.load.ensures.count (c.in-Ok-load.ensures.loaded trust)
+    (loaded_run (g.S.SwapStore.held c.load.new.store) c.args.image.value c.in-Ok.its_image.value c.deref.result.now c.args.pages c.in-Ok-boot.guest c.load.new.guest c.requires.fits c.in-Ok.ensures c.deref.ensures
+    c.in-Ok-boot.ensures.cpu c.in-Ok-boot.ensures.bus c.in-Ok-boot.ensures.boot c.in-Ok-boot.ensures.log c.load.ensures.rest c.load.ensures.count (c.in-Ok-load.ensures.loaded trust)).1
 
 pub returns-in-Ok-load-clause-booted : goal.returns-in-Ok-load-clause-booted
 returns-in-Ok-load-clause-booted g c =
-    let guest = c.new-tenant.ensures.guest in
     let rest = c.load.ensures.rest in
     let b = c.in-Ok-boot.ensures in
     record {
-      boot = ap (λ (u : TenantIs). u.guest.boot) rest ∙ ap (λ (h : GuestIs). h.boot) guest ∙ b.boot ∙ ap (λ (i : Image). boot_machine i c.args.pages) c.in-Ok.ensures;
-      items = ap (λ (u : TenantIs). u.guest.log.items) rest ∙ ap (λ (h : GuestIs). h.log.items) guest ∙ b.log;
-      limit = ap (λ (u : TenantIs). u.guest.log.limit) rest ∙ ap (λ (h : GuestIs). h.log.limit) guest ∙ b.limit;
-      shares_are = ap (λ (u : TenantIs). u.shares) rest ∙ c.new-tenant.ensures.shares;
-      minimum_is = ap (λ (u : TenantIs). u.minimum) rest ∙ c.new-tenant.ensures.minimum;
-      unsampled = record {
-        draws = ap (λ (u : TenantIs). u.sample.draws) rest ∙ c.new-tenant.ensures.unsampled.draws;
-        active = ap (λ (u : TenantIs). u.sample.active) rest ∙ c.new-tenant.ensures.unsampled.active;
-      };
-      unblocked = ap (λ (u : TenantIs). u.blocked) rest ∙ c.new-tenant.ensures.unblocked;
-      size = c.load.ensures.count ∙ ap (λ (h : GuestIs). length h.bus.pages) guest ∙ ap (λ (u : PagedBusIs). length u.pages) b.bus ∙ length-replicate c.args.pages Zero;
+      boot = ap (λ (h : GuestIs). h.boot) rest ∙ b.boot ∙ ap (λ (i : Image). boot_machine i c.args.pages) c.in-Ok.ensures;
+      items = ap (λ (h : GuestIs). h.log.items) rest ∙ b.log;
+      limit = ap (λ (h : GuestIs). h.log.limit) rest ∙ b.limit;
+      seats = ap (λ (h : GuestIs). h.seats) rest ∙ b.seats;
+      size = c.load.ensures.count ∙ ap (λ (u : PagedBusIs). length u.pages) b.bus ∙ length-replicate c.args.pages Zero;
       beside = λ p away. c.in-Ok-load.ensures.untouched.beside p (subst (λ (i : Image). IsBeside i p) (sym c.deref.ensures) away);
     }

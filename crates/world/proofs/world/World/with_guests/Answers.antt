@@ -1,8 +1,9 @@
-use Rattle.std.proofs.Common.{suc, ◌≡◌, ◌++◌, ◌∷◌, [], All, List, length, sym, ap, subst, ◌∙◌, append_assoc, arith}
+use Rattle.std.proofs.Common.{ℕ, suc, ◌≡◌, ◌++◌, ◌∷◌, [], All, List, length, sum_by, sym, ap, subst, ◌∙◌, append_assoc, arith}
+use Rattle.std.proofs.lemmas.List.Sums.{sum_by_push, sum_by-append, sum_by-cons}
 use Rattle.std.specs.Vec.Iter.{into_iter_items}
 use Rattle.world.specs.declared.boot.NewGuest.{NewGuest}
 use Rattle.world.specs.Boots.{IsWithinLimits, HoldsImage}
-use Rattle.world.proofs.BootedGuests.{one_booted}
+use Rattle.world.proofs.BootedGuests.{one_booted, one_more_first, if_err_and}
 use Rattle.world.proofs.world.World.with_guests.Goals as goal
 
 pub loop-guest-preserved : goal.loop-guest-preserved
@@ -22,6 +23,9 @@ loop-guest-preserved g c =
       within = λ k d h. within (suc k) d (omega (arith, h));
       hold = λ k d h. hold (suc k) d (omega (arith, h));
       booted = one_booted c.args.log_runs at.yielded guest at.world.tenants world.tenants e.count e.tenants e.booted at.invariant.booted;
+      first = one_more_first at.world.pool world.pool at.world.tenants world.tenants e.count e.tenants e.frames_first e.no_frames e.none_private at.invariant.first;
+      taken = omega (arith, at.invariant.taken, e.taken, sum_by_push (λ (n : NewGuest). n.pages) at.yielded guest);
+      no_failure = e.no_failure ∙ at.invariant.no_failure;
       shares = e.shares ∙ at.invariant.shares;
       frames = e.frames ∙ at.invariant.frames;
       level = e.level ∙ at.invariant.level;
@@ -29,3 +33,21 @@ loop-guest-preserved g c =
       honest = (λ now. at.invariant.honest.0 (e.honest.0 now), λ before. e.honest.1 (at.invariant.honest.1 before));
       trust = (λ now. at.invariant.trust.0 (e.true_to_digests.0 now), λ before. e.true_to_digests.1 (at.invariant.trust.1 before));
     }
+
+pub returns-in_err-world-clause-room : goal.returns-in_err-world-clause-room
+returns-in_err-world-clause-room g c =
+    let at = c.loop-guest in
+    let pages : NewGuest → ℕ = λ n. n.pages in
+    let rest = into_iter_items c.next.new.self in
+    let all : at.yielded ++ (c.in-Some.guest ∷ rest) ≡ c.args.guests.items =
+    ap (λ (l : List NewGuest). at.yielded ++ l) (sym c.in-Some.ensures.steps.0) ∙ at.invariant.order ∙ c.into_iter-guest-iterator.ensures.into_iter_gives.0 in
+    if_err_and c.from_residual.result
+    (λ refused same is. omega (
+      arith,
+      c.in_err-world.ensures.room (sym (ap (λ e. e.0) same) ∙ is),
+      at.invariant.taken,
+      sum_by-append pages at.yielded (c.in-Some.guest ∷ rest),
+      sum_by-cons pages c.in-Some.guest rest,
+      ap (sum_by pages) all,
+    ))
+    c.from_residual.ensures.1

@@ -1,6 +1,7 @@
-use Rattle.std.proofs.Common.{◌≡◌, ◌↔◌, ◌++◌, All, length}
+use Rattle.std.proofs.Common.{◌≡◌, ◌↔◌, ◌+◌, ◌≤◌, ◌++◌, All, length, sum_by}
 use Rattle.std.specs.Vec.Iter.{into_iter_items, into_iter_len}
-use Rattle.world.specs.Boots.{IsWithinLimits, HoldsImage, AreBooted}
+use Rattle.world.specs.declared.boot.NewGuest.{NewGuest}
+use Rattle.world.specs.Boots.{IsWithinLimits, HoldsImage, AreBooted, FramesComeFirst}
 use Rattle.world.proofs.world.World.with_guests.Given as goal
 
 -- the guests so far are booted
@@ -11,6 +12,9 @@ invariant-loop-guest g l = record {
   within : All IsWithinLimits (into_iter_items l.guest-iterator);
   hold : All HoldsImage (into_iter_items l.guest-iterator);
   booted : AreBooted l.log_runs l.yielded l.world.tenants;
+  first : FramesComeFirst l.world.pool l.world.tenants;
+  taken : length l.fn.self.pool.free + length l.fn.self.slots.free ≤ length l.world.pool.free + length l.world.slots.free + sum_by (λ (n : NewGuest). n.pages) l.yielded;
+  no_failure : g.S.SwapStore.failed l.world.store ≡ g.S.SwapStore.failed l.fn.self.store;
   shares : l.world.shares ≡ l.fn.self.shares;
   frames : l.world.frames ≡ l.fn.self.frames;
   level : l.world.level ≡ l.fn.self.level;

@@ -3,7 +3,7 @@ use Rattle.std.proofs.lemmas.Result.{on_err_weaker}
 use Rattle.world.specs.Worlds.{Sound}
 use Rattle.tenant.proofs.Keeping.{moved_kept}
 use Rattle.world.proofs.Worlds.{guest_inside, tenants_of, lent_of, sound_after, same_guests}
-use Rattle.world.proofs.world.World.evict_of.Goals as goal
+use Rattle.world.proofs.world.World.move_out.Goals as goal
 
 pub evict_page-requires-clause-lent : goal.evict_page-requires-clause-lent
 evict_page-requires-clause-lent g c =
