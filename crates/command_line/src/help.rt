@@ -81,6 +81,7 @@ Events, one a line, and what is replied to each:
   level               the policy's turn: level high, level soft, level hard or level low, at which guests may be blocked
   audit               frames N free N private N shared N refs N slots N of N
   dump G              its state, as exec prints it
+  stats G             stats G first N copied N read N joined N fault N run N debugger N level N evict N: why its pages have moved
 
 A guest that is blocked makes no step until the next level: step G done 0 blocked, run G done 0 blocked.
 

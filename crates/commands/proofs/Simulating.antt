@@ -53,6 +53,7 @@ one_for guests slots event.Sample allowed = tt
 one_for guests slots event.Level allowed = tt
 one_for guests slots event.Audit allowed = tt
 one_for guests slots (event.Dump guest) allowed = inside guests guest allowed
+one_for guests slots (event.Stats guest) allowed = inside guests guest allowed
 one_for guests slots (event.Damage slot byte) allowed =
     let parts = and_parts _ _ allowed in
     (ltb-true slot slots parts.0, omega (arith, leb-true byte 4095 parts.1))

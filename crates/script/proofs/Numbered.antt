@@ -22,4 +22,5 @@ none_of_four name.Sample a b c d = refl
 none_of_four name.Level a b c d = refl
 none_of_four name.Audit a b c d = refl
 none_of_four name.Dump a b c d = refl
+none_of_four name.Stats a b c d = refl
 none_of_four name.Damage a b c d = refl

@@ -1,6 +1,6 @@
 -- Which events a header allows.
 use Rattle.std.specs.Prelude.{ℕ, Bool, true, false, ◌&&◌, nat_lt, nat_le, List, length, Option, Some, None, slice_get}
-use Rattle.script.specs.Events.{Event, Step, Run, In, Drain, Target, Poke, Write, Probe, Fault, Scan, Evict, Sample, Level, Audit, Dump, Damage}
+use Rattle.script.specs.Events.{Event, Step, Run, In, Drain, Target, Poke, Write, Probe, Fault, Scan, Evict, Sample, Level, Audit, Dump, Stats, Damage}
 use Rattle.script.specs.Headers.{GuestLine, Header}
 
 -- so many pages are at most the guest's, which there is
@@ -26,6 +26,7 @@ is_allowed guests slots Sample = true
 is_allowed guests slots Level = true
 is_allowed guests slots Audit = true
 is_allowed guests slots (Dump guest) = nat_lt guest (length guests)
+is_allowed guests slots (Stats guest) = nat_lt guest (length guests)
 is_allowed guests slots (Damage slot byte) = nat_lt slot slots && nat_le byte 4095
 
 -- the same of a header

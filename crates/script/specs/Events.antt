@@ -30,6 +30,7 @@ pub data Event : Type 0 where
   Level : Event
   Audit : Event
   Dump : ℕ → Event
+  Stats : ℕ → Event
   -- a slot and its byte
   Damage : ℕ → ℕ → Event
 
@@ -54,6 +55,7 @@ event_of_numbers name.Sample Zero = Some Sample
 event_of_numbers name.Level Zero = Some Level
 event_of_numbers name.Audit Zero = Some Audit
 event_of_numbers name.Dump (One guest) = option_map Dump (number_of guest)
+event_of_numbers name.Stats (One guest) = option_map Stats (number_of guest)
 event_of_numbers name.Damage (Two slot byte) = both Damage (number_of slot) (number_of byte)
 event_of_numbers _ _ = None
 

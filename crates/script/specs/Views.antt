@@ -2,7 +2,7 @@
 use Rattle.std.specs.Prelude.{ℕ, List, map, option_map}
 use Rattle.std.specs.Borrow.{Bor}
 use Rattle.script.specs.Words.{Arguments, Zero, One, Two, Three, Four}
-use Rattle.script.specs.Events.{Event, Step, Run, In, Drain, Target, Poke, Write, Probe, Fault, Scan, Evict, Sample, Level, Audit, Dump, Damage}
+use Rattle.script.specs.Events.{Event, Step, Run, In, Drain, Target, Poke, Write, Probe, Fault, Scan, Evict, Sample, Level, Audit, Dump, Stats, Damage}
 use Rattle.script.specs.Headers as headers
 use Rattle.script.specs.Headers.{GuestLine, Part, Draft, Header}
 use Rattle.script.specs.Statements.{Statement, OfHeader, OfEvent}
@@ -50,6 +50,7 @@ event_view event.Sample = Sample
 event_view event.Level = Level
 event_view event.Audit = Audit
 event_view (event.Dump guest) = Dump guest
+event_view (event.Stats guest) = Stats guest
 event_view (event.Damage slot byte) = Damage slot byte
 
 abbrev pub guest_view : GuestLineCode → GuestLine

@@ -45,7 +45,8 @@ pub fn is_allowed(guests: &[GuestLine], slots: u32, event: &Event) -> bool
         | Event::Fault { guest }
         | Event::Scan { guest, .. }
         | Event::Evict { guest, .. }
-        | Event::Dump { guest } => has_guest(guests, *guest),
+        | Event::Dump { guest }
+        | Event::Stats { guest } => has_guest(guests, *guest),
         Event::Target { guest, pages } => has_pages(guests, *guest, *pages),
         Event::Poke {
             guest,

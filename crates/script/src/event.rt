@@ -80,6 +80,10 @@ pub enum Event {
     Dump {
         guest: u32,
     },
+    /// How often the pages of a guest have moved, and why, is printed.
+    Stats {
+        guest: u32,
+    },
     /// A byte of a slot, 0 to 4,095, is inverted.
     Damage {
         slot: u32,
@@ -177,6 +181,9 @@ fn with_one(name: EventName, guest: &str) -> Option<Event>
             guest: number(guest)?,
         }),
         EventName::Dump => Some(Event::Dump {
+            guest: number(guest)?,
+        }),
+        EventName::Stats => Some(Event::Stats {
             guest: number(guest)?,
         }),
         _ => None,

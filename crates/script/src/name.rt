@@ -32,6 +32,7 @@ pub enum EventName {
     Level,
     Audit,
     Dump,
+    Stats,
     Damage,
 }
 
@@ -73,6 +74,7 @@ pub fn event_name(word: &str) -> Option<EventName>
         "level" => Some(EventName::Level),
         "audit" => Some(EventName::Audit),
         "dump" => Some(EventName::Dump),
+        "stats" => Some(EventName::Stats),
         "damage" => Some(EventName::Damage),
         _ => None,
     }

@@ -8,7 +8,7 @@ use std::test::Fail;
 const EACH_FORM: &str =
     "# a comment\nslots 4\nguest a.elf 16 100\nframes 008\r\n\nfail write 3\nguest b 64 50 6\nadmit\n\
     seed 4294967295\nprofile 2\nstep 0 5\nrun 1 4294967295\nin 0 41fF\ndrain 1\ntarget 1 64\npoke 0 37 0x8000000a\n\
-    write 0 0x1000 00ff\nprobe 1 0xFfFf 1024\nfault 0\nscan 0 99\nevict 1 3\nsample\nlevel\naudit\n#dump 9\ndump 1\ndamage 3 4095";
+    write 0 0x1000 00ff\nprobe 1 0xFfFf 1024\nfault 0\nscan 0 99\nevict 1 3\nsample\nlevel\naudit\n#dump 9\ndump 1\nstats 0\ndamage 3 4095";
 
 /// The same script, as it is printed for programmers.
 const EACH_VALUE: &str = "Script { header: Header { frames: 8, slots: 4, seed: 4294967295, \
@@ -19,7 +19,7 @@ const EACH_VALUE: &str = "Script { header: Header { frames: 8, slots: 4, seed: 4
     Drain { guest: 1 }, Target { guest: 1, pages: 64 }, Poke { guest: 0, register: 37, value: 2147483658 }, \
     Write { guest: 0, address: 4096, bytes: [0, 255] }, Probe { guest: 1, address: 65535, length: 1024 }, \
     Fault { guest: 0 }, Scan { guest: 0, page: 99 }, Evict { guest: 1, page: 3 }, Sample, Level, Audit, \
-    Dump { guest: 1 }, Damage { slot: 3, byte: 4095 }] }";
+    Dump { guest: 1 }, Stats { guest: 0 }, Damage { slot: 3, byte: 4095 }] }";
 
 /// Four lines of a header, whose guest 0 has 16 pages.
 const HEADER: &str = "frames 8\nslots 4\nseed 1\nguest a.elf 16 100\n";
@@ -33,12 +33,12 @@ const TAKEN: &str =
 
 /// Lines that are refused behind the header: for their words and blanks, their numbers, and their guests and ranges.
 const REFUSED: &str =
-    "stop\nStep 0 1\nsteps 0 1\nstep 0\nstep 0 1 2\ndrain\ndrain 0 0\nsample 0\nlevel 0\naudit 0\ndump\n\
+    "stop\nStep 0 1\nsteps 0 1\nstep 0\nstep 0 1 2\ndrain\ndrain 0 0\nsample 0\nlevel 0\naudit 0\ndump\nstats\nstats 0 0\n\
     probe 0 0x0\nstep 0 1 1 1 1 1\n step 0 1\nstep  0 1\nstep 0  1\nstep 0 1 \nstep\t0 1\nstep 0 1\rx\n # step\n \n\
     step 0 4294967296\nstep 0 99999999999999999999\nstep 0 +1\nstep 0 -1\nstep 0 0x1\nstep 0 1a\nstep 0 \u{e9}\n\
     in 0\nin 0 0\nin 0 000\nin 0 0g\nin 0 \nwrite 0 0x0 \nwrite 0 0x0 0\nwrite 0 0 00\npoke 0 1 0x\n\
     poke 0 1 0x000000000\npoke 0 1 0X1\npoke 0 1 1\npoke 0 1 0xg\nstep 1 1\nrun 1 1\nin 1 00\ndrain 1\ntarget 1 0\n\
-    poke 1 0 0x0\nwrite 1 0x0 00\nprobe 1 0x0 1\nfault 1\nscan 1 0\nevict 1 0\ndump 1\ntarget 0 17\npoke 0 38 0x0\n\
+    poke 1 0 0x0\nwrite 1 0x0 00\nprobe 1 0x0 1\nfault 1\nscan 1 0\nevict 1 0\ndump 1\nstats 1\ntarget 0 17\npoke 0 38 0x0\n\
     probe 0 0x0 0\nprobe 0 0x0 1025\ndamage 4 0\ndamage 0 4096\nframes 8\nslots 4\nseed 1\nframes\nguest b 1\n\
     guest  1 2\nguest b 1 2 3 4\nguest b x 2\nfail read 0\nfail both 1\nfail read\nadmit 1\nprofile";
 

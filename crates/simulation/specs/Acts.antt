@@ -28,6 +28,7 @@ IsFor guests slots event.Sample = Unit {0}
 IsFor guests slots event.Level = Unit {0}
 IsFor guests slots event.Audit = Unit {0}
 IsFor guests slots (event.Dump guest) = guest < guests
+IsFor guests slots (event.Stats guest) = guest < guests
 IsFor guests slots (event.Damage slot byte) = (slot < slots) × (byte < 4096)
 
 -- a register that an event writes is there
@@ -65,6 +66,7 @@ act_of event.Sample = act.World happening.Sample
 act_of event.Level = act.World happening.Level
 act_of event.Audit = act.Audit
 act_of (event.Dump guest) = act.Dump guest
+act_of (event.Stats guest) = act.Stats guest
 act_of (event.Damage slot byte) = act.Damage slot byte
 
 -- the guest is there that is shown something of
@@ -80,6 +82,7 @@ IsDoable guests slots (act.World e) = IsProper e × HasGuest guests e
 IsDoable guests slots act.Skip = Unit {0}
 IsDoable guests slots act.Audit = Unit {0}
 IsDoable guests slots (act.Dump g) = g < guests
+IsDoable guests slots (act.Stats g) = g < guests
 IsDoable guests slots (act.Damage slot byte) = (slot < slots) × (byte < 4096)
 
 -- it damages no slot

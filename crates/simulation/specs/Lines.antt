@@ -24,6 +24,7 @@ use Rattle.world.specs.declared.debugging.DebugError.TheVariants as debug
 use Rattle.world.specs.declared.faulting.FaultError.{FaultError}
 use Rattle.world.specs.declared.turns.Turn.{Turn}
 use Rattle.world.specs.declared.books.BookCounts.{BookCounts}
+use Rattle.tenant.specs.declared.counts.MoveCounts.{MoveCounts}
 use Rattle.tenant.specs.declared.moves.EvictError.{EvictError}
 use Rattle.tenant.specs.declared.moves.EvictError.TheVariants.{NoSwap, SwapWrite}
 use Rattle.world.specs.declared.running.End.{End}
@@ -74,6 +75,7 @@ heading_text (heading.Step guest) = codes "step " ++ decimal guest ++ codes " "
 heading_text (heading.Run guest) = codes "run " ++ decimal guest ++ codes " "
 heading_text (heading.In guest) = codes "in " ++ decimal guest ++ codes " "
 heading_text (heading.Drain guest) = codes "drain " ++ decimal guest ++ codes " "
+heading_text (heading.Stats guest) = codes "stats " ++ decimal guest ++ codes " "
 heading_text heading.Bare = []
 
 -- steps of a guest
@@ -149,6 +151,22 @@ books_text b =
     ++ codes " shared " ++ decimal b.shared ++ codes " refs " ++ decimal b.references
     ++ codes " slots " ++ decimal b.swapped ++ codes " of " ++ decimal b.slots ++ codes "\n"
 
+-- how many pages got a frame, or came to read a shared one, by why
+abbrev pub gained_text : MoveCounts → List ℕ
+gained_text m =
+    codes "first " ++ decimal m.first ++ codes " copied " ++ decimal m.copied ++ codes " read " ++ decimal m.read
+    ++ codes " joined " ++ decimal m.joined
+
+-- how many pages left their frames for slots, by why
+abbrev pub left_text : MoveCounts → List ℕ
+left_text m =
+    codes " fault " ++ decimal m.fault ++ codes " run " ++ decimal m.run ++ codes " debugger " ++ decimal m.debugger
+    ++ codes " level " ++ decimal m.level ++ codes " evict " ++ decimal m.order
+
+-- how often the pages of a guest have moved since its boot
+abbrev pub moves_text : Heading → MoveCounts → List ℕ
+moves_text h m = heading_text h ++ gained_text m ++ left_text m ++ codes "\n"
+
 -- the level of a turn of the policy, or want of memory to plan it
 abbrev pub turned_text : Result Turn AllocError → List ℕ
 turned_text (Ok turn) = level_text turn.level
@@ -183,6 +201,7 @@ heading_of (act.World (happening.Steps guest count)) = heading.Step guest
 heading_of (act.World (happening.Run guest count)) = heading.Run guest
 heading_of (act.World (happening.Feed guest bytes)) = heading.In guest
 heading_of (act.World (happening.Input guest item)) = heading.Drain guest
+heading_of (act.Stats guest) = heading.Stats guest
 heading_of _ = heading.Bare
 
 -- the line of what is answered to an act, or the lines of a dump
@@ -191,6 +210,7 @@ said_text h (said.Answered a) = answer_text h a
 said_text h said.Skipped = codes "skipped\n"
 said_text h (said.Counted counts) = books_text counts
 said_text h (said.Dumped done) = dumped_text done
+said_text h (said.Moved counts) = moves_text h counts
 said_text h said.Damaged = codes "ok\n"
 
 -- the lines of what is answered to events, one after another

@@ -72,13 +72,15 @@ pub record IsDamaged {Store : Type 0} (failures : Store → ℕ) (held : Store �
   pub beside : w' ≡ record w { store = w'.store }
 
 -- What is answered to an act, and what it makes of the world: what `World::apply` answers to an event, at a tax of 75 percent and by the
--- words that a generator gives next (`Happens`); what is read of the world as it is; or that a slot is damaged. These draw no word.
+-- words that a generator gives next (`Happens`); what is read of the world as it is; or that a slot is damaged. These draw no word. How
+-- often pages have moved is counted beside the world: its definition has no such number, and nothing is said of what they are.
 abbrev pub IsTold : {Store : Type 0} → (trusted : Store → Type 0) → (failures : Store → ℕ) → (honest : Store → Type 0) → (slots : Store → ℕ) → (held : Store → ℕ → Option (List ℕ)) → Stream → WorldIs Store → Act → Said → Stream → WorldIs Store → Type 0
 IsTold trusted failures honest slots held words w (act.World e) (said.Answered a) rest w' = Happens trusted failures honest slots held 75 words w e a rest w'
 IsTold trusted failures honest slots held words w act.Skip said.Skipped rest w' = (w' ≡ w) × (rest ≡ words)
 IsTold trusted failures honest slots held words w act.Audit (said.Counted counts) rest w' = AreCounts w (slots w.store) counts × (w' ≡ w) × (rest ≡ words)
 IsTold trusted failures honest slots held words w (act.Dump g) (said.Dumped done) rest w' =
     IfOk done (λ text. trusted w.store → IsDumpIn w g (string_bytes text)) × (w' ≡ w) × (rest ≡ words)
+IsTold trusted failures honest slots held words w (act.Stats g) (said.Moved counts) rest w' = (w' ≡ w) × (rest ≡ words)
 IsTold trusted failures honest slots held words w (act.Damage slot byte) said.Damaged rest w' = IsDamaged failures held w slot byte w' × (rest ≡ words)
 IsTold trusted failures honest slots held words w _ _ rest w' = ⊥
 

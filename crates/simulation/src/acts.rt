@@ -18,6 +18,8 @@ pub enum Act {
     Audit,
     /// The state of this guest is read.
     Dump(usize),
+    /// How often the pages of this guest have moved is read.
+    Stats(usize),
     /// All bits of this slot's byte of this place are inverted.
     Damage(u32, u32),
 }
@@ -95,6 +97,7 @@ pub fn act_of(event: Event) -> Act
         Event::Level => Act::World(Happening::Level),
         Event::Audit => Act::Audit,
         Event::Dump { guest } => Act::Dump(guest as usize),
+        Event::Stats { guest } => Act::Stats(guest as usize),
         Event::Damage { slot, byte } => Act::Damage(slot, byte),
     }
 }

@@ -62,6 +62,10 @@ pub(crate) fn perform<S: Damage, R: Rng>(
             world.is_sound();
             Said::Dumped(dump_of(alloc, world, g))
         }
+        Act::Stats(g) => {
+            world.is_sound();
+            Said::Moved(world.counts(g))
+        }
         Act::Damage(slot, byte) => {
             world.damage(slot, byte);
             world.is_sound();

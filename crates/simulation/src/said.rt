@@ -1,6 +1,6 @@
 //! What is answered to what is done.
 use std::alloc::AllocError;
-use world::{Answer, BookCounts};
+use world::{Answer, BookCounts, MoveCounts};
 
 /// What is answered to an act.
 #[derive(Drop)]
@@ -13,6 +13,8 @@ pub enum Said {
     Counted(BookCounts),
     /// The state of a guest, as `dump::dump` writes it; or there was no memory for it.
     Dumped(Result<String, AllocError>),
+    /// How often the pages of a guest have moved since its boot, and why. No clause says what these numbers are.
+    Moved(MoveCounts),
     /// A byte of a slot is inverted.
     Damaged,
 }

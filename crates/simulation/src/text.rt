@@ -14,7 +14,9 @@ use sharetab::GuestPage;
 use std::alloc::AllocError;
 use tenant::EvictError;
 use world::events::Fed;
-use world::{Answer, BookCounts, DebugError, End, Event, Evicted, FaultError, Ran, RunStop, Turn};
+use world::{
+    Answer, BookCounts, DebugError, End, Event, Evicted, FaultError, MoveCounts, Ran, RunStop, Turn,
+};
 
 /// What a line begins with where it names its event and its guest.
 #[derive(Clone, Copy, Debug, PartialEq, Eq)]
@@ -23,6 +25,7 @@ pub enum Heading {
     Run(usize),
     In(usize),
     Drain(usize),
+    Stats(usize),
     /// It names neither.
     Bare,
 }
@@ -36,6 +39,7 @@ pub fn heading_of(act: &Act) -> Heading
         Act::World(Event::Run(guest, _)) => Heading::Run(*guest),
         Act::World(Event::Feed(guest, _)) => Heading::In(*guest),
         Act::World(Event::Input(guest, _)) => Heading::Drain(*guest),
+        Act::Stats(guest) => Heading::Stats(*guest),
         _ => Heading::Bare,
     }
 }
@@ -97,6 +101,7 @@ fn push_heading(out: &mut String, heading: Heading) -> Result<(), AllocError>
         Heading::Run(guest) => write!(out, "run {guest} "),
         Heading::In(guest) => write!(out, "in {guest} "),
         Heading::Drain(guest) => write!(out, "drain {guest} "),
+        Heading::Stats(guest) => write!(out, "stats {guest} "),
         Heading::Bare => Ok(()),
     }
 }
@@ -270,6 +275,36 @@ fn push_books(out: &mut String, counts: BookCounts) -> Result<(), AllocError>
     out.push_str("\n")
 }
 
+// How many pages got a frame, or came to read a shared one.
+fn push_gained(out: &mut String, counts: MoveCounts) -> Result<(), AllocError>
+    ensures { OnOk result (string_bytes out.new ≡ string_bytes out.old ++ spec.gained_text counts) }
+{
+    push_count(out, "first ", counts.first)?;
+    push_count(out, " copied ", counts.copied)?;
+    push_count(out, " read ", counts.read)?;
+    push_count(out, " joined ", counts.joined)
+}
+
+// How many pages left their frames for slots.
+fn push_left(out: &mut String, counts: MoveCounts) -> Result<(), AllocError>
+    ensures { OnOk result (string_bytes out.new ≡ string_bytes out.old ++ spec.left_text counts) }
+{
+    push_count(out, " fault ", counts.fault)?;
+    push_count(out, " run ", counts.run)?;
+    push_count(out, " debugger ", counts.debugger)?;
+    push_count(out, " level ", counts.level)?;
+    push_count(out, " evict ", counts.order)
+}
+
+fn push_moves(out: &mut String, heading: Heading, counts: MoveCounts) -> Result<(), AllocError>
+    ensures { OnOk result (string_bytes out.new ≡ string_bytes out.old ++ spec.moves_text heading counts) }
+{
+    push_heading(out, heading)?;
+    push_gained(out, counts)?;
+    push_left(out, counts)?;
+    out.push_str("\n")
+}
+
 fn push_turned(out: &mut String, done: &Result<Turn, AllocError>) -> Result<(), AllocError>
     ensures { OnOk result (string_bytes out.new ≡ string_bytes out.old ++ spec.turned_text done.now) }
 {
@@ -319,6 +354,7 @@ pub fn push_said(out: &mut String, heading: Heading, said: &Said) -> Result<(), 
         Said::Skipped => out.push_str("skipped\n"),
         Said::Counted(counts) => push_books(out, *counts),
         Said::Dumped(done) => push_dumped(out, done),
+        Said::Moved(counts) => push_moves(out, heading, *counts),
         Said::Damaged => out.push_str("ok\n"),
     }
 }
