@@ -62,7 +62,7 @@ fn order_in<'a>(
 
 /// What is wrong with console input that is refused.
 const INPUT_REFUSED: &str =
-    "the value of '--in <HEX>' is no even number of hexadecimal digits, or more than 512";
+    "the value of '--in <HEX>' is no even number of hexadecimal digits, or more than 512; printf TEXT | od -An -v -tx1 | tr -d ' \\n' makes those of a text";
 
 /// The bytes of console input in hexadecimal digits, two a byte; none where they are no such digits or more than 512.
 fn console_input(alloc: Global, digits: &str) -> Result<Option<ConsoleInput>, AllocError> {

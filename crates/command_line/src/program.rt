@@ -3,6 +3,7 @@ ghost use Rattle.std.specs.Prelude.{◌≡◌, ◌≢◌, ◌<◌, ◌⊎◌, If
 ghost use Rattle.std.specs.IoError.{error_kind};
 ghost use Rattle.command_line.specs.Exit.{code_of};
 
+use crate::explaining::{Subject, explain};
 use crate::parsing::{Order, parse};
 use clap::Error;
 use commands::{
@@ -55,7 +56,7 @@ enum Answer {
 /// among the words. `input` is not read yet.
 ///
 /// At least one of `out` and `err` stays as it was. Status 0: done, and `out` has what the command prints. 1: an input was
-/// refused, and the line `vmhost: ` with the fault stands in `err`; or `out` or `err` could not be written. 2: the command
+/// refused, and the line `vmhost: ` with the fault stands in `err`, and words for it may stand behind that; or `out` or `err` could not be written. 2: the command
 /// line was refused, and `err` has the reason. 3: the machine stopped before its last step; the last line in `out` says why.
 pub fn program<R, I, O, E>(rt: &R, words: &[String], input: &mut I, out: &mut O, err: &mut E) -> u8
 where
@@ -94,10 +95,22 @@ where
     ensures one_output { (out.new ≡ out.old) ⊎ (err.new ≡ err.old) }
 {
     match order {
-        Order::Asm(order) => write_answer(assembled(rt, order), out, err),
-        Order::Dis(order) => write_answer(disassembled(rt, order), out, err),
-        Order::Exec(order, input) => write_answer(executed(rt, order, &input), out, err),
-        Order::Replay(order) => write_answer(replayed(rt, order), out, err),
+        Order::Asm(order) => write_answer(rt, Subject::Asm(order), assembled(rt, order), out, err),
+        Order::Dis(order) => {
+            write_answer(rt, Subject::Dis(order), disassembled(rt, order), out, err)
+        }
+        Order::Exec(order, input) => {
+            write_answer(
+                rt,
+                Subject::Exec(order),
+                executed(rt, order, &input),
+                out,
+                err,
+            )
+        }
+        Order::Replay(order) => {
+            write_answer(rt, Subject::Replay(order), replayed(rt, order), out, err)
+        }
         Order::Sim(order) => answer_script(rt, order, out, err),
     }
 }
@@ -115,9 +128,9 @@ where
 {
     let text = match script_text(rt, order) {
         Ok(text) => text,
-        Err(fault) => return write_fault(&fault, err),
+        Err(fault) => return write_refusal(rt, Subject::ScriptFile, &fault, err),
     };
-    write_answer(simulated(rt, &text), out, err)
+    write_answer(rt, Subject::Script(&text), simulated(rt, &text), out, err)
 }
 
 fn assembled<'a, R: Files + AllocGlobal>(rt: &R, order: Asm<'a>) -> Result<Answer, Fault<'a>> {
@@ -146,11 +159,17 @@ fn simulated<'a, R: Files + AllocGlobal>(rt: &R, text: &'a str) -> Result<Answer
 }
 
 /// Writes what a command answered: what it prints, or its fault.
-fn write_answer<O: Write, E: Write>(
+fn write_answer<R, O, E>(
+    rt: &R,
+    subject: Subject<'_>,
     answered: Result<Answer, Fault<'_>>,
     out: &mut O,
     err: &mut E,
 ) -> io::Result<Status>
+where
+    R: Files + AllocGlobal,
+    O: Write,
+    E: Write,
     ensures usage { IfOk result (λ s. code_of s ≢ 2) }
     ensures refused { IfOk result (λ s. code_of s ≡ 1 → out.new ≡ out.old) }
     ensures carried_out { IfOk result (λ s. code_of s ≢ 1 → err.new ≡ err.old) }
@@ -158,7 +177,7 @@ fn write_answer<O: Write, E: Write>(
 {
     match answered {
         Ok(answer) => print_answer(&answer, out),
-        Err(fault) => write_fault(&fault, err),
+        Err(fault) => write_refusal(rt, subject, &fault, err),
     }
 }
 
@@ -186,6 +205,23 @@ fn print_answer<O: Write>(answer: &Answer, out: &mut O) -> io::Result<Status>
 fn write_text<O: Write>(out: &mut O, text: &str) -> io::Result<()> {
     out.write_all(text.as_bytes())?;
     out.flush()
+}
+
+/// Writes the fault of what was asked for, and words for it in a line of their own, where there are any.
+fn write_refusal<R: Files + AllocGlobal, E: Write>(
+    rt: &R,
+    subject: Subject<'_>,
+    fault: &Fault<'_>,
+    err: &mut E,
+) -> io::Result<Status>
+    ensures { IfOk result (λ s. code_of s ≡ 1) }
+{
+    let status = write_fault(fault, err)?;
+    if let Some(words) = explain(rt, subject, fault) {
+        writeln!(err, "  {words}")?;
+        err.flush()?;
+    }
+    Ok(status)
 }
 
 fn write_fault<E: Write>(fault: &Fault<'_>, err: &mut E) -> io::Result<Status>

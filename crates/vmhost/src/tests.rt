@@ -31,7 +31,7 @@ enum Step {
     Remove,
     /// The command line is answered by this alone, with status 0.
     Prints(&'static str, &'static str),
-    /// The command line is answered by this alone, on `err`, with status 1.
+    /// The command line is answered by this line, on `err`, and maybe by words behind it, with status 1.
     Refuses(&'static str, &'static str),
     /// The file holds these bytes.
     Holds(&'static [u8]),
@@ -116,10 +116,19 @@ fn refuses<R: Files + AllocGlobal + Abort>(
     line: &str,
     err: &str,
 ) -> Result<(), Fail> {
-    let said = say(rt, line, file)?;
+    let mut said = say(rt, line, file)?;
     let err = err.replace(rt.alloc(), "FILE", file)?;
+    said.err = first_line(rt.alloc(), said.err.as_str())?;
     expect(rt, line, &said, (1, "", err.as_str()));
     Ok(())
+}
+
+/// The first line of a text, with its end; the words behind it are those of the cases.
+fn first_line(alloc: Global, text: &str) -> Result<String, AllocError> {
+    match text.split_once('\n') {
+        Some((line, _)) => format!(in alloc; "{line}\n"),
+        None => String::from_str(alloc, text),
+    }
 }
 
 /// Runs the program on a command line, in which `FILE` stands for the name of a file.

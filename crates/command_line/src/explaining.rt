@@ -1,0 +1,228 @@
+//! Words behind the line of a refusal: what was found, where, and what to try.
+//!
+//! Files are read again for them, plain files alone: where that fails, where memory is refused or where nothing more can be told,
+//! there are no words.
+use commands::image_file::whole_file;
+use commands::{Asm, Dis, Exec, Fault, Replay};
+use diagnosis::{Memory, Words, boot, elf, file, log, raw, script_line, source};
+use script::Script;
+use std::alloc::Global;
+use std::fs::File;
+use std::io::{ErrorKind, Read};
+use std::rt::Files;
+use std::{fs, io};
+
+/// What was asked for when it was refused.
+#[derive(Clone, Copy)]
+pub enum Subject<'a> {
+    /// A source was to be assembled.
+    Asm(Asm<'a>),
+    /// An executable was to be printed.
+    Dis(Dis<'a>),
+    /// An image was to be run.
+    Exec(Exec<'a>),
+    /// A log was to be replayed.
+    Replay(Replay<'a>),
+    /// The file of a script was to be read.
+    ScriptFile,
+    /// The events of a script of this text were to be done.
+    Script(&'a str),
+}
+
+/// Words for a fault of what was asked for.
+pub fn explain<R: Files + AllocGlobal>(
+    rt: &R,
+    subject: Subject<'_>,
+    fault: &Fault<'_>,
+) -> Option<Words> {
+    match *fault {
+        Fault::File { name } => file_words(rt, subject, name),
+        Fault::Asm { fault, line } => source_words(rt, subject, fault.number(), line),
+        Fault::Elf { fault } => executable_words(rt, subject, fault),
+        Fault::Raw => raw_words(rt, subject),
+        Fault::Script { line } => script_words(rt.alloc(), subject, line),
+        Fault::Boot { error } => boot_words(rt, subject, error.number()),
+        Fault::Log { fault } => log_words(rt.alloc(), fault.number()),
+        Fault::Memory => Words::of(rt.alloc(), "the host has no memory left for it").ok(),
+    }
+}
+
+/// The bytes of a plain file.
+fn contents<R: Files + AllocGlobal>(rt: &R, name: &str) -> Option<Vec<u8>> {
+    whole_file(rt.alloc(), plain_file(rt, name)?).ok()
+}
+
+/// A plain file: another kind, as a pipe, can't be read for the second time.
+fn plain_file<R: Files>(rt: &R, name: &str) -> Option<R::File> {
+    if fs::metadata(rt, name).ok()?.is_file() {
+        File::open(rt, name).ok()
+    } else {
+        None
+    }
+}
+
+/// Why a file can't be read or written.
+fn file_words<R: Files + AllocGlobal>(rt: &R, subject: Subject<'_>, name: &str) -> Option<Words> {
+    let reason = match own_reason(subject) {
+        Some(reason) => reason,
+        None => match system_reason(rt, name) {
+            Some(ErrorKind::NotFound) if is_output(subject, name) => file::UNMADE,
+            found => file::reason(found?)?,
+        },
+    };
+    Words::of(rt.alloc(), reason).ok()
+}
+
+/// Why the command refuses the names of its files.
+fn own_reason(subject: Subject<'_>) -> Option<&'static str> {
+    match subject {
+        Subject::Asm(order) if order.source == order.output => Some(file::SOURCE_IS_OUTPUT),
+        Subject::Exec(order) if is_log(order, order.image) => Some(file::IMAGE_IS_LOG),
+        _ => None,
+    }
+}
+
+/// Whether the log of a run has this name.
+fn is_log(order: Exec<'_>, name: &str) -> bool {
+    match order.log {
+        Some(log) => log == name,
+        None => false,
+    }
+}
+
+/// Whether a file of this name was to be written.
+fn is_output(subject: Subject<'_>, name: &str) -> bool {
+    match subject {
+        Subject::Asm(order) => order.output == name,
+        Subject::Exec(order) => is_log(order, name),
+        _ => false,
+    }
+}
+
+/// The kind of error by which the system refuses to open a file for reading.
+fn system_reason<R: Files>(rt: &R, name: &str) -> Option<ErrorKind> {
+    match fs::metadata(rt, name) {
+        Err(error) => Some(error.kind()),
+        Ok(found) if found.is_dir() => Some(ErrorKind::IsADirectory),
+        Ok(found) if found.is_file() => match File::open(rt, name) {
+            Err(error) => Some(error.kind()),
+            Ok(_) => None,
+        },
+        Ok(_) => None,
+    }
+}
+
+/// What is wrong with a line of a source.
+fn source_words<R: Files + AllocGlobal>(
+    rt: &R,
+    subject: Subject<'_>,
+    number: u32,
+    line: u64,
+) -> Option<Words> {
+    let Subject::Asm(order) = subject else {
+        return None;
+    };
+    let bytes = contents(rt, order.source)?;
+    source::explain(rt.alloc(), number, line, &bytes).ok()?
+}
+
+/// What is wrong with an executable.
+fn executable_words<R: Files + AllocGlobal>(
+    rt: &R,
+    subject: Subject<'_>,
+    fault: elf32::Fault,
+) -> Option<Words> {
+    match subject {
+        Subject::Exec(order) => {
+            let memory = Memory::Exec { pages: order.pages };
+            image_words(rt, order.image, memory, fault)
+        }
+        Subject::Replay(order) => {
+            let pages = log_pages(rt, order)?;
+            image_words(rt, order.image, Memory::Replay { pages }, fault)
+        }
+        Subject::Dis(order) => image_words(rt, order.image, Memory::Kseg0, fault),
+        Subject::Script(text) => guest_words(rt, text, fault),
+        Subject::Asm(_) | Subject::ScriptFile => None,
+    }
+}
+
+/// What is wrong with the executable of a file, where that has this fault.
+fn image_words<R: Files + AllocGlobal>(
+    rt: &R,
+    name: &str,
+    memory: Memory,
+    fault: elf32::Fault,
+) -> Option<Words> {
+    let bytes = contents(rt, name)?;
+    let refusal = elf::explain(rt.alloc(), &bytes, memory).ok()??;
+    if refusal.fault == fault {
+        Some(refusal.words)
+    } else {
+        None
+    }
+}
+
+/// What is wrong with the first executable that is refused of a script's guests, where it has this fault.
+fn guest_words<R: Files + AllocGlobal>(rt: &R, text: &str, fault: elf32::Fault) -> Option<Words> {
+    let Script { header, events: _ } = script::read(rt.alloc(), text).ok()?;
+    for (number, guest) in header.guests.iter().enumerate() {
+        let bytes = contents(rt, guest.file)?;
+        let memory = Memory::Guest { pages: guest.pages };
+        if let Some(refusal) = elf::explain(rt.alloc(), &bytes, memory).ok()? {
+            if refusal.fault != fault {
+                return None;
+            }
+            return elf::of_guest(rt.alloc(), number, guest.file, &refusal.words).ok();
+        }
+    }
+    None
+}
+
+/// The number of pages that a log is of.
+fn log_pages<R: Files + AllocGlobal>(rt: &R, order: Replay<'_>) -> Option<u32> {
+    log::pages(&contents(rt, order.log)?)
+}
+
+/// What is wrong with a raw image.
+fn raw_words<R: Files + AllocGlobal>(rt: &R, subject: Subject<'_>) -> Option<Words> {
+    let (name, memory) = match subject {
+        Subject::Exec(order) => (order.image, Memory::Exec { pages: order.pages }),
+        Subject::Replay(order) => {
+            let pages = log_pages(rt, order)?;
+            (order.image, Memory::Replay { pages })
+        }
+        _ => return None,
+    };
+    let file = plain_file(rt, name)?;
+    let length = io::copy(&mut file.take(raw::MOST_BYTES + 1), &mut io::sink()).ok()?;
+    raw::explain(rt.alloc(), length, memory).ok()
+}
+
+/// What is wrong with a line of a script.
+fn script_words(alloc: Global, subject: Subject<'_>, line: u64) -> Option<Words> {
+    let Subject::Script(text) = subject else {
+        return None;
+    };
+    script_line::explain(alloc, text, line).ok()
+}
+
+/// Why a machine or the guests of a script are not booted.
+fn boot_words<R: Files + AllocGlobal>(rt: &R, subject: Subject<'_>, number: u32) -> Option<Words> {
+    match subject {
+        Subject::Exec(order) => boot::of_machine(rt.alloc(), number, order.pages).ok()?,
+        Subject::Replay(order) => {
+            boot::of_machine(rt.alloc(), number, log_pages(rt, order)?).ok()?
+        }
+        Subject::Script(text) => {
+            let Script { header, events: _ } = script::read(rt.alloc(), text).ok()?;
+            boot::of_guests(rt.alloc(), number, &header).ok()?
+        }
+        _ => None,
+    }
+}
+
+/// Why a log can't be written or replayed.
+fn log_words(alloc: Global, number: u32) -> Option<Words> {
+    Words::of(alloc, log::reason(number)?).ok()
+}

@@ -1,0 +1,4 @@
+pub mod Printable
+pub mod Pages
+pub mod Headers
+pub mod Memories
