@@ -1,5 +1,5 @@
 -- What is replied to a script.
-use Rattle.std.specs.Prelude.{◌≡◌, ℕ, false, List, [], Option, None, Some, Ok, length, map, slice_index_or}
+use Rattle.std.specs.Prelude.{◌≡◌, ℕ, false, List, Option, None, Some, Ok, length, map}
 use Rattle.script.specs.declared.event.Event.{Event}
 use Rattle.script.specs.declared.header.Fail.{Fail}
 use Rattle.script.specs.declared.header.GuestLine.{GuestLine as GuestLineCode}
@@ -12,7 +12,7 @@ use Rattle.world.specs.declared.boot.NewGuest.{NewGuest}
 use Rattle.world.specs.Boots.{AreAdmitted, AreWithinLimits}
 use Rattle.simulation.specs.Transcripts.{IsTranscript}
 use Rattle.swapstore.specs.Faults.{store_of, left_of, with_fault}
-use Rattle.swapstore.specs.Memories.{MemoryIs}
+use Rattle.swapstore.specs.Memories.{MemoryIs, AreTold, stored_at}
 use Rattle.swapstore.specs.declared.fault.FaultStore.{FaultStore}
 
 -- a script that says nothing of profiles
@@ -32,28 +32,31 @@ config_of header = record { frames = header.frames; log_runs = 1048576; admit = 
 
 -- ---- stores
 
--- no byte of a store in memory was damaged: it is honest, and true to digests
+-- no byte of a store in memory was damaged: it is honest
 abbrev pub IsWhole : MemoryIs → Type 0
 IsWhole store = store.damaged ≡ false
 
--- what a slot of it holds
+-- what was last written to a slot of it, and what a read of the slot gives
 abbrev pub slot_in : MemoryIs → ℕ → Option (List ℕ)
-slot_in store slot = Some (slice_index_or store.pages slot [])
+slot_in store slot = Some (stored_at store.pages slot).last
+
+abbrev pub IsGiven : MemoryIs → ℕ → List ℕ → Type 0
+IsGiven store slot bytes = bytes ≡ (stored_at store.pages slot).lies
 
 -- the text is what events say by the words of a seed in a world over a store in memory that is whole and has so many slots
 pub record IsOverMemory (config : Config) (seed slots : ℕ) (guests : List NewGuest) (events : List Event) (text : List ℕ) : Type 0 where
   pub store : MemoryIs
   pub whole : IsWhole store
   pub count : length store.pages ≡ slots
-  pub transcript : IsTranscript IsWhole (λ s. 0) IsWhole (λ s. length s.pages) slot_in config seed guests store events text
+  pub transcript : IsTranscript AreTold (λ s. 0) IsWhole (λ s. length s.pages) slot_in IsGiven config seed guests store events text
 
 -- the same over such a store of which one call fails
 pub record IsOverFailing (config : Config) (seed slots : ℕ) (guests : List NewGuest) (events : List Event) (text : List ℕ) : Type 0 where
   pub store : FaultStore MemoryIs
   pub whole : IsWhole (store_of store)
   pub count : length (store_of store).pages ≡ slots
-  pub transcript : IsTranscript (λ (s : FaultStore MemoryIs). IsWhole (store_of s)) (λ (s : FaultStore MemoryIs). with_fault (left_of s) 0) (λ (s : FaultStore MemoryIs). IsWhole (store_of s))
-      (λ (s : FaultStore MemoryIs). length (store_of s).pages) (λ (s : FaultStore MemoryIs). slot_in (store_of s)) config seed guests store events text
+  pub transcript : IsTranscript (λ (s : FaultStore MemoryIs). AreTold (store_of s)) (λ (s : FaultStore MemoryIs). with_fault (left_of s) 0) (λ (s : FaultStore MemoryIs). IsWhole (store_of s))
+      (λ (s : FaultStore MemoryIs). length (store_of s).pages) (λ (s : FaultStore MemoryIs). slot_in (store_of s)) (λ (s : FaultStore MemoryIs). IsGiven (store_of s)) config seed guests store events text
 
 -- over a store of which no call fails, or the one that a header names
 abbrev pub IsOver : Option Fail → Config → ℕ → ℕ → List NewGuest → List Event → List ℕ → Type 0

@@ -12,11 +12,10 @@ use journal::Journal;
 use mips_run::RunCache;
 use mips_step::{Cpu, Ppn, Why};
 use paged_bus::{InputError, PagedBus};
-use rand_core::Rng;
-use sampling::Sample;
 use std::alloc::{AllocError, Global};
 use std::marker::Model;
 use std::sync::Arc;
+use taxpolicy::SAMPLE_SIZE;
 
 /// A guest whose memory is pages, each of which is in a frame, in a slot of the swap store, or nowhere yet. In clauses it is a
 /// record, `GuestIs`: its processor, its pages and devices, the machine that its image boots, its log, the log's head, and how
@@ -67,7 +66,6 @@ impl Guest {
     ghost use Rattle.guest_log.specs.Logs.{HasRoom, IsFull, TakesRoom};
     ghost use Rattle.guest_log.specs.declared.stop.Stop.{Stop};
     ghost use Rattle.loghead.specs.Legal.{Legal};
-    ghost use Rattle.taxpolicy.specs.Sample.{drawn, after_words};
     ghost use Rattle.physmap.specs.declared.page.Page.{Page};
     ghost use Rattle.physmap.specs.declared.page.PageKind.{PageKind};
     ghost use Rattle.physmap.specs.Pages.{page_at, kind_at, is_resident, NoneInFrame, own_frame};
@@ -259,16 +257,19 @@ impl Guest {
         self.bus.is_touched(page)
     }
 
-    /// Ends a period of a sample of its pages and begins the next, as `Sample::turn` has it, of the pages that were accessed. The guest
-    /// doesn't notice.
-    pub fn sample<R: Rng>(&mut self, sample: &mut Sample, rng: &mut R)
-        requires { 0 < length self.old.bus.pages }
-        ensures guest { self.new ≡ self.old }
-        ensures first { sample.old.draws ≡ None → sample.new.active ≡ sample.old.active }
-        ensures draws { sample.new.draws ≡ Some (drawn (length self.old.bus.pages) 100 (R.stream rng.old)) }
-        ensures rest { R.stream rng.new ≡ after_words 100 (R.stream rng.old) }
+    /// How many of these draws are of a page that was accessed since it was last drawn, as `is_touched` has it; a page that was drawn
+    /// twice counts twice.
+    pub fn touched(&self, draws: &[u32; SAMPLE_SIZE]) -> u16
+        ensures { result ≤ 100 }
     {
-        self.bus.sample(sample, rng);
+        self.bus.touched(draws)
+    }
+
+    /// From now on none of the pages that were drawn counts as accessed, until it is again. The guest doesn't notice.
+    pub fn clear_touched(&mut self, draws: &[u32; SAMPLE_SIZE])
+        ensures { self.new ≡ self.old }
+    {
+        self.bus.clear_touched(draws);
     }
 
     /// The `Need` that `step` would answer. The page is one of the guest's.

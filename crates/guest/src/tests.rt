@@ -15,9 +15,6 @@ use mips_instr::Reg;
 use mips_step::{Ppn, Why};
 use paging::{Pages, evict_in, supply_first, supply_swapped};
 use physmap::{PageKind, Returned};
-use rand_core::SeedableRng;
-use rand_pcg::Pcg32;
-use sampling::Sample;
 use sharetab::Shares;
 use std::alloc::Global;
 use std::fmt::Debug;
@@ -25,7 +22,7 @@ use std::marker::Model;
 use std::process::Abort;
 use std::sync::Arc;
 use swapstore::{MemStore, SlotBook, SwapStore};
-use taxpolicy::pick_sample;
+use taxpolicy::SAMPLE_SIZE;
 
 /// Asserts one case. The tests share it, since each assertion in a function's own body makes its proof much longer.
 fn expect<T: PartialEq + Debug + Drop>(rt: &impl Abort, case: &'static str, got: T, wanted: T) {
@@ -784,27 +781,24 @@ impl Parts {
         ]
     }
 
-    /// Ends a period of a sample, of which each page is drawn, and begins the next. It answers how many draws were touched.
-    fn sample(&mut self, rt: &impl Abort, sample: &mut Sample, rng: &mut Pcg32) -> u16 {
-        if self.guest.count() == 0 {
-            panic!(rt; "there is no page");
-        }
-        self.guest.sample(sample, rng);
-        sample.active
+    fn clear(&mut self, draws: &[u32; SAMPLE_SIZE]) {
+        self.guest.clear_touched(draws);
     }
 }
 
-/// How many of the first hundred draws of four pages are no draw of page 3.
-fn draws_below_3(seed: u64) -> u16 {
-    let draws = pick_sample(&mut Pcg32::seed_from_u64(seed), 4);
-    draws.iter().filter(|page| **page < 3).count() as u16
+/// A draw of each of the pages 1 to 3; all others are of page 0.
+fn each_page() -> [u32; SAMPLE_SIZE] {
+    let mut draws = [0; SAMPLE_SIZE];
+    draws[1] = 1;
+    draws[2] = 2;
+    draws[3] = 3;
+    draws
 }
 
 #[test]
 fn accesses_mark_pages_until_they_are_drawn(rt: HostRuntime) {
     let alloc = rt.alloc();
-    let mut sample = Sample::new();
-    let mut rng = Pcg32::seed_from_u64(7);
+    let draws = each_page();
     let mut parts = started(&rt, alloc, &LOADING);
     parts.supply(&rt, alloc, 0);
     parts.load(&rt, 0);
@@ -812,8 +806,8 @@ fn accesses_mark_pages_until_they_are_drawn(rt: HostRuntime) {
     made(&rt, parts.step(&rt));
     let fetched = [true, false, false, false];
     expect(&rt, "a fetch", parts.touched(), fetched);
-    let active = parts.sample(&rt, &mut sample, &mut rng);
-    expect(&rt, "no period is whole", active, 100);
+    expect(&rt, "draws of page 0", parts.guest.touched(&draws), 97);
+    parts.clear(&draws);
     expect(&rt, "each is drawn", parts.touched(), [false; 4]);
     expect(&rt, "a need", needed(&rt, parts.step(&rt)), first(1));
     parts.supply(&rt, alloc, 1);
@@ -829,9 +823,14 @@ fn accesses_mark_pages_until_they_are_drawn(rt: HostRuntime) {
     expect(&rt, "a debugger's write", parts.refusal(write), None);
     let written = [true, true, true, false];
     expect(&rt, "marks its page", parts.touched(), written);
-    let active = parts.sample(&rt, &mut sample, &mut rng);
-    expect(&rt, "draws of marked pages", active, draws_below_3(7));
-    let active = parts.sample(&rt, &mut sample, &mut rng);
-    expect(&rt, "nothing since", active, 0);
+    expect(
+        &rt,
+        "draws of marked pages",
+        parts.guest.touched(&draws),
+        99,
+    );
+    parts.clear(&[1; SAMPLE_SIZE]);
+    let others = [true, false, true, false];
+    expect(&rt, "page 1 alone is drawn", parts.touched(), others);
     parts.close();
 }

@@ -7,7 +7,6 @@ ghost use Rattle.devices.specs.Registers.{device_register_at};
 ghost use Rattle.mips_step.specs.World.{with_memory, is_in_memory, register_reach, reached_value, world_loaded, world_stored};
 ghost use Rattle.mips_step.specs.Given.{reached_given};
 ghost use Rattle.mips_step.specs.Places.{alignment};
-ghost use Rattle.taxpolicy.specs.Sample.{drawn, after_words};
 ghost use Rattle.physmap.specs.declared.page.Page.{Page};
 ghost use Rattle.physmap.specs.declared.page.PageKind.{PageKind};
 ghost use Rattle.physmap.specs.Pages.{page_at, kind_at, is_resident, NoneInFrame, shown, memory_of, own_frame, slot_of, digest_of, ticket_of};
@@ -20,10 +19,10 @@ use crate::accesses::{lack, put_value, reaches_register, value};
 use devices::{DeviceRegister, Devices};
 use mips_step::{Kind, PhysBus, Refusal, Size};
 use physmap::{PageKind, PhysMap};
-use rand_core::Rng;
-use sampling::{Marks, Sample};
+use sampling::Marks;
 use std::alloc::{AllocError, Global};
 use std::marker::Model;
+use taxpolicy::SAMPLE_SIZE;
 use word32::{Ppn, page_of};
 
 /// A memory of pages from physical address 0 on, each of which is nowhere yet, in a frame of its own, in a shared frame or in
@@ -188,16 +187,19 @@ impl PagedBus {
         self.marks.is_marked(page)
     }
 
-    /// Ends a period of a sample of these pages and begins the next, as `Sample::turn` has it, of the pages that were accessed. The bus
-    /// is as before.
-    pub fn sample<R: Rng>(&mut self, sample: &mut Sample, rng: &mut R)
-        requires { 0 < length self.old.pages }
-        ensures bus { self.new ≡ self.old }
-        ensures first { sample.old.draws ≡ None → sample.new.active ≡ sample.old.active }
-        ensures draws { sample.new.draws ≡ Some (drawn (length self.old.pages) 100 (R.stream rng.old)) }
-        ensures rest { R.stream rng.new ≡ after_words 100 (R.stream rng.old) }
+    /// How many of these draws are of a page that was accessed since it was last drawn, as `is_touched` has it; a page that was drawn
+    /// twice counts twice.
+    pub fn touched(&self, draws: &[u32; SAMPLE_SIZE]) -> u16
+        ensures { result ≤ 100 }
     {
-        sample.turn(&mut self.marks, rng);
+        self.marks.count(draws)
+    }
+
+    /// From now on none of the pages that were drawn counts as accessed, until it is again. The bus is as before.
+    pub fn clear_touched(&mut self, draws: &[u32; SAMPLE_SIZE])
+        ensures { self.new ≡ self.old }
+    {
+        self.marks.clear(draws);
     }
 
     /// Gives the bus up, and with it what its pages hold.

@@ -80,6 +80,17 @@ impl PagedBus {
         }
     }
 
+    /// Adds a byte of the console's input, for which the console has room: `Devices::has_input_room` is the test. It is what `input` does
+    /// by such an item, and can't be refused.
+    pub fn take_in(&mut self, byte: u8)
+        requires { length self.old.devices.console.input < input_room }
+        ensures { self.new ≡ record self.old { devices = device_input_fed byte self.old.devices } }
+    {
+        if self.devices.feed(byte).is_err() {
+            unreachable!()
+        }
+    }
+
     // Adds a byte of the console's input, which is refused exactly where the console has no room for it.
     fn feed(&mut self, byte: u8) -> Result<Reply, InputError>
         ensures fed { OnOk result (self.new ≡ record self.old { devices = device_input_fed byte self.old.devices }) }

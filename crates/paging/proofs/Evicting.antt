@@ -1,5 +1,5 @@
 -- A resident page goes to a slot.
-use Rattle.std.proofs.Common.{ℕ, ◌≡◌, ◌<◌, inl, inr, List, [], ◌∷◌, length, set, refl, ap, ◌∙◌, arith, Option, Some, None, true}
+use Rattle.std.proofs.Common.{ℕ, ◌≡◌, ◌<◌, inl, inr, List, [], ◌∷◌, length, set, refl, sym, ap, ◌∙◌, arith, Option, Some, None, true}
 use Rattle.sha2.specs.Sha256.{sha256}
 use Rattle.std.specs.Option.{option_to_list}
 use Rattle.std.proofs.lemmas.Bool.{cases_lt}
@@ -11,7 +11,7 @@ use Rattle.frames.proofs.Counting.{count_one, one_same}
 use Rattle.sharetab.specs.Entries.{EntriesAre, entry_at, count_at, tickets_of, freed_frame}
 use Rattle.sharetab.specs.Books.{Leaves}
 use Rattle.sharetab.proofs.Books.{leave_tickets, leave_bytes, leave_places, freed_last}
-use Rattle.swapstore.specs.Holding.{OthersStay}
+use Rattle.swapstore.specs.Holding.{AreHeld, OthersStay}
 use Rattle.physmap.specs.declared.page.Page.{Page}
 use Rattle.physmap.specs.declared.page.Page.TheVariants as page
 use Rattle.physmap.specs.declared.page.PageKind.TheVariants.{Shared}
@@ -121,17 +121,17 @@ apart_held held held' b slot page.Given others none lies = tt
 apart_held held held' b slot (page.Private frame) others none lies = tt
 apart_held held held' b slot (page.Shared share ticket) others none lies = tt
 apart_held held held' b slot (page.Swapped own digest) others none lies =
-    others own (λ same. absurd (omega (arith, none, one_same slot, ap (one_at slot) same))) ∙ lies
+    λ last is. lies last (sym (others own (λ same. absurd (omega (arith, none, one_same slot, ap (one_at slot) same)))) ∙ is)
 
 none_of_page : (ps : List Page) (p slot : ℕ) → p < length ps → slots_held slot ps ≡ 0 → slot_in slot (page_at ps p) ≡ 0
 none_of_page ps p slot inside none = omega (arith, none, get_or-le-sum_by (slot_in slot) ps p page.Zero inside)
 
 pub evicted_kept : (held held' : ℕ → Option (List ℕ)) (view : ℕ → List ℕ) (ps ps' : List Page) (p slot : ℕ) (digest : List ℕ) → p < length ps → is_resident (kind_at ps p) ≡ true
-    → ps' ≡ set ps p (page.Swapped slot digest) → digest ≡ sha256 (shown (page_at ps p)) → held' slot ≡ Some (shown (page_at ps p)) → OthersStay slot held held'
+    → ps' ≡ set ps p (page.Swapped slot digest) → digest ≡ sha256 (shown (page_at ps p)) → AreHeld (held' slot) (shown (page_at ps p)) → OthersStay slot held held'
     → slots_held slot ps ≡ 0 → Kept held view ps → Kept held' view ps'
 evicted_kept held held' view ps ps' p slot digest there resident is same written others none k =
     let shows = resident_shows (page_at ps p) (view p) resident (k.faithful p there) in
-    kept_by_page held held' view ps ps' p (page.Swapped slot digest) there is (same ∙ ap sha256 shows) (written ∙ ap Some shows)
+    kept_by_page held held' view ps ps' p (page.Swapped slot digest) there is (same ∙ ap sha256 shows) (λ last is. sym shows ∙ written last is)
     (λ o inside apart lies. apart_held held held' (view o) slot (page_at ps o) others (none_of_page ps o slot inside none) lies) k
 
 -- pages that have no slot of a number are kept where only that slot is written

@@ -1,5 +1,5 @@
 -- Books of one owner.
-use Rattle.std.proofs.Common.{ℕ, ◌≡◌, ◌+◌, ◌<◌, List, [], ◌∷◌, length, replicate, sym, subst, arith, Option, None}
+use Rattle.std.proofs.Common.{ℕ, ◌≡◌, ◌<◌, List, [], ◌∷◌, length, replicate, sym, subst, arith, None}
 use Rattle.frames.specs.Counts.{count_of, below}
 use Rattle.frames.specs.FreeList.{FreeList}
 use Rattle.sharetab.specs.Entries.{EntriesAre}

@@ -1,6 +1,5 @@
 -- A page gets a frame of its own.
-use Rattle.std.proofs.Common.{ℕ, ◌≡◌, ◌≢◌, ◌+◌, ◌<◌, ◌⊎◌, inl, inr, List, [], length, set, refl, sym, ap, subst, ◌∙◌, arith, Option}
-use Rattle.frames.specs.Counts.{count_of}
+use Rattle.std.proofs.Common.{ℕ, ◌≡◌, ◌≢◌, ◌<◌, ◌⊎◌, inl, inr, List, [], length, set, refl, sym, ap, subst, ◌∙◌, arith, Option}
 use Rattle.frames.specs.FreeList.{FreeList}
 use Rattle.frames.specs.Frames.{FrameIs}
 use Rattle.sharetab.specs.Entries.{EntriesAre, count_at, frames_shared, entry_count}

@@ -1,7 +1,8 @@
 -- What becomes of a page that gets a frame of its own, and why it gets none.
-use Rattle.std.specs.Prelude.{◌≡◌, ℕ, ◌<◌, List, [], Option, Some, length, slice_set}
+use Rattle.std.specs.Prelude.{◌≡◌, ℕ, ◌<◌, List, [], Option, length, slice_set}
 use Rattle.sha2.specs.Sha256.{sha256}
 use Rattle.frames.specs.FreeList.{FreeList}
+use Rattle.swapstore.specs.Holding.{AreHeld}
 use Rattle.physmap.specs.declared.page.Page.{Page}
 use Rattle.physmap.specs.declared.page.Page.TheVariants.{Private}
 use Rattle.physmap.specs.Pages.{page_at, own_frame, shown}
@@ -20,9 +21,9 @@ WantsFrame pool Memory = 0 < length pool.free
 WantsFrame pool SwapRead = ⊥
 WantsFrame pool SwapDamaged = ⊥
 
--- what a slot holds, if that is known, has another SHA-256
-abbrev pub IsDamaged : Option (List ℕ) → List ℕ → Type 0
-IsDamaged held digest = (last : List ℕ) → held ≡ Some last → sha256 last ≡ digest → ⊥
+-- bytes that a read may give have another SHA-256; those of an honest store are what was last written, if that is known
+abbrev pub IsDamaged : (List ℕ → Type 0) → Type 0 → Option (List ℕ) → List ℕ → Type 0
+IsDamaged gives honest held digest = (bytes : List ℕ) × gives bytes × (sha256 bytes ≡ digest → ⊥) × (honest → AreHeld held bytes)
 
 -- where a slot is read: the read failed, or what was read is damaged
 abbrev pub WhyUnread : Type 0 → Type 0 → SupplyError → Type 0

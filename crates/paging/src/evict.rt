@@ -1,5 +1,5 @@
 //! A page that leaves its frame for a slot.
-ghost use Rattle.std.specs.Prelude.{◌≡◌, ℕ, ◌+◌, ◌<◌, ◌↔◌, IfOk, IfErr, OnOk, OnErr, IfNone, IsTrue, Option, Some, List, [], ◌∷◌, is_ok, length, slice_set};
+ghost use Rattle.std.specs.Prelude.{◌≡◌, ℕ, ◌+◌, ◌<◌, ◌↔◌, IfOk, IfErr, OnOk, OnErr, IfNone, IsTrue, Option, List, [], ◌∷◌, is_ok, length, slice_set};
 ghost use Rattle.std.specs.Option.{option_to_list};
 ghost use Rattle.sha2.specs.Sha256.{sha256};
 ghost use Rattle.frames.specs.Counts.{count_of};
@@ -7,7 +7,7 @@ ghost use Rattle.frames.specs.FreeList.{FreeList};
 ghost use Rattle.sharetab.specs.Entries.{EntriesAre, count_at, frames_shared, entry_count};
 ghost use Rattle.sharetab.specs.Books.{KeepBytes};
 ghost use Rattle.swapstore.specs.Failures.{counted};
-ghost use Rattle.swapstore.specs.Holding.{OthersStay};
+ghost use Rattle.swapstore.specs.Holding.{AreHeld, OthersStay};
 ghost use Rattle.physmap.specs.declared.page.Page.{Page};
 ghost use Rattle.physmap.specs.declared.page.Page.TheVariants.{Swapped};
 ghost use Rattle.physmap.specs.Pages.{page_at, kind_at, is_resident, shown, handed_back};
@@ -58,19 +58,19 @@ pub fn evict_in<P: Pages, S: SwapStore>(
     ensures used { OnOk result ((book : FreeList) → MovesSlots (P.pages pages.old) book (P.pages pages.new) book (slot ∷ [])) }
     ensures tickets { MovesTickets (P.pages pages.old) shares.old.entries (P.pages pages.new) shares.new.entries }
     ensures faithful { (view : ℕ → List ℕ) → Faithful view (P.pages pages.old) → Faithful view (P.pages pages.new) }
-    ensures kept { S.true_to_digests store.old → (view : ℕ → List ℕ) → slots_held slot (P.pages pages.old) ≡ 0 →
+    ensures kept { (view : ℕ → List ℕ) → slots_held slot (P.pages pages.old) ≡ 0 →
         Kept (S.held store.old) view (P.pages pages.old) → Kept (S.held store.new) view (P.pages pages.new) }
     ensures reads { Reads shares.old.entries (P.pages pages.old) → Reads shares.new.entries (P.pages pages.new) }
     ensures rest { P.rest pages.new ≡ P.rest pages.old }
     ensures hints { shares.new.hints ≡ shares.old.hints }
     ensures page { OnOk result (P.pages pages.new ≡ slice_set (P.pages pages.old) p (Swapped slot (sha256 (shown (page_at (P.pages pages.old) p))))) }
-    ensures written { OnOk result (S.true_to_digests store.old → S.held store.new slot ≡ Some (shown (page_at (P.pages pages.old) p))) }
+    ensures written { OnOk result (AreHeld (S.held store.new slot) (shown (page_at (P.pages pages.old) p))) }
     ensures shared { IfOk result (λ came_free. IfNone came_free (IsStillShared shares.old.entries (handed_back (page_at (P.pages pages.old) p)))) }
     ensures back { IfErr result (λ back. back ≡ slot) }
     ensures unchanged { OnErr result (P.pages pages.new ≡ P.pages pages.old) }
     ensures shares_unchanged { OnErr result (shares.new ≡ shares.old) }
     ensures counted { S.failed store.new ≡ counted (is_ok result) (S.failed store.old) }
-    ensures others { S.true_to_digests store.old → OthersStay slot (S.held store.old) (S.held store.new) }
+    ensures others { OthersStay slot (S.held store.old) (S.held store.new) }
     ensures slots { S.slots store.new ≡ S.slots store.old }
     ensures honest { S.honest store.new ↔ S.honest store.old }
     ensures true_to_digests { S.true_to_digests store.new ↔ S.true_to_digests store.old }

@@ -1,19 +1,19 @@
 //! Laws of the books.
-ghost use Rattle.std.specs.Prelude.{◌≡◌, ℕ, ◌+◌, ◌<◌, List, [], ◌∷◌, ◌++◌, Option, None, length, replicate, slice_index_or, slice_set, sum_by};
+ghost use Rattle.std.specs.Prelude.{◌≡◌, ℕ, ◌+◌, ◌<◌, List, [], ◌∷◌, ◌++◌, Option, None, IsSome, length, replicate, slice_index_or, slice_set, sum_by};
+ghost use Rattle.sha2.specs.Sha256.{sha256};
 ghost use Rattle.frames.specs.Counts.{count_of, below};
 ghost use Rattle.frames.specs.FreeList.{FreeList};
 ghost use Rattle.sharetab.specs.Entries.{EntriesAre, count_at, entry_count, ticket_count};
 ghost use Rattle.physmap.specs.declared.page.Page.{Page};
 ghost use Rattle.physmap.specs.declared.page.Page.TheVariants.{Zero};
 ghost use Rattle.physmap.specs.declared.page.PageKind.TheVariants.{Private, Shared, Swapped};
-ghost use Rattle.swapstore.specs.Holding.{AllStay, OthersStay};
+ghost use Rattle.swapstore.specs.Holding.{AreHeld, AllStay, OthersStay};
 ghost use Rattle.physmap.specs.Pages.{page_at, kind_at, slot_of, ticket_of, digest_of, handed_back};
 ghost use Rattle.physmap.specs.Holdings.{slots_held, private_pages, shared_pages, swapped_pages};
 ghost use Rattle.paging.specs.Moves.{Takes, Gives, MovesFrames, MovesSlots, Conserves, Reads, Covered, OwnOnce};
 ghost use Rattle.paging.specs.Books.{Books, pages_of};
 ghost use Rattle.paging.specs.Faith.{Kept};
 ghost use Rattle.paging.specs.Returns.{IsOut};
-ghost use Rattle.paging.specs.Supplies.{IsDamaged};
 
 /// A law: where a move of one owner's pages conserves, the books stay exact.
 pub fn a_move_keeps_the_books()
@@ -66,16 +66,18 @@ pub fn numbers_in_hand_are_counted()
         Takes book slot taken → MovesSlots pages taken pages' taken (slot ∷ []) → MovesSlots pages book pages' taken [] }
 {}
 
-/// A law: pages stay kept where a slot is written that is none of theirs, and where slots are read; and a page that is kept
-/// is not damaged, so that an honest store never makes its supply answer `SwapDamaged`.
+/// A law: pages stay kept where a slot is written that is none of theirs, and where slots are read; and what was last written
+/// to the slot of a page that is kept, where that is known, has the page's SHA-256, so that an honest store never makes its
+/// supply answer `SwapDamaged`.
 #[tactic(auto, using(crate::proofs::Evicting::others_kept, crate::proofs::Keeping::all_kept, crate::proofs::Keeping::kept_is_sound))]
 pub fn pages_stay_kept()
     ensures written { (held held' : ℕ → Option (List ℕ)) (view : ℕ → List ℕ) (pages : List Page) (slot : ℕ) →
         OthersStay slot held held' → slots_held slot pages ≡ 0 → Kept held view pages → Kept held' view pages }
     ensures read { (held held' : ℕ → Option (List ℕ)) (view : ℕ → List ℕ) (pages : List Page) → AllStay held held' → Kept held view pages →
         Kept held' view pages }
-    ensures undamaged { (held : ℕ → Option (List ℕ)) (view : ℕ → List ℕ) (pages : List Page) (p : ℕ) → p < length pages → kind_at pages p ≡ Swapped →
-        Kept held view pages → IsDamaged (held (slot_of (page_at pages p))) (digest_of (page_at pages p)) → ⊥ }
+    ensures undamaged { (held : ℕ → Option (List ℕ)) (view : ℕ → List ℕ) (pages : List Page) (p : ℕ) (bytes : List ℕ) → p < length pages →
+        kind_at pages p ≡ Swapped → IsSome (held (slot_of (page_at pages p))) → Kept held view pages → AreHeld (held (slot_of (page_at pages p))) bytes →
+        sha256 bytes ≡ digest_of (page_at pages p) }
 {}
 
 /// A law: what a page hands back is out, and so is a frame that came free, so that each may go where it belongs.

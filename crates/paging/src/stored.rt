@@ -1,5 +1,5 @@
 //! Bytes of pages on their way to a swap store and back.
-ghost use Rattle.std.specs.Prelude.{◌≡◌, ℕ, ◌<◌, ◌↔◌, IfOk, IfErr, OnOk, IsTrue, Some, is_ok, length};
+ghost use Rattle.std.specs.Prelude.{◌≡◌, ℕ, ◌<◌, ◌↔◌, IfOk, IfErr, OnOk, IsTrue, is_ok, length};
 ghost use Rattle.sha2.specs.Sha256.{sha256};
 ghost use Rattle.swapstore.specs.Failures.{counted, one_more};
 ghost use Rattle.swapstore.specs.Holding.{AreHeld, AreHeldByDigest, AllStay, OthersStay};
@@ -35,8 +35,8 @@ pub(crate) fn write_page<P: Pages, S: SwapStore>(
     requires resident { IsTrue (is_resident (kind_at (P.pages pages.now) p)) }
     requires slot { slot < S.slots store.old }
     ensures digest { IfOk result (λ digest. digest ≡ sha256 (shown (page_at (P.pages pages.now) p))) }
-    ensures written { OnOk result (S.true_to_digests store.old → S.held store.new slot ≡ Some (shown (page_at (P.pages pages.now) p))) }
-    ensures others { S.true_to_digests store.old → OthersStay slot (S.held store.old) (S.held store.new) }
+    ensures written { OnOk result (AreHeld (S.held store.new slot) (shown (page_at (P.pages pages.now) p))) }
+    ensures others { OthersStay slot (S.held store.old) (S.held store.new) }
     ensures counted { S.failed store.new ≡ counted (is_ok result) (S.failed store.old) }
     ensures slots { S.slots store.new ≡ S.slots store.old }
     ensures honest { S.honest store.new ↔ S.honest store.old }
@@ -53,10 +53,11 @@ pub(crate) fn write_page<P: Pages, S: SwapStore>(
 fn read_frame<S: SwapStore>(mut frame: Frame, slot: u32, store: &mut S) -> Result<Frame, Frame>
     requires { slot < S.slots store.old }
     ensures number { IfOk result (λ read. read.number ≡ frame.number) }
+    ensures gives { IfOk result (λ read. S.gives store.old slot read.bytes) }
     ensures honest_gives { IfOk result (λ read. S.honest store.old → AreHeld (S.held store.old slot) read.bytes) }
     ensures true_gives { IfOk result (λ read. S.true_to_digests store.old → AreHeldByDigest (S.held store.old slot) read.bytes) }
     ensures back { IfErr result (λ back. back.number ≡ frame.number) }
-    ensures held { S.true_to_digests store.old → AllStay (S.held store.old) (S.held store.new) }
+    ensures held { AllStay (S.held store.old) (S.held store.new) }
     ensures counted { S.failed store.new ≡ counted (is_ok result) (S.failed store.old) }
     ensures slots { S.slots store.new ≡ S.slots store.old }
     ensures honest { S.honest store.new ↔ S.honest store.old }
@@ -81,14 +82,15 @@ pub(crate) fn read_page<S: SwapStore>(
 ) -> Result<Frame, (Frame, SupplyError)>
     requires { slot < S.slots store.old }
     ensures number { IfOk result (λ read. read.number ≡ frame.number) }
+    ensures gives { IfOk result (λ read. S.gives store.old slot read.bytes) }
     ensures digest { IfOk result (λ read. sha256 read.bytes ≡ wanted.now) }
     ensures honest_gives { IfOk result (λ read. S.honest store.old → AreHeld (S.held store.old slot) read.bytes) }
     ensures true_gives { IfOk result (λ read. S.true_to_digests store.old → AreHeldByDigest (S.held store.old slot) read.bytes) }
     ensures back { IfErr result (λ back. back.0.number ≡ frame.number) }
     ensures err { IfErr result
-        (λ back. WhyUnread (S.failed store.new ≡ one_more (S.failed store.old)) (S.honest store.old → IsDamaged (S.held store.old slot) wanted.now) back.1) }
+        (λ back. WhyUnread (S.failed store.new ≡ one_more (S.failed store.old)) (IsDamaged (S.gives store.old slot) (S.honest store.old) (S.held store.old slot) wanted.now) back.1) }
     ensures counted { OnOk result (S.failed store.new ≡ S.failed store.old) }
-    ensures held { S.true_to_digests store.old → AllStay (S.held store.old) (S.held store.new) }
+    ensures held { AllStay (S.held store.old) (S.held store.new) }
     ensures slots { S.slots store.new ≡ S.slots store.old }
     ensures honest { S.honest store.new ↔ S.honest store.old }
     ensures true_to_digests { S.true_to_digests store.new ↔ S.true_to_digests store.old }

@@ -1,10 +1,10 @@
 //! A page whose first place is a slot.
-ghost use Rattle.std.specs.Prelude.{◌≡◌, ◌<◌, ◌↔◌, IfErr, OnOk, OnErr, Some, [], ◌∷◌, is_ok, length, slice_set};
+ghost use Rattle.std.specs.Prelude.{◌≡◌, ◌<◌, ◌↔◌, IfErr, OnOk, OnErr, [], ◌∷◌, is_ok, length, slice_set};
 ghost use Rattle.sha2.specs.Sha256.{sha256};
 ghost use Rattle.frames.specs.FreeList.{FreeList};
 ghost use Rattle.sharetab.specs.Entries.{EntriesAre};
 ghost use Rattle.swapstore.specs.Failures.{counted};
-ghost use Rattle.swapstore.specs.Holding.{OthersStay};
+ghost use Rattle.swapstore.specs.Holding.{AreHeld, OthersStay};
 ghost use Rattle.physmap.specs.declared.page.Page.TheVariants.{Swapped};
 ghost use Rattle.physmap.specs.declared.page.PageKind.{PageKind};
 ghost use Rattle.physmap.specs.Pages.{kind_at};
@@ -36,11 +36,11 @@ pub fn store_first<P: Pages, S: SwapStore>(
     ensures reads { (entries : EntriesAre) → Reads entries (P.pages pages.old) → Reads entries (P.pages pages.new) }
     ensures rest { P.rest pages.new ≡ P.rest pages.old }
     ensures page { OnOk result (P.pages pages.new ≡ slice_set (P.pages pages.old) p (Swapped slot (sha256 bytes.now))) }
-    ensures written { OnOk result (S.true_to_digests store.old → S.held store.new slot ≡ Some bytes.now) }
+    ensures written { OnOk result (AreHeld (S.held store.new slot) bytes.now) }
     ensures back { IfErr result (λ back. back ≡ slot) }
     ensures unchanged { OnErr result (P.pages pages.new ≡ P.pages pages.old) }
     ensures counted { S.failed store.new ≡ counted (is_ok result) (S.failed store.old) }
-    ensures others { S.true_to_digests store.old → OthersStay slot (S.held store.old) (S.held store.new) }
+    ensures others { OthersStay slot (S.held store.old) (S.held store.new) }
     ensures slots { S.slots store.new ≡ S.slots store.old }
     ensures honest { S.honest store.new ↔ S.honest store.old }
     ensures true_to_digests { S.true_to_digests store.new ↔ S.true_to_digests store.old }

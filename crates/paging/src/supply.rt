@@ -126,15 +126,17 @@ pub fn supply_swapped<P: Pages, S: SwapStore>(
     ensures rest { P.rest pages.new ≡ P.rest pages.old }
     ensures supplied { OnOk result (Supplies (P.pages pages.old) p (shown (page_at (P.pages pages.new) p)) (P.pages pages.new)) }
     ensures digest { OnOk result (sha256 (shown (page_at (P.pages pages.new) p)) ≡ digest_of (page_at (P.pages pages.old) p)) }
+    ensures gives { OnOk result (S.gives store.old (slot_of (page_at (P.pages pages.old) p)) (shown (page_at (P.pages pages.new) p))) }
     ensures honest_gives { OnOk result
         (S.honest store.old → AreHeld (S.held store.old (slot_of (page_at (P.pages pages.old) p))) (shown (page_at (P.pages pages.new) p))) }
     ensures slot { IfOk result (λ slot. slot ≡ slot_of (page_at (P.pages pages.old) p)) }
     ensures no_failure { OnOk result (S.failed store.new ≡ S.failed store.old) }
     ensures err { IfErr result (λ back. WhyStillAway (S.failed store.new ≡ one_more (S.failed store.old))
-        (S.honest store.old → IsDamaged (S.held store.old (slot_of (page_at (P.pages pages.old) p))) (digest_of (page_at (P.pages pages.old) p))) back.1) }
+        (IsDamaged (S.gives store.old (slot_of (page_at (P.pages pages.old) p))) (S.honest store.old) (S.held store.old (slot_of (page_at (P.pages pages.old) p)))
+        (digest_of (page_at (P.pages pages.old) p))) back.1) }
     ensures back { IfErr result (λ back. back.0 ≡ no) }
     ensures unchanged { OnErr result (P.pages pages.new ≡ P.pages pages.old) }
-    ensures held { S.true_to_digests store.old → AllStay (S.held store.old) (S.held store.new) }
+    ensures held { AllStay (S.held store.old) (S.held store.new) }
     ensures slots { S.slots store.new ≡ S.slots store.old }
     ensures honest { S.honest store.new ↔ S.honest store.old }
     ensures true_to_digests { S.true_to_digests store.new ↔ S.true_to_digests store.old }

@@ -227,7 +227,9 @@ fn damage(rt: &impl Abort, store: &mut MemStore) {
     if store.slot_count() == 0 {
         panic!(rt; "no slot");
     }
-    store.damage(0, 0);
+    if store.damage(0, 0).is_err() {
+        panic!(rt; "no memory to damage slot 0");
+    }
 }
 
 /// Whether a page is in a frame and has these bytes.

@@ -1,6 +1,5 @@
--- What is known of the pages that a guest touches (Waldspurger, OSDI 2002, section 5.3).
-use Rattle.std.specs.Prelude.{◌≡◌, ℕ, ◌≤◌, Bool, false, List, [], ◌∷◌, Option, Some, None, count_by, slice_index_or, slice_set}
-use Rattle.sampling.specs.declared.sample.Sample.{Sample}
+-- The marks of the pages that a guest touches, and the draws of marked ones (Waldspurger, OSDI 2002, section 5.3).
+use Rattle.std.specs.Prelude.{ℕ, Bool, false, List, [], ◌∷◌, count_by, slice_index_or, slice_set}
 
 -- whether a page is marked; a page that there isn't is not
 abbrev pub is_marked : List Bool → ℕ → Bool
@@ -14,7 +13,3 @@ marked_draws marks draws = count_by (is_marked marks) draws
 abbrev pub cleared : List ℕ → List Bool → List Bool
 cleared [] marks = marks
 cleared (page ∷ pages) marks = cleared pages (slice_set marks page false)
-
--- how many draws of the period that ends were touched; while no period has ended it is as before
-abbrev pub touched_in : Sample → List Bool → ℕ
-touched_in s marks = elim s.draws [ None ↦ s.active | Some draws ↦ marked_draws marks draws ]

@@ -1,5 +1,5 @@
 //! The sample of a guest's pages.
-ghost use Rattle.std.specs.Prelude.{◌≡◌, ◌≤◌, None};
+ghost use Rattle.std.specs.Prelude.{◌≡◌, ◌≤◌, IfSome, None, Some, unwrap_or};
 
 use taxpolicy::SAMPLE_SIZE;
 
@@ -24,5 +24,18 @@ impl Sample {
             draws: None,
             active: SAMPLE_SIZE as u16,
         }
+    }
+
+    /// Ends the period that runs, if one does, and begins the next: `touched` is how many draws of the period that ends were of a page
+    /// that was touched in it, or none where none runs yet; `draws` are the pages drawn for the next one.
+    pub fn next(&mut self, touched: Option<u16>, draws: [u32; SAMPLE_SIZE])
+        requires { IfSome touched (λ count. count ≤ 100) }
+        ensures draws { self.new.draws ≡ Some draws }
+        ensures active { self.new.active ≡ unwrap_or touched self.old.active }
+    {
+        *self = Sample {
+            draws: Some(draws),
+            active: touched.unwrap_or(self.active),
+        };
     }
 }

@@ -1,11 +1,8 @@
 //! Marks and samples with ample memory.
-ghost use Rattle.std.specs.Prelude.{◌≡◌, ◌<◌};
-
 use crate::{Marks, Sample};
 use rand_core::SeedableRng;
 use rand_pcg::Pcg32;
 use std::alloc::{AllocError, Global};
-use std::process::Abort;
 use std::test::Fail;
 use taxpolicy::{SAMPLE_SIZE, pick_sample};
 use word32::Ppn;
@@ -34,12 +31,15 @@ fn of_the_two(draws: &[u32; SAMPLE_SIZE]) -> u16 {
         .count() as u16
 }
 
-/// A turn of a sample.
-fn turn(rt: &impl Abort, sample: &mut Sample, marks: &mut Marks, rng: &mut Pcg32) -> u16 {
-    if marks.pages() == 0 {
-        panic!(rt; "there is no page");
-    }
-    sample.turn(marks, rng);
+/// Ends a period of a sample and begins the next, whose pages are the generator's next words.
+fn turn(sample: &mut Sample, marks: &mut Marks, rng: &mut Pcg32) -> u16 {
+    let touched = match &sample.draws {
+        None => None,
+        Some(draws) => Some(marks.count(draws)),
+    };
+    let draws = pick_sample(rng, PAGES);
+    marks.clear(&draws);
+    sample.next(touched, draws);
     sample.active
 }
 
@@ -52,18 +52,18 @@ fn draws_of_touched_pages_count_when_their_period_is_whole(rt: HostRuntime) -> R
     let mut sample = Sample::new();
     assert_eq!(rt; (sample.draws, sample.active), (None, 100));
     let mut marks = two_touched(rt.alloc())?;
-    assert_eq!(rt; turn(&rt, &mut sample, &mut marks, &mut rng), 100);
+    assert_eq!(rt; turn(&mut sample, &mut marks, &mut rng), 100);
     assert_eq!(rt; sample.draws, Some(first));
     for page in 0..PAGES {
         assert!(rt; !marks.is_marked(page), "page {page} was drawn");
     }
     drop(marks);
     let mut marks = two_touched(rt.alloc())?;
-    let active = turn(&rt, &mut sample, &mut marks, &mut rng);
+    let active = turn(&mut sample, &mut marks, &mut rng);
     assert_eq!(rt; active, of_the_two(&first));
     assert!(rt; active > 2, "some page was drawn twice");
     assert_eq!(rt; sample.draws, Some(second));
-    assert_eq!(rt; turn(&rt, &mut sample, &mut marks, &mut rng), 0);
+    assert_eq!(rt; turn(&mut sample, &mut marks, &mut rng), 0);
     Ok(())
 }
 

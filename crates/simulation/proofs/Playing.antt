@@ -1,5 +1,5 @@
 -- Events, one after another.
-use Rattle.std.proofs.Common.{Result, Ok, Err, IfOk, ◌≡◌, refl, sym, ap, subst, ◌∙◌, ℕ, Bool, true, false, nat_lt, Option, List, [], ◌∷◌, ◌++◌, append_assoc, if◌then◌else◌}
+use Rattle.std.proofs.Common.{Result, Ok, Err, IfOk, OnOk, ◌≡◌, refl, sym, ap, subst, ◌∙◌, ℕ, Bool, true, false, nat_lt, Option, List, [], ◌∷◌, ◌++◌, append_assoc, if◌then◌else◌}
 use Rattle.std.proofs.lemmas.List.{append-nil}
 use Rattle.rand_core.specs.Stream.{Stream}
 use Rattle.script.specs.declared.event.Event.{Event}
@@ -52,10 +52,15 @@ pub beside_store : {Store : Type 0} (w w' : WorldIs Store) → w'.tenants ≡ w.
 beside_store w w' tenants pool slots shares frames level =
     λ i. record { tenants = tenants i; pool = pool i; slots = slots i; shares = shares i; store = w'.store; frames = frames i; level = level i }
 
+-- what is so where a byte was damaged, by parts
+pub damaged : {X E : Type 0} (r : Result X E) (P Q R : Type 0) {T : Type 0} → (P → Q → R → T) → OnOk r P → OnOk r Q → OnOk r R → OnOk r T
+damaged (Ok x) P Q R so p q r = so p q r
+damaged (Err e) P Q R so p q r = tt
+
 -- ---- one event more
 
-module _ {Store : Type 0} (trusted : Store → Type 0) (failures : Store → ℕ) (honest : Store → Type 0) (slots : Store → ℕ) (held : Store → ℕ → Option (List ℕ)) where
-  lines_more : (words left : Stream) (w now : WorldIs Store) (es : List Event) (ss : List Said) (e : Event) (s : Said) → AllDone trusted failures honest slots held words w es ss left now
+module _ {Store : Type 0} (trusted : Store → Type 0) (failures : Store → ℕ) (honest : Store → Type 0) (slots : Store → ℕ) (held : Store → ℕ → Option (List ℕ)) (gives : Store → ℕ → List ℕ → Type 0) where
+  lines_more : (words left : Stream) (w now : WorldIs Store) (es : List Event) (ss : List Said) (e : Event) (s : Said) → AllDone trusted failures honest slots held gives words w es ss left now
       → lines_of (es ++ e ∷ []) (ss ++ s ∷ []) ≡ lines_of es ss ++ said_text (heading_of (act_of e)) s
   lines_more words left w now [] [] e s done = append-nil (said_text (heading_of (act_of e)) s)
   lines_more words left w now [] (t ∷ ss) e s done = absurd done
@@ -64,22 +69,22 @@ module _ {Store : Type 0} (trusted : Store → Type 0) (failures : Store → ℕ
       ap (λ (l : List ℕ). said_text (heading_of (act_of d)) t ++ l) (lines_more done.0 left done.1 now es ss e s done.3)
       ∙ sym (append_assoc (said_text (heading_of (act_of d)) t) (lines_of es ss) (said_text (heading_of (act_of e)) s))
 
-  done_more : (words left rest : Stream) (w now after : WorldIs Store) (es : List Event) (ss : List Said) (e : Event) (s : Said) → AllDone trusted failures honest slots held words w es ss left now
-      → IsDone trusted failures honest slots held left now (act_of e) s rest after → AllDone trusted failures honest slots held words w (es ++ e ∷ []) (ss ++ s ∷ []) rest after
+  done_more : (words left rest : Stream) (w now after : WorldIs Store) (es : List Event) (ss : List Said) (e : Event) (s : Said) → AllDone trusted failures honest slots held gives words w es ss left now
+      → IsDone trusted failures honest slots held gives left now (act_of e) s rest after → AllDone trusted failures honest slots held gives words w (es ++ e ∷ []) (ss ++ s ∷ []) rest after
   done_more words left rest w now after [] [] e s done one = (
     rest,
     after,
-    subst (λ (v : WorldIs Store). IsDone trusted failures honest slots held words v (act_of e) s rest after) done.1
-        (subst (λ (u : Stream). IsDone trusted failures honest slots held u now (act_of e) s rest after) done.0 one),
+    subst (λ (v : WorldIs Store). IsDone trusted failures honest slots held gives words v (act_of e) s rest after) done.1
+        (subst (λ (u : Stream). IsDone trusted failures honest slots held gives u now (act_of e) s rest after) done.0 one),
     (refl, refl),
   )
   done_more words left rest w now after [] (t ∷ ss) e s done one = absurd done
   done_more words left rest w now after (d ∷ es) [] e s done one = absurd done
   done_more words left rest w now after (d ∷ es) (t ∷ ss) e s done one = (done.0, done.1, done.2, done_more done.0 left rest done.1 now after es ss e s done.3 one)
 
-  pub played_more : (words left rest : Stream) (w now after : WorldIs Store) (es : List Event) (e : Event) (s : Said) (text text' : List ℕ) → IsPlayed trusted failures honest slots held words w es left now text
-      → IsDone trusted failures honest slots held left now (act_of e) s rest after → text' ≡ text ++ said_text (heading_of (act_of e)) s
-      → IsPlayed trusted failures honest slots held words w (es ++ e ∷ []) rest after text'
+  pub played_more : (words left rest : Stream) (w now after : WorldIs Store) (es : List Event) (e : Event) (s : Said) (text text' : List ℕ) → IsPlayed trusted failures honest slots held gives words w es left now text
+      → IsDone trusted failures honest slots held gives left now (act_of e) s rest after → text' ≡ text ++ said_text (heading_of (act_of e)) s
+      → IsPlayed trusted failures honest slots held gives words w (es ++ e ∷ []) rest after text'
   played_more words left rest w now after es e s text text' played one line = record {
     said = played.said ++ s ∷ [];
     lines = line ∙ ap (λ (l : List ℕ). l ++ said_text (heading_of (act_of e)) s) played.lines ∙ sym (lines_more words left w now es played.said e s played.done);
@@ -95,6 +100,6 @@ told_dump (Err e) trusted So f = tt
 
 -- ---- no event
 
-pub none_played : {Store : Type 0} (trusted : Store → Type 0) (failures : Store → ℕ) (honest : Store → Type 0) (slots : Store → ℕ) (held : Store → ℕ → Option (List ℕ)) (words : Stream) (w : WorldIs Store) (text : List ℕ)
-    → text ≡ [] → IsPlayed trusted failures honest slots held words w [] words w text
-none_played trusted failures honest slots held words w text none = record { said = []; lines = none; done = (refl, refl) }
+pub none_played : {Store : Type 0} (trusted : Store → Type 0) (failures : Store → ℕ) (honest : Store → Type 0) (slots : Store → ℕ) (held : Store → ℕ → Option (List ℕ)) (gives : Store → ℕ → List ℕ → Type 0) (words : Stream) (w : WorldIs Store) (text : List ℕ)
+    → text ≡ [] → IsPlayed trusted failures honest slots held gives words w [] words w text
+none_played trusted failures honest slots held gives words w text none = record { said = []; lines = none; done = (refl, refl) }

@@ -41,12 +41,12 @@ its_view : (ts : List TenantIs) (g : ℕ) (t : TenantIs) (any : Machine) → g <
 its_view ts g t any inside =
     ap (λ (l : List Item). run l (boot_of (get_or ts g t))) (sym (its_log ts g t inside)) ∙ ap (run (log_at ts g)) (sym (map_at boot_of ts g t any inside))
 
-module _ {Store : Type 0} (trusted : Store → Type 0) (failures : Store → ℕ) (honest : Store → Type 0) (slots : Store → ℕ) (held : Store → ℕ → Option (List ℕ)) where
+module _ {Store : Type 0} (trusted : Store → Type 0) (failures : Store → ℕ) (honest : Store → Type 0) (slots : Store → ℕ) (held : Store → ℕ → Option (List ℕ)) (gives : Store → ℕ → List ℕ → Type 0) where
   module _ (any : Machine) (words rest : Stream) (w w' : WorldIs Store) (a : Act) (s : Said) (all_slots : ℕ) (trust : trusted w.store) (can : IsDoable (length w.tenants) all_slots a)
-      (told : IsTold trusted failures honest slots held words w a s rest w') where
-    of : (a' : Act) (s' : Said) → a ≡ a' → s ≡ s' → IsTold trusted failures honest slots held words w a' s' rest w'
+      (told : IsTold trusted failures honest slots held gives words w a s rest w') where
+    of : (a' : Act) (s' : Said) → a ≡ a' → s ≡ s' → IsTold trusted failures honest slots held gives words w a' s' rest w'
     of a' s' is_a is_s =
-        subst (λ (b : Act). IsTold trusted failures honest slots held words w b s' rest w') is_a (subst (λ (u : Said). IsTold trusted failures honest slots held words w a u rest w') is_s told)
+        subst (λ (b : Act). IsTold trusted failures honest slots held gives words w b s' rest w') is_a (subst (λ (u : Said). IsTold trusted failures honest slots held gives words w a u rest w') is_s told)
 
     does : (a' : Act) → a ≡ a' → IsDoable (length w.tenants) all_slots a'
     does a' is_a = subst (IsDoable (length w.tenants) all_slots) is_a can
@@ -100,7 +100,14 @@ module _ {Store : Type 0} (trusted : Store → Type 0) (failures : Store → ℕ
 
   -- ---- many
 
-  pub all_shown : (any : Machine) (words rest : Stream) (w last : WorldIs Store) (es : List Event) (ss : List Said) → AllDone trusted failures honest slots held words w es ss rest last → trusted w.store
+  -- a store that is true to digests after events was before them
+  trusted_first : (words rest : Stream) (w last : WorldIs Store) (es : List Event) (ss : List Said) → AllDone trusted failures honest slots held gives words w es ss rest last → trusted last.store → trusted w.store
+  trusted_first words rest w last [] [] done trust = subst (λ (v : WorldIs Store). trusted v.store) done.1 trust
+  trusted_first words rest w last [] (s ∷ ss) done trust = absurd done
+  trusted_first words rest w last (e ∷ es) [] done trust = absurd done
+  trusted_first words rest w last (e ∷ es) (s ∷ ss) done trust = done.2.trusted_before (trusted_first done.0 rest done.1 last es ss done.3 trust)
+
+  pub all_shown : (any : Machine) (words rest : Stream) (w last : WorldIs Store) (es : List Event) (ss : List Said) → AllDone trusted failures honest slots held gives words w es ss rest last → trusted last.store
       → All (IsFor (length w.tenants) (slots w.store)) es → AllShow any (map boot_of w.tenants) (log_at w.tenants) es ss
   all_shown any words rest w last [] ss done trust each = tt
   all_shown any words rest w last (e ∷ es) [] done trust each = tt
@@ -112,10 +119,10 @@ module _ {Store : Type 0} (trusted : Store → Type 0) (failures : Store → ℕ
       let others : All (IsFor (length mid.tenants) (slots mid.store)) es =
       subst (λ (n : ℕ). All (IsFor n (slots mid.store)) es) counts
       (subst (λ (n : ℕ). All (IsFor (length w.tenants) n) es) (sym one.slots_stay) (All-tail (IsFor (length w.tenants) (slots w.store)) e es each)) in (
-        shown any words done.0 w mid (act_of e) s (slots w.store) trust (for_act (length w.tenants) (slots w.store) e is).act one.told,
-        λ harmless. subst (λ (boots : List Machine). AllShow any boots (λ h. log_at w.tenants h ++ added h (act_of e) s) es ss) one.boots
+        shown any words done.0 w mid (act_of e) s (slots w.store) (one.trusted_before (trusted_first done.0 rest mid last es ss done.3 trust)) (for_act (length w.tenants) (slots w.store) e is).act one.told,
+        subst (λ (boots : List Machine). AllShow any boots (λ h. log_at w.tenants h ++ added h (act_of e) s) es ss) one.boots
             (subst (λ (logs : ℕ → List Item). AllShow any (map boot_of mid.tenants) logs es ss) (λ i h. one.logs h i)
-            (all_shown any done.0 rest mid last es ss done.3 ((one.trust harmless).1 trust) others)),
+            (all_shown any done.0 rest mid last es ss done.3 trust others)),
       )
 
 -- ---- guests that have booted

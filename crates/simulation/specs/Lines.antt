@@ -195,6 +195,11 @@ abbrev pub dumped_text : Result (String Global) AllocError → List ℕ
 dumped_text (Ok text) = string_bytes text
 dumped_text (Err error) = stopped_text stop.Memory
 
+-- a damaged slot, or want of memory to keep apart what was last written to it
+abbrev pub damaged_text : Result (Unit {0}) AllocError → List ℕ
+damaged_text (Ok done) = codes "ok\n"
+damaged_text (Err error) = stopped_text stop.Memory
+
 -- what a line begins with, by what is done
 abbrev pub heading_of : Act → Heading
 heading_of (act.World (happening.Steps guest count)) = heading.Step guest
@@ -211,7 +216,7 @@ said_text h said.Skipped = codes "skipped\n"
 said_text h (said.Counted counts) = books_text counts
 said_text h (said.Dumped done) = dumped_text done
 said_text h (said.Moved counts) = moves_text h counts
-said_text h said.Damaged = codes "ok\n"
+said_text h (said.Damaged done) = damaged_text done
 
 -- the lines of what is answered to events, one after another
 abbrev pub lines_of : List Event → List Said → List ℕ

@@ -1,5 +1,5 @@
 -- What is done and answered by a list of events.
-use Rattle.std.specs.Prelude.{◌≡◌, ◌↔◌, ◌+◌, ◌≤◌, ℕ, false, true, List, [], ◌∷◌, ◌++◌, length, map, sum_by, slice_index_or, string_bytes, option_map, Option, Some, None, Ok, Err, IfOk}
+use Rattle.std.specs.Prelude.{◌≡◌, ◌↔◌, ◌+◌, ◌≤◌, ℕ, false, true, List, [], ◌∷◌, ◌++◌, length, map, sum_by, slice_index_or, string_bytes, Option, Some, None, Ok, Err, IfOk, OnOk, OnErr}
 use Rattle.std.specs.declared.vec.Vec.{Vec}
 use Rattle.std.specs.declared.string.String.{String}
 use Rattle.std.specs.declared.alloc.Global.{Global}
@@ -18,8 +18,8 @@ use Rattle.flatvm.specs.declared.reply.Reply.{Reply}
 use Rattle.sharetab.specs.Entries.{entry_count}
 use Rattle.sharetab.specs.Maps.{at_page}
 use Rattle.sharetab.specs.declared.guest_page.GuestPage.{GuestPage}
-use Rattle.swapstore.specs.Holding.{OthersStay}
-use Rattle.swapstore.specs.Memories.{with_inverted}
+use Rattle.swapstore.specs.Holding.{AreHeldByDigest, AllStay}
+use Rattle.swapstore.specs.Memories.{Inverts}
 use Rattle.physmap.specs.Holdings.{private_pages, shared_pages, swapped_pages}
 use Rattle.reclaim.specs.declared.level.Level.TheVariants.{High}
 use Rattle.dump.specs.Dumps.{dump_text}
@@ -36,7 +36,7 @@ use Rattle.world.specs.Admission.{IsAdmitted}
 use Rattle.world.specs.Answers.{Happens, IsSoundWorld}
 use Rattle.world.specs.Boots.{AreBooted, WhyNotBooted}
 use Rattle.world.specs.Events.{own_items}
-use Rattle.world.specs.Worlds.{WorldIs, boot_of, items_of, log_at, guest_at, view_at}
+use Rattle.world.specs.Worlds.{WorldIs, StoreStays, boot_of, items_of, log_at, guest_at, view_at}
 use Rattle.simulation.specs.declared.acts.Act.{Act}
 use Rattle.simulation.specs.declared.acts.Act.TheVariants as act
 use Rattle.simulation.specs.declared.said.Said.{Said}
@@ -64,25 +64,31 @@ pub record AreCounts {Store : Type 0} (w : WorldIs Store) (all_slots : ℕ) (cou
 abbrev pub IsDumpIn : {Store : Type 0} → WorldIs Store → ℕ → List ℕ → Type 0
 IsDumpIn w g text = (t : TenantIs) → text ≡ dump_text (view_at w g t) (step_count (items_of (guest_at w g t))) None
 
--- a byte of a slot of the store is inverted, and of the world nothing else has changed
-pub record IsDamaged {Store : Type 0} (failures : Store → ℕ) (held : Store → ℕ → Option (List ℕ)) (w : WorldIs Store) (slot byte : ℕ) (w' : WorldIs Store) : Type 0 where
-  pub inverted : held w'.store slot ≡ option_map (λ page. with_inverted page byte) (held w.store slot)
-  pub others : OthersStay slot (held w.store) (held w'.store)
+-- A byte that lies in a slot of the store is inverted, and of the world nothing else has changed; what was last written to each slot stays
+-- known. The store is honest no more; it stays true to digests where what lies there now has another SHA-256 than what was last written, or is
+-- that.
+pub record IsDamaged {Store : Type 0} (trusted : Store → Type 0) (failures : Store → ℕ) (honest : Store → Type 0) (held : Store → ℕ → Option (List ℕ)) (gives : Store → ℕ → List ℕ → Type 0) (w : WorldIs Store) (slot byte : ℕ) (w' : WorldIs Store) : Type 0 where
+  pub inverted : Inverts byte (gives w.store slot) (gives w'.store slot)
+  pub others : (other : ℕ) (bytes : List ℕ) → (other ≡ slot → ⊥) → gives w'.store other bytes ↔ gives w.store other bytes
+  pub written_stay : AllStay (held w.store) (held w'.store)
   pub failures_stay : failures w'.store ≡ failures w.store
+  pub dishonest : honest w'.store → ⊥
+  pub told : trusted w.store → ((bytes : List ℕ) → gives w'.store slot bytes → AreHeldByDigest (held w.store slot) bytes) → trusted w'.store
   pub beside : w' ≡ record w { store = w'.store }
 
 -- What is answered to an act, and what it makes of the world: what `World::apply` answers to an event, at a tax of 75 percent and by the
--- words that a generator gives next (`Happens`); what is read of the world as it is; or that a slot is damaged. These draw no word. How
+-- words that a generator gives next (`Happens`); what is read of the world as it is; or that a slot is damaged, or that there was no memory for it and nothing has changed. These draw no word. How
 -- often pages have moved is counted beside the world: its definition has no such number, and nothing is said of what they are.
-abbrev pub IsTold : {Store : Type 0} → (trusted : Store → Type 0) → (failures : Store → ℕ) → (honest : Store → Type 0) → (slots : Store → ℕ) → (held : Store → ℕ → Option (List ℕ)) → Stream → WorldIs Store → Act → Said → Stream → WorldIs Store → Type 0
-IsTold trusted failures honest slots held words w (act.World e) (said.Answered a) rest w' = Happens trusted failures honest slots held 75 words w e a rest w'
-IsTold trusted failures honest slots held words w act.Skip said.Skipped rest w' = (w' ≡ w) × (rest ≡ words)
-IsTold trusted failures honest slots held words w act.Audit (said.Counted counts) rest w' = AreCounts w (slots w.store) counts × (w' ≡ w) × (rest ≡ words)
-IsTold trusted failures honest slots held words w (act.Dump g) (said.Dumped done) rest w' =
+abbrev pub IsTold : {Store : Type 0} → (trusted : Store → Type 0) → (failures : Store → ℕ) → (honest : Store → Type 0) → (slots : Store → ℕ) → (held : Store → ℕ → Option (List ℕ)) → (gives : Store → ℕ → List ℕ → Type 0) → Stream → WorldIs Store → Act → Said → Stream → WorldIs Store → Type 0
+IsTold trusted failures honest slots held gives words w (act.World e) (said.Answered a) rest w' = Happens trusted failures honest slots held 75 words w e a rest w'
+IsTold trusted failures honest slots held gives words w act.Skip said.Skipped rest w' = (w' ≡ w) × (rest ≡ words)
+IsTold trusted failures honest slots held gives words w act.Audit (said.Counted counts) rest w' = AreCounts w (slots w.store) counts × (w' ≡ w) × (rest ≡ words)
+IsTold trusted failures honest slots held gives words w (act.Dump g) (said.Dumped done) rest w' =
     IfOk done (λ text. trusted w.store → IsDumpIn w g (string_bytes text)) × (w' ≡ w) × (rest ≡ words)
-IsTold trusted failures honest slots held words w (act.Stats g) (said.Moved counts) rest w' = (w' ≡ w) × (rest ≡ words)
-IsTold trusted failures honest slots held words w (act.Damage slot byte) said.Damaged rest w' = IsDamaged failures held w slot byte w' × (rest ≡ words)
-IsTold trusted failures honest slots held words w _ _ rest w' = ⊥
+IsTold trusted failures honest slots held gives words w (act.Stats g) (said.Moved counts) rest w' = (w' ≡ w) × (rest ≡ words)
+IsTold trusted failures honest slots held gives words w (act.Damage slot byte) (said.Damaged done) rest w' =
+    OnOk done (IsDamaged trusted failures honest held gives w slot byte w') × OnErr done (w' ≡ w) × (rest ≡ words)
+IsTold trusted failures honest slots held gives words w _ _ rest w' = ⊥
 
 -- the items that an act adds to the log of guest h, by what is answered
 abbrev pub added : ℕ → Act → Said → List Item
@@ -90,30 +96,31 @@ added h (act.World e) (said.Answered a) = own_items h e a
 added h _ _ = []
 
 -- An act is done. Each log has the items more that it adds, the machines that the guests booted and the number of slots are as before, and
--- the world is sound. Unless it damages a slot, the store is as true to digests as before.
-pub record IsDone {Store : Type 0} (trusted : Store → Type 0) (failures : Store → ℕ) (honest : Store → Type 0) (slots : Store → ℕ) (held : Store → ℕ → Option (List ℕ)) (words : Stream) (w : WorldIs Store) (a : Act) (s : Said) (rest : Stream) (w' : WorldIs Store) : Type 0 where
-  pub told : IsTold trusted failures honest slots held words w a s rest w'
+-- the world is sound. Where the store is true to digests after it, it was before; unless the act damages a slot, it is as it was.
+pub record IsDone {Store : Type 0} (trusted : Store → Type 0) (failures : Store → ℕ) (honest : Store → Type 0) (slots : Store → ℕ) (held : Store → ℕ → Option (List ℕ)) (gives : Store → ℕ → List ℕ → Type 0) (words : Stream) (w : WorldIs Store) (a : Act) (s : Said) (rest : Stream) (w' : WorldIs Store) : Type 0 where
+  pub told : IsTold trusted failures honest slots held gives words w a s rest w'
   pub logs : (h : ℕ) → log_at w'.tenants h ≡ log_at w.tenants h ++ added h a s
   pub boots : map boot_of w'.tenants ≡ map boot_of w.tenants
   pub slots_stay : slots w'.store ≡ slots w.store
+  pub trusted_before : trusted w'.store → trusted w.store
   pub trust : IsHarmless a → (trusted w'.store ↔ trusted w.store)
   pub sound : IsSoundWorld trusted slots held w'
 
 -- ---- many
 
 -- events of a script are done one after another, each in the world that the one before it left, and by the words that it left
-abbrev pub AllDone : {Store : Type 0} → (trusted : Store → Type 0) → (failures : Store → ℕ) → (honest : Store → Type 0) → (slots : Store → ℕ) → (held : Store → ℕ → Option (List ℕ)) → Stream → WorldIs Store → List Event → List Said → Stream → WorldIs Store → Type 0
-AllDone trusted failures honest slots held words w [] [] rest w' = (rest ≡ words) × (w' ≡ w)
-AllDone trusted failures honest slots held words w [] (s ∷ ss) rest w' = ⊥
-AllDone trusted failures honest slots held words w (e ∷ es) [] rest w' = ⊥
-AllDone {Store} trusted failures honest slots held words w (e ∷ es) (s ∷ ss) rest w' =
-    (left : Stream) × (mid : WorldIs Store) × IsDone trusted failures honest slots held words w (act_of e) s left mid × AllDone trusted failures honest slots held left mid es ss rest w'
+abbrev pub AllDone : {Store : Type 0} → (trusted : Store → Type 0) → (failures : Store → ℕ) → (honest : Store → Type 0) → (slots : Store → ℕ) → (held : Store → ℕ → Option (List ℕ)) → (gives : Store → ℕ → List ℕ → Type 0) → Stream → WorldIs Store → List Event → List Said → Stream → WorldIs Store → Type 0
+AllDone trusted failures honest slots held gives words w [] [] rest w' = (rest ≡ words) × (w' ≡ w)
+AllDone trusted failures honest slots held gives words w [] (s ∷ ss) rest w' = ⊥
+AllDone trusted failures honest slots held gives words w (e ∷ es) [] rest w' = ⊥
+AllDone {Store} trusted failures honest slots held gives words w (e ∷ es) (s ∷ ss) rest w' =
+    (left : Stream) × (mid : WorldIs Store) × IsDone trusted failures honest slots held gives words w (act_of e) s left mid × AllDone trusted failures honest slots held gives left mid es ss rest w'
 
 -- events are done in a world by the words of a generator, and the text is the lines of what is answered to them
-pub record IsPlayed {Store : Type 0} (trusted : Store → Type 0) (failures : Store → ℕ) (honest : Store → Type 0) (slots : Store → ℕ) (held : Store → ℕ → Option (List ℕ)) (words : Stream) (w : WorldIs Store) (events : List Event) (rest : Stream) (w' : WorldIs Store) (text : List ℕ) : Type 0 where
+pub record IsPlayed {Store : Type 0} (trusted : Store → Type 0) (failures : Store → ℕ) (honest : Store → Type 0) (slots : Store → ℕ) (held : Store → ℕ → Option (List ℕ)) (gives : Store → ℕ → List ℕ → Type 0) (words : Stream) (w : WorldIs Store) (events : List Event) (rest : Stream) (w' : WorldIs Store) (text : List ℕ) : Type 0 where
   pub said : List Said
   pub lines : text ≡ lines_of events said
-  pub done : AllDone trusted failures honest slots held words w events said rest w'
+  pub done : AllDone trusted failures honest slots held gives words w events said rest w'
 
 -- ---- what is shown of guests
 
@@ -131,13 +138,13 @@ pub record Shows (machine : ℕ → Machine) (steps : ℕ → ℕ) (a : Act) (s 
   pub dumped : (g : ℕ) (text : String Global) → a ≡ act.Dump g → s ≡ said.Dumped (Ok text) → string_bytes text ≡ dump_text (machine g) (steps g) None
 
 -- What is answered to each act shows of a guest what is so of the machine that it boots, run alone on the items of its log at that event:
--- those that its own earlier events have added. It is so up to the first event that damages a slot.
+-- those that its own earlier events have added.
 abbrev pub AllShow : Machine → List Machine → (ℕ → List Item) → List Event → List Said → Type 0
 AllShow any boots logs [] ss = Unit {0}
 AllShow any boots logs (e ∷ es) [] = Unit {0}
 AllShow any boots logs (e ∷ es) (s ∷ ss) =
     Shows (λ g. run (logs g) (slice_index_or boots g any)) (λ g. step_count (logs g)) (act_of e) s
-    × (IsHarmless (act_of e) → AllShow any boots (λ h. logs h ++ added h (act_of e) s) es ss)
+    × AllShow any boots (λ h. logs h ++ added h (act_of e) s) es ss
 
 -- the machine that a guest's image boots in a memory of its own
 abbrev pub machine_of : NewGuest → Machine
@@ -151,9 +158,7 @@ pub record IsFirst {Store : Type 0} (trusted : Store → Type 0) (honest : Store
   pub frames : w.frames ≡ config.frames
   pub level : w.level ≡ High
   pub hints : (page : GuestPage) → at_page w.shares.hints page ≡ None
-  pub slots_are : slots w.store ≡ slots store
-  pub honesty : honest w.store ↔ honest store
-  pub trust : trusted w.store ↔ trusted store
+  pub store_stays : StoreStays slots honest trusted store w.store
   pub admitted : config.admit ≡ true → IsAdmitted config.frames (slots store) w.tenants
   pub sound : IsSoundWorld trusted slots held w
 
@@ -163,15 +168,15 @@ abbrev pub words_of : ℕ → Stream
 words_of seed = stream_of (steps_u32 pcg32) (pcg32_of_seed (pcg32_seed 16 seed))
 
 -- The text is the lines of what is answered to the events, done one after another from a world that was booted with these guests over a
--- store, by the words of the generator of a seed; and where the store was true to digests, what they show of guests is of the machines that
--- the guests boot, each run alone on its own items.
-pub record IsTranscript {Store : Type 0} (trusted : Store → Type 0) (failures : Store → ℕ) (honest : Store → Type 0) (slots : Store → ℕ) (held : Store → ℕ → Option (List ℕ)) (config : Config) (seed : ℕ) (guests : List NewGuest) (store : Store) (events : List Event) (text : List ℕ) : Type 0 where
+-- store, by the words of the generator of a seed; and where the store is true to digests after them, what they show of guests is of the
+-- machines that the guests boot, each run alone on its own items.
+pub record IsTranscript {Store : Type 0} (trusted : Store → Type 0) (failures : Store → ℕ) (honest : Store → Type 0) (slots : Store → ℕ) (held : Store → ℕ → Option (List ℕ)) (gives : Store → ℕ → List ℕ → Type 0) (config : Config) (seed : ℕ) (guests : List NewGuest) (store : Store) (events : List Event) (text : List ℕ) : Type 0 where
   pub first : WorldIs Store
   pub last : WorldIs Store
   pub rest : Stream
   pub is_first : IsFirst trusted honest slots held config guests store first
-  pub played : IsPlayed trusted failures honest slots held (words_of seed) first events rest last text
-  pub shows : trusted store → (any : Machine) → AllShow any (map machine_of guests) (λ h. []) events played.said
+  pub played : IsPlayed trusted failures honest slots held gives (words_of seed) first events rest last text
+  pub shows : trusted last.store → (any : Machine) → AllShow any (map machine_of guests) (λ h. []) events played.said
 
 -- why there is no transcript: the world is not booted, or a request for memory was refused
 abbrev pub WhyNotDone : Config → ℕ → List NewGuest → SimError → Type 0

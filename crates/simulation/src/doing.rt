@@ -32,7 +32,8 @@ fn dump_of<S: SwapStore>(alloc: Global, world: &World<S>, g: usize) -> Result<St
 }
 
 /// Does an act, and says what is answered. The log of each guest is the one before with the items that the act adds by what is answered,
-/// the machines that the guests booted stay, and the world is sound. Unless a slot is damaged, the store stays as true to digests as it is.
+/// the machines that the guests booted stay, and the world is sound. Where the store is true to digests then, it was before; unless a slot
+/// is damaged, it stays as true to digests as it is.
 pub(crate) fn perform<S: Damage, R: Rng>(
     alloc: Global,
     world: &mut World<S>,
@@ -40,11 +41,12 @@ pub(crate) fn perform<S: Damage, R: Rng>(
     act: Act,
 ) -> Said
     requires { IsDoable (length world.old.tenants) (S.slots world.old.store) act }
-    ensures told { IsTold S.true_to_digests S.failed S.honest S.slots S.held (R.stream rng.old) world.old act result
+    ensures told { IsTold S.true_to_digests S.failed S.honest S.slots S.held S.gives (R.stream rng.old) world.old act result
         (R.stream rng.new) world.new }
     ensures logs { (h : ℕ) → log_at world.new.tenants h ≡ log_at world.old.tenants h ++ added h act result }
     ensures boots { map boot_of world.new.tenants ≡ map boot_of world.old.tenants }
     ensures slots { S.slots world.new.store ≡ S.slots world.old.store }
+    ensures trusted_before { S.true_to_digests world.new.store → S.true_to_digests world.old.store }
     ensures trust { IsHarmless act → (S.true_to_digests world.new.store ↔ S.true_to_digests world.old.store) }
     ensures sound { IsSoundWorld S.true_to_digests S.slots S.held world.new }
 {
@@ -67,9 +69,9 @@ pub(crate) fn perform<S: Damage, R: Rng>(
             Said::Moved(world.counts(g))
         }
         Act::Damage(slot, byte) => {
-            world.damage(slot, byte);
+            let done = world.damage(slot, byte);
             world.is_sound();
-            Said::Damaged
+            Said::Damaged(done)
         }
     }
 }

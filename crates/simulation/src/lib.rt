@@ -6,8 +6,8 @@
 //! (`specs/Transcripts.antt`): each act was done in the world that the one before it left (`AllDone`), an event of the world just as
 //! `World::apply` has it (`Happens`), by the words of the generator of the seed, from its first on; and what is shown of a guest, its
 //! console's output, the bytes of its memory and its dump, is that of the machine that its image boots, run alone on the items that its
-//! own events added (`AllShow`). The second holds up to the first damage of a slot. How often pages have moved is beside all this: no
-//! clause says the numbers.
+//! own events added (`AllShow`). The second holds where the store is true to digests at the end, so also after a damage that a SHA-256
+//! tells. How often pages have moved is beside all this: no clause says the numbers.
 #![tactic(auto)]
 
 pub mod acts;

@@ -15,6 +15,6 @@ pub enum Said {
     Dumped(Result<String, AllocError>),
     /// How often the pages of a guest have moved since its boot, and why. No clause says what these numbers are.
     Moved(MoveCounts),
-    /// A byte of a slot is inverted.
-    Damaged,
+    /// A byte that lies in a slot is inverted; or there was no memory to keep apart what was last written.
+    Damaged(Result<(), AllocError>),
 }

@@ -345,6 +345,15 @@ fn push_dumped(out: &mut String, done: &Result<String, AllocError>) -> Result<()
     }
 }
 
+fn push_damaged(out: &mut String, done: &Result<(), AllocError>) -> Result<(), AllocError>
+    ensures { OnOk result (string_bytes out.new ≡ string_bytes out.old ++ spec.damaged_text done.now) }
+{
+    match done {
+        Ok(()) => out.push_str("ok\n"),
+        Err(_) => push_stopped(out, RunStop::Memory),
+    }
+}
+
 /// Writes the line of what is answered to an act, or the lines of a dump, where the line begins with this.
 pub fn push_said(out: &mut String, heading: Heading, said: &Said) -> Result<(), AllocError>
     ensures { OnOk result (string_bytes out.new ≡ string_bytes out.old ++ spec.said_text heading said.now) }
@@ -355,6 +364,6 @@ pub fn push_said(out: &mut String, heading: Heading, said: &Said) -> Result<(), 
         Said::Counted(counts) => push_books(out, *counts),
         Said::Dumped(done) => push_dumped(out, done),
         Said::Moved(counts) => push_moves(out, heading, *counts),
-        Said::Damaged => out.push_str("ok\n"),
+        Said::Damaged(done) => push_damaged(out, done),
     }
 }

@@ -1,3 +1,4 @@
 pub mod Heaps
 pub mod Pages
 pub mod Inverted
+pub mod Media

@@ -1,11 +1,12 @@
 //! A store whose k-th read or write fails.
-ghost use Rattle.std.specs.Prelude.{◌≡◌, ◌<◌, ◌↔◌, length, Some, option_map, OnOk, is_ok, IsErr, true, false};
+ghost use Rattle.std.specs.Prelude.{◌≡◌, ℕ, ◌<◌, ◌↔◌, List, length, OnOk, OnErr, is_ok, IsErr, true, false};
 ghost use Rattle.swapstore.specs.Failures.{counted};
 ghost use Rattle.swapstore.specs.Holding.{AreHeld, AreHeldByDigest, AllStay, OthersStay};
-ghost use Rattle.swapstore.specs.Memories.{with_inverted};
+ghost use Rattle.swapstore.specs.Memories.{Inverts};
 ghost use Rattle.swapstore.specs.Faults.{store_of, op_of, left_of, left_after, is_due, with_fault};
 
 use crate::{Damage, Failed, SwapStore};
+use std::alloc::AllocError;
 
 /// The kinds of calls that can fail.
 #[derive(Clone, Copy, Debug, PartialEq, Eq)]
@@ -65,6 +66,8 @@ impl<S: SwapStore> FaultStore<S> {
 impl<S: SwapStore> SwapStore for FaultStore<S> {
     ghost held = { λ s. S.held s.store };
 
+    ghost gives = { λ s. S.gives s.store };
+
     ghost honest = { λ s. S.honest s.store };
 
     ghost true_to_digests = { λ s. S.true_to_digests s.store };
@@ -74,6 +77,8 @@ impl<S: SwapStore> SwapStore for FaultStore<S> {
     ghost failed = { λ s. with_fault s.left (S.failed s.store) };
 
     ghost honest_is_true = { λ s honest. S.honest_is_true s.store honest };
+
+    ghost known = { λ s sure. S.known s.store sure };
 
     fn slot_count(&self) -> u32 {
         self.store.slot_count()
@@ -96,8 +101,8 @@ impl<S: SwapStore> SwapStore for FaultStore<S> {
             S.failed (store_of self.new) ≡ counted (is_ok result) (S.failed (store_of self.old)) }
         ensures left { left_of self.new ≡ left_after Op.Write (op_of self.old) (left_of self.old) }
         ensures op { op_of self.new ≡ op_of self.old }
-        ensures written { OnOk result (S.true_to_digests (store_of self.old) → S.held (store_of self.new) slot ≡ Some bytes.now) }
-        ensures others { S.true_to_digests (store_of self.old) → OthersStay slot (S.held (store_of self.old)) (S.held (store_of self.new)) }
+        ensures written { OnOk result (AreHeld (S.held (store_of self.new) slot) bytes.now) }
+        ensures others { OthersStay slot (S.held (store_of self.old)) (S.held (store_of self.new)) }
         ensures slots { S.slots (store_of self.new) ≡ S.slots (store_of self.old) }
         ensures honest { S.honest (store_of self.new) ↔ S.honest (store_of self.old) }
         ensures true_to_digests { S.true_to_digests (store_of self.new) ↔ S.true_to_digests (store_of self.old) }
@@ -116,9 +121,10 @@ impl<S: SwapStore> SwapStore for FaultStore<S> {
             S.failed (store_of self.new) ≡ counted (is_ok result) (S.failed (store_of self.old)) }
         ensures left { left_of self.new ≡ left_after Op.Read (op_of self.old) (left_of self.old) }
         ensures op { op_of self.new ≡ op_of self.old }
+        ensures gives { OnOk result (S.gives (store_of self.old) slot bytes.new) }
         ensures honest_gives { OnOk result (S.honest (store_of self.old) → AreHeld (S.held (store_of self.old) slot) bytes.new) }
         ensures true_gives { OnOk result (S.true_to_digests (store_of self.old) → AreHeldByDigest (S.held (store_of self.old) slot) bytes.new) }
-        ensures held { S.true_to_digests (store_of self.old) → AllStay (S.held (store_of self.old)) (S.held (store_of self.new)) }
+        ensures held { AllStay (S.held (store_of self.old)) (S.held (store_of self.new)) }
         ensures slots { S.slots (store_of self.new) ≡ S.slots (store_of self.old) }
         ensures honest { S.honest (store_of self.new) ↔ S.honest (store_of self.old) }
         ensures true_to_digests { S.true_to_digests (store_of self.new) ↔ S.true_to_digests (store_of self.old) }
@@ -131,18 +137,22 @@ impl<S: SwapStore> SwapStore for FaultStore<S> {
 }
 
 impl<S: Damage> Damage for FaultStore<S> {
-    fn damage(&mut self, slot: u32, byte: u32)
+    fn damage(&mut self, slot: u32, byte: u32) -> Result<(), AllocError>
         requires slot { slot < S.slots (store_of self.old) }
         requires byte { byte < 4096 }
-        ensures inverted { S.held (store_of self.new) slot ≡ option_map (λ page. with_inverted page byte) (S.held (store_of self.old) slot) }
-        ensures others { OthersStay slot (S.held (store_of self.old)) (S.held (store_of self.new)) }
+        ensures inverted { OnOk result (Inverts byte (S.gives (store_of self.old) slot) (S.gives (store_of self.new) slot)) }
+        ensures others { (other : ℕ) (bytes : List ℕ) → (other ≡ slot → ⊥) → S.gives (store_of self.new) other bytes ↔ S.gives (store_of self.old) other bytes }
+        ensures held { AllStay (S.held (store_of self.old)) (S.held (store_of self.new)) }
         ensures failed { S.failed (store_of self.new) ≡ S.failed (store_of self.old) }
         ensures slots { S.slots (store_of self.new) ≡ S.slots (store_of self.old) }
-        ensures dishonest { S.honest (store_of self.new) → ⊥ }
-        ensures untrue { S.true_to_digests (store_of self.new) → ⊥ }
+        ensures dishonest { OnOk result (S.honest (store_of self.new) → ⊥) }
+        ensures untrue_stays { S.true_to_digests (store_of self.new) → S.true_to_digests (store_of self.old) }
+        ensures told { OnOk result (S.true_to_digests (store_of self.old) →
+            ((bytes : List ℕ) → S.gives (store_of self.new) slot bytes → AreHeldByDigest (S.held (store_of self.old) slot) bytes) → S.true_to_digests (store_of self.new)) }
+        ensures unchanged { OnErr result (store_of self.new ≡ store_of self.old) }
         ensures op { op_of self.new ≡ op_of self.old }
         ensures left { left_of self.new ≡ left_of self.old }
     {
-        self.store.damage(slot, byte);
+        self.store.damage(slot, byte)
     }
 }

@@ -1,7 +1,8 @@
 //! A store in a file.
-ghost use Rattle.std.specs.Prelude.{◌≡◌, ◌*◌, Some, is_ok};
+ghost use Rattle.std.specs.Prelude.{◌≡◌, ℕ, ◌*◌, length, Some, IsSome, is_some, OnOk, is_ok};
 ghost use Rattle.swapstore.specs.Failures.{counted, one_more};
-ghost use Rattle.swapstore.specs.Places.{page_in};
+ghost use Rattle.swapstore.specs.Holding.{AreHeld, AllStay, OthersStay};
+ghost use Rattle.swapstore.specs.Places.{page_in, slot_in, slot_known};
 ghost use Rattle.swapstore.specs.Files.{medium_of, slots_of, failures_of};
 
 use crate::{Failed, Medium, SwapStore};
@@ -9,7 +10,8 @@ use std::io;
 
 /// A store in a file, or in another medium. The first byte of a slot is that of place `4096 * slot`.
 ///
-/// It is honest where its medium keeps what is written: of a `File` that is a premise that nothing proves.
+/// It is honest where the bytes of its medium are known, as those of memory are. Of a `File` nothing is known: a read of such
+/// a store may give any bytes, and what was last written to its slots is not known.
 #[derive(Drop)]
 pub struct FileStore<M> {
     medium: M,
@@ -67,19 +69,43 @@ fn first_place(slot: u32) -> u64
     4096 * u64::from(slot)
 }
 
-#[tactic(auto, using(crate::proofs::Pages::bytes_read, crate::proofs::Pages::same_bytes, crate::proofs::Pages::other_slot_stays))]
+// Reads a slot of a medium.
+fn read_slot<M: Medium>(medium: &mut M, slot: u32, bytes: &mut [u8]) -> io::Result<()>
+    requires { length bytes.old ≡ 4096 }
+    ensures gives { OnOk result ((byte_at : ℕ → ℕ) → M.byte_at medium.old ≡ Some byte_at → bytes.new ≡ page_in byte_at slot) }
+    ensures read { OnOk result (AreHeld (slot_in (M.byte_at medium.old) slot) bytes.new) }
+    ensures held { AllStay (slot_in (M.byte_at medium.old)) (slot_in (M.byte_at medium.new)) }
+    ensures known { is_some (M.byte_at medium.new) ≡ is_some (M.byte_at medium.old) }
+{
+    medium.read_from(first_place(slot), bytes)
+}
+
+// Writes a slot of a medium.
+fn write_slot<M: Medium>(medium: &mut M, slot: u32, bytes: &[u8]) -> io::Result<()>
+    requires { length bytes.now ≡ 4096 }
+    ensures written { OnOk result (AreHeld (slot_in (M.byte_at medium.new) slot) bytes.now) }
+    ensures others { OthersStay slot (slot_in (M.byte_at medium.old)) (slot_in (M.byte_at medium.new)) }
+    ensures known { is_some (M.byte_at medium.new) ≡ is_some (M.byte_at medium.old) }
+{
+    medium.write_from(first_place(slot), bytes)
+}
+
 impl<M: Medium> SwapStore for FileStore<M> {
-    ghost held = { λ s slot. Some (page_in (M.byte_at s.medium) slot) };
+    ghost held = { λ s slot. slot_in (M.byte_at s.medium) slot };
 
-    ghost honest = { λ s. M.keeps s.medium };
+    ghost gives = { λ s slot bytes. (byte_at : ℕ → ℕ) → M.byte_at s.medium ≡ Some byte_at → bytes ≡ page_in byte_at slot };
 
-    ghost true_to_digests = { λ s. M.keeps s.medium };
+    ghost honest = { λ s. IsSome (M.byte_at s.medium) };
+
+    ghost true_to_digests = { λ s. IsSome (M.byte_at s.medium) };
 
     ghost slots = { λ s. s.slots };
 
     ghost failed = { λ s. s.failures };
 
-    ghost honest_is_true = { λ s keeps. keeps };
+    ghost honest_is_true = { λ s known. known };
+
+    ghost known = { λ s known slot inside. slot_known (M.byte_at s.medium) slot known };
 
     fn slot_count(&self) -> u32 {
         self.slots
@@ -90,12 +116,12 @@ impl<M: Medium> SwapStore for FileStore<M> {
     }
 
     fn write(&mut self, slot: u32, bytes: &[u8]) -> Result<(), Failed> {
-        let answer = self.medium.write_from(first_place(slot), bytes);
+        let answer = write_slot(&mut self.medium, slot, bytes);
         self.counted(answer)
     }
 
     fn read(&mut self, slot: u32, bytes: &mut [u8]) -> Result<(), Failed> {
-        let answer = self.medium.read_from(first_place(slot), bytes);
+        let answer = read_slot(&mut self.medium, slot, bytes);
         self.counted(answer)
     }
 }

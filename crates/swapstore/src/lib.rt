@@ -1,14 +1,13 @@
 //! Where the pages go that are swapped out: the free slots, and the stores that hold the slots' bytes.
 //!
-//! Definitions: `specs/Holding.antt` has what slots hold before and after a call, `specs/Places.antt` which bytes of a medium
-//! a slot has, `specs/Failures.antt` the count of failed calls, `specs/Memories.antt` a store in memory and its damage,
-//! `specs/Faults.antt` which call of a `FaultStore` fails. The crates above use `SlotBook`, in clauses a `FreeList` of
-//! `frames`, whose `take` gives the lowest free slot; `SwapStore`, `Damage` and their stores; and `digest`. `SlotBook::new`
-//! makes the one `Numbers` of the slots, and all the room: no later call asks for memory.
+//! Definitions: `specs/Holding.antt` has what was last written to slots, before and after a call, `specs/Places.antt` which bytes
+//! of a medium a slot has, `specs/Failures.antt` the count of failed calls, `specs/Memories.antt` a store in memory and what
+//! damage does, `specs/Faults.antt` which call of a `FaultStore` fails. The crates above use `SlotBook`, in clauses a `FreeList`
+//! of `frames`, whose `take` gives the lowest free slot; `SwapStore`, `Damage` and their stores; and `digest`.
 //!
-//! What a `SwapStore` promises rests on the premise that it is honest, or true to digests, which each call keeps in both
-//! directions. `MemStore` is honest until a byte is damaged; `FileStore` where its `Medium` keeps what is written, as memory
-//! does. No clause of the system says so of a `File`, so of a store in a file it is a premise that nothing proves.
+//! A store tells what was last written to a slot, where that is known, from what a read of it may give. A `MemStore` is honest
+//! until a byte is damaged, and true to digests until a damage makes other bytes of one SHA-256, which it looks for. A
+//! `FileStore` is both where its `Medium` has bytes that are known, as memory has; of a `File` nothing is known or claimed.
 #![tactic(auto)]
 
 pub mod damage;
@@ -20,6 +19,7 @@ pub mod medium;
 pub mod memory;
 pub mod slots;
 pub mod store;
+mod stored_page;
 #[cfg(test)]
 mod tests;
 

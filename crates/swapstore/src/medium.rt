@@ -1,5 +1,5 @@
 //! What a store's bytes lie on.
-ghost use Rattle.std.specs.Prelude.{◌≡◌, ℕ, ◌+◌, ◌<◌, ◌≤◌, ◌↔◌, OnOk, length, slice_index, nat_le, is_ok, is_some, ⊤, OnErr, IfSome};
+ghost use Rattle.std.specs.Prelude.{◌≡◌, ℕ, ◌+◌, ◌<◌, ◌≤◌, Option, Some, None, OnOk, length, slice_index, nat_le, is_ok, is_some, OnErr, IfSome};
 
 use std::fs::File;
 use std::io;
@@ -7,34 +7,28 @@ use std::os::unix::fs::FileExt;
 
 /// Bytes at places, to be read and written: a file, or memory that stands for one.
 ///
-/// What it promises rests on the premise that it keeps what is written, which no call changes. No clause of the system says
-/// so of a `File`, so nothing is proved of one.
+/// What it promises, it promises of bytes that are known, and no call changes whether they are.
 pub trait Medium {
-    /// The byte at each place.
-    ghost byte_at: { Self → ℕ → ℕ };
-
-    /// It keeps what is written, and gives that or fails.
-    ghost keeps: { Self → Type 0 };
+    /// The byte at each place; None of a medium of which nothing is known.
+    ghost byte_at: { Self → Option (ℕ → ℕ) };
 
     /// Reads the bytes from a place on, as many as there is room for. Where it fails, it is open what is in `bytes`.
     fn read_from(&mut self, place: u64, bytes: &mut [u8]) -> io::Result<()>
-        ensures gives { OnOk result (keeps self.old → (i : ℕ) → i < length bytes.new → slice_index bytes.new i ≡ byte_at self.old (place + i)) }
-        ensures bytes { keeps self.old → (any : ℕ) → byte_at self.new any ≡ byte_at self.old any }
-        ensures keeps { keeps self.new ↔ keeps self.old };
+        ensures gives { OnOk result ((old : ℕ → ℕ) → byte_at self.old ≡ Some old → (i : ℕ) → i < length bytes.new → slice_index bytes.new i ≡ old (place + i)) }
+        ensures bytes { (old new : ℕ → ℕ) → byte_at self.old ≡ Some old → byte_at self.new ≡ Some new → (any : ℕ) → new any ≡ old any }
+        ensures known { is_some (byte_at self.new) ≡ is_some (byte_at self.old) };
 
     /// Writes bytes from a place on. Where it fails, it is open which bytes are there; the others stay.
     fn write_from(&mut self, place: u64, bytes: &[u8]) -> io::Result<()>
-        ensures written { OnOk result (keeps self.old → (i : ℕ) → i < length bytes.now → byte_at self.new (place + i) ≡ slice_index bytes.now i) }
-        ensures before { keeps self.old → (any : ℕ) → any < place → byte_at self.new any ≡ byte_at self.old any }
-        ensures after { keeps self.old → (any : ℕ) → place + length bytes.now ≤ any → byte_at self.new any ≡ byte_at self.old any }
-        ensures keeps { keeps self.new ↔ keeps self.old };
+        ensures written { OnOk result ((new : ℕ → ℕ) → byte_at self.new ≡ Some new → (i : ℕ) → i < length bytes.now → new (place + i) ≡ slice_index bytes.now i) }
+        ensures before { (old new : ℕ → ℕ) → byte_at self.old ≡ Some old → byte_at self.new ≡ Some new → (any : ℕ) → any < place → new any ≡ old any }
+        ensures after { (old new : ℕ → ℕ) → byte_at self.old ≡ Some old → byte_at self.new ≡ Some new → (any : ℕ) → place + length bytes.now ≤ any → new any ≡ old any }
+        ensures known { is_some (byte_at self.new) ≡ is_some (byte_at self.old) };
 }
 
-/// A file. That it keeps what is written is a premise that nothing proves.
+/// A file, of which nothing is known: no clause of the system says that it keeps what is written.
 impl Medium for File {
-    ghost byte_at = { λ _ _. 0 };
-
-    ghost keeps = { λ _. ⊥ };
+    ghost byte_at = { λ _. None };
 
     fn read_from(&mut self, place: u64, bytes: &mut [u8]) -> io::Result<()> {
         self.read_exact_at(bytes, place)
@@ -48,9 +42,7 @@ impl Medium for File {
 /// Memory, which keeps what is written. A read or a write fails exactly where it reaches past the end, and then changes
 /// nothing.
 impl Medium for Vec<u8> {
-    ghost byte_at = { λ memory place. slice_index memory.items place };
-
-    ghost keeps = { λ _. ⊤ };
+    ghost byte_at = { λ memory. Some (λ place. slice_index memory.items place) };
 
     fn read_from(&mut self, place: u64, bytes: &mut [u8]) -> io::Result<()>
         ensures fits { is_ok result ≡ nat_le (place + length bytes.old) (length self.old.items) }

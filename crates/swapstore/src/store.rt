@@ -1,5 +1,5 @@
 //! What a swap store is.
-ghost use Rattle.std.specs.Prelude.{◌≡◌, ℕ, ◌<◌, ◌↔◌, List, length, Option, Some, OnOk, is_ok};
+ghost use Rattle.std.specs.Prelude.{◌≡◌, ℕ, ◌<◌, ◌↔◌, List, length, Option, IsSome, OnOk, is_ok};
 ghost use Rattle.swapstore.specs.Failures.{counted};
 ghost use Rattle.swapstore.specs.Holding.{AreHeld, AreHeldByDigest, AllStay, OthersStay};
 
@@ -9,12 +9,15 @@ pub struct Failed;
 
 /// Slots of 4,096 bytes, by their numbers, which hold the pages that are swapped out.
 ///
-/// What a store promises rests on two premises, which no call changes: that it is honest, or at least true to digests. In
-/// such a store a slot holds what was last written to it, and a read gives that or fails; a write that failed leaves open
-/// what its own slot holds, and no other's.
+/// What was last written to a slot is one thing, and what a read of it gives is another. In an honest store a read gives what
+/// was last written, or fails; in one that is true to digests it may also give bytes of another SHA-256. No read or write
+/// changes which a store is. A write that failed leaves open what was last written to its own slot, and to no other.
 pub trait SwapStore {
-    /// What a slot holds, as far as is known.
+    /// What was last written to a slot, where that is known.
     ghost held: { Self → ℕ → Option (List ℕ) };
+
+    /// These bytes are what a read of a slot may give.
+    ghost gives: { Self → ℕ → List ℕ → Type 0 };
 
     /// Each read that answers `Ok` gives what was last written to its slot.
     ghost honest: { Self → Type 0 };
@@ -36,12 +39,12 @@ pub trait SwapStore {
     fn failures(&self) -> u64
         ensures { result ≡ failed self.now };
 
-    /// Writes a page to a slot. Where it fails, it is open what that slot holds.
+    /// Writes a page to a slot. Where it fails, it is open what was last written to that slot.
     fn write(&mut self, slot: u32, bytes: &[u8]) -> Result<(), Failed>
         requires slot { slot < slots self.old }
         requires page { length bytes.now ≡ 4096 }
-        ensures written { OnOk result (true_to_digests self.old → held self.new slot ≡ Some bytes.now) }
-        ensures others { true_to_digests self.old → OthersStay slot (held self.old) (held self.new) }
+        ensures written { OnOk result (AreHeld (held self.new slot) bytes.now) }
+        ensures others { OthersStay slot (held self.old) (held self.new) }
         ensures counted { failed self.new ≡ counted (is_ok result) (failed self.old) }
         ensures slots { slots self.new ≡ slots self.old }
         ensures honest { honest self.new ↔ honest self.old }
@@ -51,9 +54,10 @@ pub trait SwapStore {
     fn read(&mut self, slot: u32, bytes: &mut [u8]) -> Result<(), Failed>
         requires slot { slot < slots self.old }
         requires page { length bytes.old ≡ 4096 }
+        ensures gives { OnOk result (gives self.old slot bytes.new) }
         ensures honest_gives { OnOk result (honest self.old → AreHeld (held self.old slot) bytes.new) }
         ensures true_gives { OnOk result (true_to_digests self.old → AreHeldByDigest (held self.old slot) bytes.new) }
-        ensures held { true_to_digests self.old → AllStay (held self.old) (held self.new) }
+        ensures held { AllStay (held self.old) (held self.new) }
         ensures counted { failed self.new ≡ counted (is_ok result) (failed self.old) }
         ensures slots { slots self.new ≡ slots self.old }
         ensures honest { honest self.new ↔ honest self.old }
@@ -61,4 +65,7 @@ pub trait SwapStore {
 
     /// An honest store is true to digests.
     ghost honest_is_true: { (store : Self) → honest store → true_to_digests store };
+
+    /// What was last written to each slot of a store that is true to digests is known.
+    ghost known: { (store : Self) → true_to_digests store → (slot : ℕ) → slot < slots store → IsSome (held store slot) };
 }

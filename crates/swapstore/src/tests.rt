@@ -159,7 +159,9 @@ fn damaged<S: Damage>(rt: &impl Abort, store: &mut S, byte: u32) {
     if store.slot_count() < 2 || byte >= 4096 {
         panic!(rt; "there is no byte {byte} of slot 1");
     }
-    store.damage(1, byte);
+    if store.damage(1, byte).is_err() {
+        panic!(rt; "no memory to damage byte {byte}");
+    }
 }
 
 /// The bytes of slot 1 that are not those of a page.

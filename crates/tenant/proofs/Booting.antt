@@ -1,5 +1,5 @@
 -- A guest whose pages are loaded.
-use Rattle.std.proofs.Common.{false, ℕ, zero, suc, ◌≡◌, ◌+◌, ◌*◌, ◌<◌, ◌≤◌, inl, inr, List, [], ◌∷◌, length, replicate, fold, set, get_or, refl, sym, ap, subst, ◌∙◌, arith, Option, None, Some, Result, Ok, Err, OnOk}
+use Rattle.std.proofs.Common.{false, ℕ, zero, suc, ◌≡◌, ◌+◌, ◌*◌, ◌<◌, ◌≤◌, inl, inr, List, [], ◌∷◌, length, replicate, fold, set, get_or, refl, sym, ap, subst, ◌∙◌, arith, Option, None, Result, Ok, Err, OnOk}
 use Rattle.std.proofs.lemmas.Bool.{cases_eq, cases_lt}
 use Rattle.std.proofs.lemmas.List.Sums.{get_or-le-sum_by}
 use Rattle.std.proofs.lemmas.List.Folds.{sum_by-replicate}
@@ -27,6 +27,7 @@ use Rattle.physmap.specs.declared.page.PageKind.TheVariants as kind
 use Rattle.physmap.specs.Pages.{kind_of, kind_at, page_at, shown, own_frame, slot_of}
 use Rattle.physmap.specs.Holdings.{frame_in, ticket_in, slot_in, slots_held, one_private, one_swapped}
 use Rattle.paging.specs.Moves.{Conserves, Reads}
+use Rattle.swapstore.specs.Holding.{AreHeld}
 use Rattle.paging.specs.Faith.{IsFaithful, Faithful, IsHeld, Kept}
 use Rattle.paging.specs.Supplies.{Supplies}
 use Rattle.paging.proofs.Booking.{below_one}
@@ -89,14 +90,14 @@ on_ok_both (Ok x) f p q = f p q
 on_ok_both (Err e) f p q = tt
 
 -- a page is in a frame
-pub in_frame : (trusted : Type 0) (held : ℕ → Option (List ℕ)) (ps ps' : List Page) (p : ℕ) (bytes : List ℕ) → p < length ps → Supplies ps p bytes ps' → IsLoaded trusted held p bytes ps ps'
-in_frame trusted held ps ps' p bytes there s =
+pub in_frame : (held : ℕ → Option (List ℕ)) (ps ps' : List Page) (p : ℕ) (bytes : List ℕ) → p < length ps → Supplies ps p bytes ps' → IsLoaded held p bytes ps ps'
+in_frame held ps ps' p bytes there s =
     let frame = own_frame (page_at ps' p) in
     let at : page_at ps' p ≡ page.Private frame = supplied_at ps ps' p bytes there s in
     record {
       others = λ o apart. other_at ps ps' p o (page.Private frame) s.pages apart;
       faithful = subst (IsFaithful bytes) (sym at) (sym (ap shown at) ∙ s.shows);
-      lies = λ trust. subst (IsHeld held bytes) (sym at) tt;
+      lies = subst (IsHeld held bytes) (sym at) tt;
     }
 
 pub in_frame_first : (pool pool' : FreeList) (ps ps' : List Page) (p : ℕ) (bytes : List ℕ) → p < length ps → Supplies ps p bytes ps' → 0 < length pool.free → IsFrameFirst pool pool' (page_at ps' p)
@@ -109,20 +110,20 @@ in_frame_first pool pool' ps ps' p bytes there s some =
     }
 
 -- a page is in a slot
-in_slot : (trusted : Type 0) (held : ℕ → Option (List ℕ)) (ps ps' : List Page) (p : ℕ) (bytes : List ℕ) → p < length ps
-    → ps' ≡ set ps p (page.Swapped (slot_of (page_at ps' p)) (sha256 bytes)) → (trusted → held (slot_of (page_at ps' p)) ≡ Some bytes) → IsLoaded trusted held p bytes ps ps'
-in_slot trusted held ps ps' p bytes there is written =
+in_slot : (held : ℕ → Option (List ℕ)) (ps ps' : List Page) (p : ℕ) (bytes : List ℕ) → p < length ps
+    → ps' ≡ set ps p (page.Swapped (slot_of (page_at ps' p)) (sha256 bytes)) → AreHeld (held (slot_of (page_at ps' p))) bytes → IsLoaded held p bytes ps ps'
+in_slot held ps ps' p bytes there is written =
     let away = page.Swapped (slot_of (page_at ps' p)) (sha256 bytes) in
     let at : page_at ps' p ≡ away = new_at ps ps' p away there is in
     record {
       others = λ o apart. other_at ps ps' p o away is apart;
       faithful = subst (IsFaithful bytes) (sym at) refl;
-      lies = λ trust. subst (IsHeld held bytes) (sym at) (written trust);
+      lies = subst (IsHeld held bytes) (sym at) written;
     }
 
-pub in_slot_bytes : (trusted : Type 0) (held : ℕ → Option (List ℕ)) (ps ps' : List Page) (p : ℕ) (written bytes : List ℕ) → written ≡ bytes → p < length ps
-    → ps' ≡ set ps p (page.Swapped (slot_of (page_at ps' p)) (sha256 written)) → (trusted → held (slot_of (page_at ps' p)) ≡ Some written) → IsLoaded trusted held p bytes ps ps'
-in_slot_bytes trusted held ps ps' p written bytes same there is lies = subst (λ (b : List ℕ). IsLoaded trusted held p b ps ps') same (in_slot trusted held ps ps' p written there is lies)
+pub in_slot_bytes : (held : ℕ → Option (List ℕ)) (ps ps' : List Page) (p : ℕ) (written bytes : List ℕ) → written ≡ bytes → p < length ps
+    → ps' ≡ set ps p (page.Swapped (slot_of (page_at ps' p)) (sha256 written)) → AreHeld (held (slot_of (page_at ps' p))) written → IsLoaded held p bytes ps ps'
+in_slot_bytes held ps ps' p written bytes same there is lies = subst (λ (b : List ℕ). IsLoaded held p b ps ps') same (in_slot held ps ps' p written there is lies)
 
 pub in_slot_kind : (ps ps' : List Page) (p : ℕ) (digest : List ℕ) → p < length ps → ps' ≡ set ps p (page.Swapped (slot_of (page_at ps' p)) digest) → kind_at ps' p ≡ kind.Swapped
 in_slot_kind ps ps' p digest there is = ap kind_of (new_at ps ps' p (page.Swapped (slot_of (page_at ps' p)) digest) there is)
@@ -241,7 +242,7 @@ reached_not_beside image p (k, s, inside, at, reached) beside =
 
 -- ---- no page
 
-same_at : {X : Type 0} (n k : ℕ) (x : X) → get_or (replicate n x) k x ≡ x
+pub same_at : {X : Type 0} (n k : ℕ) (x : X) → get_or (replicate n x) k x ≡ x
 same_at zero k x = refl
 same_at (suc n) zero x = refl
 same_at (suc n) (suc k) x = same_at n k x

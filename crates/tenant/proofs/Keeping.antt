@@ -44,14 +44,14 @@ pub seat_was_so : (So : ℕ → Processor → PagedBusIs → Machine → List It
 seat_was_so So g g' seat only items first so =
     was_so g g' only items (So 0) (subst (λ (n : ℕ). So n g'.cpu g'.bus g'.boot g'.log.items) first so)
 
--- each slot that isn't free holds what it held, so what a guest has in slots lies there
+-- what was last written to each slot that isn't free stays, so what was to those of a guest does
 pub used_held : (book : FreeList) (held held' : ℕ → Option (List ℕ)) (b : List ℕ) (q : Page) → UsedStay book held held' → ((slot : ℕ) → 0 < slot_in slot q → count_of slot book.free ≡ 0)
     → IsHeld held b q → IsHeld held' b q
 used_held book held held' b page.Zero used apart lies = tt
 used_held book held held' b page.Given used apart lies = tt
 used_held book held held' b (page.Private frame) used apart lies = tt
 used_held book held held' b (page.Shared share ticket) used apart lies = tt
-used_held book held held' b (page.Swapped slot digest) used apart lies = used slot (apart slot (omega (arith, one_same slot))) ∙ lies
+used_held book held held' b (page.Swapped slot digest) used apart lies = λ last is. lies last (sym (used slot (apart slot (omega (arith, one_same slot)))) ∙ is)
 
 pub used_kept : (book : FreeList) (held held' : ℕ → Option (List ℕ)) (t : TenantIs) → UsedStay book held held'
     → ((slot : ℕ) → 0 < slots_held slot (pages_in t) → count_of slot book.free ≡ 0) → IsKept held t → IsKept held' t

@@ -3,3 +3,4 @@ pub mod Giving
 pub mod Keeping
 pub mod Lending
 pub mod Moving
+pub mod SlotOrder

@@ -1,13 +1,20 @@
 -- What one guest's pages leave behind as they move.
-use Rattle.std.proofs.Common.{ℕ, ◌≡◌, ◌+◌, ◌<◌, List, [], ◌∷◌, subst, arith, Option, Some}
-use Rattle.std.specs.Option.{option_to_list}
+use Rattle.std.proofs.Common.{ℕ, ◌≡◌, ◌+◌, ◌<◌, List, [], ◌∷◌, length, subst, arith, Option, Some, Result, Err, IfErr}
+use Rattle.std.specs.Option.{IsSome, option_to_list}
 use Rattle.frames.specs.Counts.{one_at, count_of}
 use Rattle.frames.specs.FreeList.{FreeList}
 use Rattle.sharetab.specs.Entries.{EntriesAre}
 use Rattle.physmap.specs.declared.page.Page.{Page}
+use Rattle.physmap.specs.declared.page.PageKind.TheVariants.{Swapped}
+use Rattle.physmap.specs.Pages.{page_at, kind_at, slot_of, digest_of}
 use Rattle.frames.proofs.Counting.{one_same}
 use Rattle.paging.specs.Moves.{Takes, MovesFrames, MovesSlots, MovesTickets, Conserves}
+use Rattle.paging.specs.declared.supply.SupplyError.{SupplyError}
+use Rattle.paging.specs.declared.supply.SupplyError.TheVariants.{SwapDamaged}
+use Rattle.paging.specs.Faith.{Kept}
+use Rattle.paging.specs.Supplies.{WhyAway, IsDamaged}
 use Rattle.paging.proofs.Booking.{frame_given, slot_taken}
+use Rattle.paging.proofs.Keeping.{kept_is_sound}
 
 pub frames_back : (pages pages' : List Page) (before pool pool' : FreeList) (es es' : EntriesAre) (number : ℕ)
     → ((k : ℕ) → count_of k pool'.free ≡ count_of k pool.free + one_at k number) → pool'.out + 1 ≡ pool.out
@@ -40,3 +47,12 @@ pub came_free_out : (ps : List Page) (pool : FreeList) (es : EntriesAre) (came :
     → ((pages' : List Page) (entries' : EntriesAre) (k : ℕ) → MovesFrames ps pool es pages' pool entries' (k ∷ []) → 0 < pool.out)
     → MovesFrames ps pool es ps' pool es' (option_to_list came) → came ≡ Some number → 0 < pool.out
 came_free_out ps pool es came ps' es' number out m is = out ps' es' number (subst (λ (o : Option ℕ). MovesFrames ps pool es ps' pool es' (option_to_list o)) is m)
+
+-- a page that is kept is not refused as damaged by an honest store
+pub never_damaged : {T : Type 0} (r : Result T SupplyError) (pool : FreeList) (failed : Type 0) (gives : List ℕ → Type 0) (honest : Type 0) (held : ℕ → Option (List ℕ)) (view : ℕ → List ℕ) (ps : List Page) (p : ℕ)
+    → r ≡ Err SwapDamaged → p < length ps → kind_at ps p ≡ Swapped → honest → IsSome (held (slot_of (page_at ps p))) → Kept held view ps
+    → IfErr r (WhyAway pool failed (IsDamaged gives honest (held (slot_of (page_at ps p))) (digest_of (page_at ps p)))) → ⊥
+never_damaged r pool failed gives honest held view ps p is there kind sure known k why =
+    let damaged : IsDamaged gives honest (held (slot_of (page_at ps p))) (digest_of (page_at ps p)) =
+    (subst (λ (s : Result _ SupplyError). IfErr s (WhyAway pool failed (IsDamaged gives honest (held (slot_of (page_at ps p))) (digest_of (page_at ps p))))) is why).1 in
+    damaged.2 (kept_is_sound held view ps p damaged.0 there kind known k (damaged.3 sure))

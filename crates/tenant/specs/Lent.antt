@@ -24,7 +24,7 @@ pub record Lent (slots : ℕ) (pages : List Page) (pool book : FreeList) (entrie
   pub slot_apart : (slot : ℕ) → 0 < count_of slot book.free → slots_held slot pages ≡ 0
   pub slot_inside : (slot : ℕ) → 0 < count_of slot book.free → slot < slots
 
--- each slot that isn't free holds what it held
+-- what was last written to each slot that isn't free stays
 abbrev pub UsedStay : FreeList → (ℕ → Option (List ℕ)) → (ℕ → Option (List ℕ)) → Type 0
 UsedStay book old new = (slot : ℕ) → count_of slot book.free ≡ 0 → new slot ≡ old slot
 

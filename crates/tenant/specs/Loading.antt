@@ -1,5 +1,5 @@
 -- Pages of an image that are being loaded.
-use Rattle.std.specs.Prelude.{◌≡◌, ℕ, ◌<◌, ◌≤◌, List, [], Option, length}
+use Rattle.std.specs.Prelude.{◌≡◌, ℕ, ◌+◌, ◌<◌, ◌≤◌, List, [], Option, length}
 use Rattle.frames.specs.FreeList.{FreeList}
 use Rattle.elf32.specs.declared.image.Image.{Image}
 use Rattle.mips_step.specs.World.{page_bytes}
@@ -7,7 +7,9 @@ use Rattle.flatvm.specs.Boot.{boot_machine, boot_memory}
 use Rattle.physmap.specs.declared.page.Page.{Page}
 use Rattle.physmap.specs.declared.page.Page.TheVariants.{Zero}
 use Rattle.physmap.specs.declared.page.PageKind.TheVariants.{Private, Swapped}
-use Rattle.physmap.specs.Pages.{page_at, kind_of, kind_at}
+use Rattle.frames.specs.Counts.{count_of}
+use Rattle.physmap.specs.Pages.{page_at, kind_of, kind_at, slot_of}
+use Rattle.physmap.specs.Holdings.{slot_in}
 use Rattle.paging.specs.Faith.{IsFaithful, IsHeld}
 use Rattle.guest.specs.Guests.{GuestIs}
 use Rattle.guest.specs.Loading.{IsBeside}
@@ -33,17 +35,17 @@ pub record AreUntouched (image : Image) (next : ℕ) (pages : List Page) : Type 
   pub further : (p : ℕ) → next ≤ p → page_at pages p ≡ Zero
   pub beside : (p : ℕ) → IsBeside image p → page_at pages p ≡ Zero
 
--- Each page below a number has its bytes of the image in a memory of so many pages: it shows them, or they lie in its slot, and it
--- has their SHA-256.
+-- Each page below a number has its bytes of the image in a memory of so many pages: it shows them, or they were last written to its
+-- slot, and it has their SHA-256.
 pub record AreLoaded (held : ℕ → Option (List ℕ)) (image : Image) (count next : ℕ) (pages : List Page) : Type 0 where
   pub faithful : (p : ℕ) → p < next → p < length pages → IsFaithful (boot_page image count p) (page_at pages p)
   pub lies : (p : ℕ) → p < next → p < length pages → IsHeld held (boot_page image count p) (page_at pages p)
 
 -- one page has these bytes, and no other page has changed
-pub record IsLoaded (trusted : Type 0) (held : ℕ → Option (List ℕ)) (p : ℕ) (bytes : List ℕ) (old new : List Page) : Type 0 where
+pub record IsLoaded (held : ℕ → Option (List ℕ)) (p : ℕ) (bytes : List ℕ) (old new : List Page) : Type 0 where
   pub others : (o : ℕ) → (o ≡ p → ⊥) → page_at new o ≡ page_at old o
   pub faithful : IsFaithful bytes (page_at new p)
-  pub lies : trusted → IsHeld held bytes (page_at new p)
+  pub lies : IsHeld held bytes (page_at new p)
 
 -- a page got a frame where one was free, and else a slot
 pub record IsFrameFirst (pool pool' : FreeList) (page : Page) : Type 0 where
@@ -55,6 +57,16 @@ pub record IsFrameFirst (pool pool' : FreeList) (page : Page) : Type 0 where
 pub record FramesFirst (pool : FreeList) (pages : List Page) : Type 0 where
   pub full : (p : ℕ) → kind_at pages p ≡ Swapped → pool.free ≡ []
   pub below : (p q : ℕ) → kind_at pages p ≡ Private → kind_at pages q ≡ Swapped → p < q
+
+-- a page that is in a slot has taken the one of the lowest number that was free, and no other page took one
+pub record TakesLowest (book book' : FreeList) (page : Page) : Type 0 where
+  pub taken : (k : ℕ) → count_of k book.free ≡ count_of k book'.free + slot_in k page
+  pub lowest : kind_of page ≡ Swapped → (slot : ℕ) → 0 < count_of slot book.free → slot_of page ≤ slot
+
+-- the slots that pages are in rise with the pages, and each slot that is free is above them
+pub record SlotsRise (book : FreeList) (pages : List Page) : Type 0 where
+  pub rise : (p q : ℕ) → p < q → kind_at pages p ≡ Swapped → kind_at pages q ≡ Swapped → slot_of (page_at pages p) < slot_of (page_at pages q)
+  pub free : (p slot : ℕ) → kind_at pages p ≡ Swapped → 0 < count_of slot book.free → slot_of (page_at pages p) < slot
 
 -- no page is in a frame of its own
 abbrev pub NonePrivate : List Page → Type 0

@@ -11,7 +11,8 @@ pub enum Cause {
     Debugger,
     /// A turn of the policy.
     Level,
-    /// It was asked for by the page's number.
+    /// It was ordered, though no page wanted a frame: of a page by its number (`World::evict`), or of the policy's victim
+    /// (`World::evict_one`).
     Order,
 }
 
@@ -26,11 +27,15 @@ pub struct MoveCounts {
     pub read: u64,
     /// Pages that came to read a shared frame that was there before.
     pub joined: u64,
-    /// Pages that left their frames, by cause.
+    /// Pages that left their frames for one that a guest's next step needed.
     pub fault: u64,
+    /// Pages that left their frames for one that a run of steps needed.
     pub run: u64,
+    /// Pages that left their frames for one that a debugger read or wrote.
     pub debugger: u64,
+    /// Pages that left their frames in a turn of the policy.
     pub level: u64,
+    /// Pages that left their frames because it was ordered.
     pub order: u64,
 }
 

@@ -4,7 +4,8 @@
 //! In clauses a `Tenant` is a record, `TenantIs` (`specs/Tenants.antt`). While a store is true to digests it is its run, `IsKept`, and
 //! each call keeps that. The other calls work on what a world, or a host, lends for one of them: the frames, the slots, the store and
 //! the table of shared frames, of which exact books say `Lent` (`specs/Lent.antt`). After `step_in`, `run_in`, `supply_page`,
-//! `evict_page`, `scan_page` and `loaded` nothing is lost or made (`Conserves`), and the guest is still its run.
+//! `evict_page`, `scan_page` and `loaded` nothing is lost or made (`Conserves`), and the guest is still its run. `open` takes a tenant apart
+//! for an owner who keeps its parts elsewhere.
 #![tactic(auto)]
 
 pub mod counts;

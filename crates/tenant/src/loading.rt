@@ -17,7 +17,7 @@ ghost use Rattle.paging.specs.Moves.{Conserves, Reads};
 ghost use Rattle.paging.specs.Supplies.{Supplies, WantsFrame};
 ghost use Rattle.tenant.specs.Loading.{boot_number};
 ghost use Rattle.tenant.specs.Lent.{UsedStay, WhyStays};
-ghost use Rattle.tenant.specs.Loading.{IsAtBoot, boot_page, AreUntouched, AreLoaded, IsLoaded, IsFrameFirst, FramesFirst, NonePrivate, WhyNotLoaded};
+ghost use Rattle.tenant.specs.Loading.{IsAtBoot, boot_page, AreUntouched, AreLoaded, IsLoaded, IsFrameFirst, FramesFirst, NonePrivate, TakesLowest, SlotsRise, WhyNotLoaded};
 
 use crate::moves::{EvictError, store_page};
 use crate::supplying::supply_first_from;
@@ -107,12 +107,13 @@ fn load_in_slot<S: SwapStore>(
     ensures conserves { (pool : FreeList) (entries : EntriesAre) →
         Conserves guest.old.bus.pages pool slots.old entries guest.new.bus.pages pool slots.new entries }
     ensures reads { (entries : EntriesAre) → Reads entries guest.old.bus.pages → Reads entries guest.new.bus.pages }
-    ensures used { S.true_to_digests store.old → UsedStay slots.old (S.held store.old) (S.held store.new) }
+    ensures used { UsedStay slots.old (S.held store.old) (S.held store.new) }
     ensures rest { without_pages guest.new ≡ without_pages guest.old }
     ensures count { length guest.new.bus.pages ≡ length guest.old.bus.pages }
-    ensures loaded { OnOk result (IsLoaded (S.true_to_digests store.old) (S.held store.new) p (boot_page image.now (length guest.old.bus.pages) p)
+    ensures loaded { OnOk result (IsLoaded (S.held store.new) p (boot_page image.now (length guest.old.bus.pages) p)
         guest.old.bus.pages guest.new.bus.pages) }
     ensures away { OnOk result (kind_at guest.new.bus.pages p ≡ PageKind.Swapped) }
+    ensures lowest { OnOk result (TakesLowest slots.old slots.new (page_at guest.new.bus.pages p)) }
     ensures taken { OnOk result (length slots.old.free ≡ length slots.new.free + 1) }
     ensures none { IsErrOf result EvictError.NoSwap → slots.old.free ≡ [] }
     ensures err { IfErr result (WhyStays slots.new (S.failed store.new ≡ one_more (S.failed store.old))) }
@@ -143,12 +144,13 @@ fn load_one<S: SwapStore>(
     ensures conserves { (entries : EntriesAre) →
         Conserves guest.old.bus.pages pool.old slots.old entries guest.new.bus.pages pool.new slots.new entries }
     ensures reads { (entries : EntriesAre) → Reads entries guest.old.bus.pages → Reads entries guest.new.bus.pages }
-    ensures used { S.true_to_digests store.old → UsedStay slots.old (S.held store.old) (S.held store.new) }
+    ensures used { UsedStay slots.old (S.held store.old) (S.held store.new) }
     ensures rest { without_pages guest.new ≡ without_pages guest.old }
     ensures count { length guest.new.bus.pages ≡ length guest.old.bus.pages }
-    ensures loaded { OnOk result (IsLoaded (S.true_to_digests store.old) (S.held store.new) p (boot_page image.now (length guest.old.bus.pages) p)
+    ensures loaded { OnOk result (IsLoaded (S.held store.new) p (boot_page image.now (length guest.old.bus.pages) p)
         guest.old.bus.pages guest.new.bus.pages) }
     ensures frame_first { OnOk result (IsFrameFirst pool.old pool.new (page_at guest.new.bus.pages p)) }
+    ensures lowest { OnOk result (TakesLowest slots.old slots.new (page_at guest.new.bus.pages p)) }
     ensures taken { OnOk result (length pool.old.free + length slots.old.free ≡ length pool.new.free + length slots.new.free + 1) }
     ensures room { IsErrOf result BootError.Room → length pool.old.free + length slots.old.free ≡ 0 }
     ensures err { IfErr result (WhyNotLoaded (S.failed store.new ≡ one_more (S.failed store.old))) }
@@ -184,18 +186,19 @@ fn load_next<S: SwapStore>(
     requires there { p < length guest.old.bus.pages }
     requires untouched { AreUntouched image.now p guest.old.bus.pages }
     requires frames_first { FramesFirst pool.old guest.old.bus.pages }
+    requires slots_rise { SlotsRise slots.old guest.old.bus.pages }
     requires once { (k : ℕ) → count_of k slots.old.free + slots_held k guest.old.bus.pages ≤ below k (S.slots store.old) }
     ensures conserves { (entries : EntriesAre) →
         Conserves guest.old.bus.pages pool.old slots.old entries guest.new.bus.pages pool.new slots.new entries }
     ensures reads { (entries : EntriesAre) → Reads entries guest.old.bus.pages → Reads entries guest.new.bus.pages }
-    ensures used { S.true_to_digests store.old → UsedStay slots.old (S.held store.old) (S.held store.new) }
+    ensures used { UsedStay slots.old (S.held store.old) (S.held store.new) }
     ensures rest { without_pages guest.new ≡ without_pages guest.old }
     ensures count { length guest.new.bus.pages ≡ length guest.old.bus.pages }
     ensures untouched { OnOk result (AreUntouched image.now (p + 1) guest.new.bus.pages) }
-    ensures loaded { OnOk result (S.true_to_digests store.old →
-        AreLoaded (S.held store.old) image.now (length guest.old.bus.pages) p guest.old.bus.pages →
+    ensures loaded { OnOk result (AreLoaded (S.held store.old) image.now (length guest.old.bus.pages) p guest.old.bus.pages →
         AreLoaded (S.held store.new) image.now (length guest.old.bus.pages) (p + 1) guest.new.bus.pages) }
     ensures frames_first { OnOk result (FramesFirst pool.new guest.new.bus.pages) }
+    ensures slots_rise { OnOk result (SlotsRise slots.new guest.new.bus.pages) }
     ensures no_frames { pool.old.free ≡ [] → OnOk result (pool.new.free ≡ []) }
     ensures none_private { pool.old.free ≡ [] → NonePrivate guest.old.bus.pages → OnOk result (NonePrivate guest.new.bus.pages) }
     ensures taken { OnOk result (length pool.old.free + length slots.old.free ≤ length pool.new.free + length slots.new.free + 1) }
@@ -229,13 +232,13 @@ fn load<S: SwapStore>(
     ensures conserves { (entries : EntriesAre) →
         Conserves guest.old.bus.pages pool.old slots.old entries guest.new.bus.pages pool.new slots.new entries }
     ensures reads { (entries : EntriesAre) → Reads entries guest.old.bus.pages → Reads entries guest.new.bus.pages }
-    ensures used { S.true_to_digests store.old → UsedStay slots.old (S.held store.old) (S.held store.new) }
+    ensures used { UsedStay slots.old (S.held store.old) (S.held store.new) }
     ensures rest { without_pages guest.new ≡ without_pages guest.old }
     ensures count { length guest.new.bus.pages ≡ length guest.old.bus.pages }
     ensures untouched { OnOk result (AreUntouched image.now (length guest.old.bus.pages) guest.new.bus.pages) }
-    ensures loaded { OnOk result (S.true_to_digests store.old →
-        AreLoaded (S.held store.new) image.now (length guest.old.bus.pages) (length guest.old.bus.pages) guest.new.bus.pages) }
+    ensures loaded { OnOk result (AreLoaded (S.held store.new) image.now (length guest.old.bus.pages) (length guest.old.bus.pages) guest.new.bus.pages) }
     ensures frames_first { OnOk result (FramesFirst pool.new guest.new.bus.pages) }
+    ensures slots_rise { OnOk result (SlotsRise slots.new guest.new.bus.pages) }
     ensures no_frames { pool.old.free ≡ [] → OnOk result (pool.new.free ≡ []) }
     ensures none_private { pool.old.free ≡ [] → OnOk result (NonePrivate guest.new.bus.pages) }
     ensures taken { OnOk result (length pool.old.free + length slots.old.free ≤ length pool.new.free + length slots.new.free + length guest.old.bus.pages) }
@@ -280,11 +283,13 @@ pub fn loaded<S: SwapStore>(
     ensures conserves { IfOk result (λ g. (entries : EntriesAre) →
         Conserves (replicate pages Page.Zero) pool.old slots.old entries g.bus.pages pool.new slots.new entries) }
     ensures reads { IfOk result (λ g. (entries : EntriesAre) → Reads entries g.bus.pages) }
-    ensures used { S.true_to_digests store.old → UsedStay slots.old (S.held store.old) (S.held store.new) }
+    ensures used { UsedStay slots.old (S.held store.old) (S.held store.new) }
     ensures booted { IfOk result (IsAtBoot image.value pages log_runs) }
-    ensures intact { IfOk result (λ g. S.true_to_digests store.old → Intact g) }
-    ensures kept { IfOk result (λ g. S.true_to_digests store.old → Kept (S.held store.new) (pages_seen (view_of g)) g.bus.pages) }
+    ensures intact { IfOk result Intact }
+    ensures kept { IfOk result (λ g. Kept (S.held store.new) (pages_seen (view_of g)) g.bus.pages) }
     ensures frames_first { IfOk result (λ g. FramesFirst pool.new g.bus.pages) }
+    ensures slots_rise { IfOk result (λ g. SlotsRise slots.new g.bus.pages) }
+    ensures slots_taken { IfOk result (λ g. (k : ℕ) → count_of k slots.new.free + slots_held k g.bus.pages ≡ count_of k slots.old.free) }
     ensures no_frames { pool.old.free ≡ [] → OnOk result (pool.new.free ≡ []) }
     ensures none_private { IfOk result (λ g. pool.old.free ≡ [] → NonePrivate g.bus.pages) }
     ensures taken { OnOk result (length pool.old.free + length slots.old.free ≤ length pool.new.free + length slots.new.free + pages) }

@@ -6,6 +6,7 @@ ghost use Rattle.frames.specs.Counts.{count_of};
 ghost use Rattle.frames.specs.FreeList.{FreeList};
 ghost use Rattle.sharetab.specs.Entries.{EntriesAre};
 ghost use Rattle.swapstore.specs.Failures.{one_more};
+ghost use Rattle.swapstore.specs.Holding.{AreHeld};
 ghost use Rattle.physmap.specs.declared.page.Page.{Page};
 ghost use Rattle.physmap.specs.declared.page.PageKind.{PageKind};
 ghost use Rattle.physmap.specs.Pages.{page_at, kind_at, is_resident, shown, slot_of, digest_of};
@@ -64,9 +65,8 @@ pub fn evict_page<P: Pages, S: SwapStore>(
     ensures conserves { Conserves (P.pages pages.old) pool.old slots.old shares.old.entries (P.pages pages.new) pool.new slots.new shares.new.entries }
     ensures reads { Reads shares.old.entries (P.pages pages.old) → Reads shares.new.entries (P.pages pages.new) }
     ensures faithful { (view : ℕ → List ℕ) → Faithful view (P.pages pages.old) → Faithful view (P.pages pages.new) }
-    ensures kept { S.true_to_digests store.old → (view : ℕ → List ℕ) →
-        Kept (S.held store.old) view (P.pages pages.old) → Kept (S.held store.new) view (P.pages pages.new) }
-    ensures used { S.true_to_digests store.old → UsedStay slots.old (S.held store.old) (S.held store.new) }
+    ensures kept { (view : ℕ → List ℕ) → Kept (S.held store.old) view (P.pages pages.old) → Kept (S.held store.new) view (P.pages pages.new) }
+    ensures used { UsedStay slots.old (S.held store.old) (S.held store.new) }
     ensures count { length (P.pages pages.new) ≡ length (P.pages pages.old) }
     ensures rest { P.rest pages.new ≡ P.rest pages.old }
     ensures hints { shares.new.hints ≡ shares.old.hints }
@@ -114,13 +114,13 @@ pub fn store_page<P: Pages, S: SwapStore>(
     ensures conserves { (pool : FreeList) (entries : EntriesAre) →
         Conserves (P.pages pages.old) pool slots.old entries (P.pages pages.new) pool slots.new entries }
     ensures reads { (entries : EntriesAre) → Reads entries (P.pages pages.old) → Reads entries (P.pages pages.new) }
-    ensures used { S.true_to_digests store.old → UsedStay slots.old (S.held store.old) (S.held store.new) }
+    ensures used { UsedStay slots.old (S.held store.old) (S.held store.new) }
     ensures count { length (P.pages pages.new) ≡ length (P.pages pages.old) }
     ensures rest { P.rest pages.new ≡ P.rest pages.old }
     ensures page { OnOk result (P.pages pages.new ≡ slice_set (P.pages pages.old) p
         (Page.Swapped (slot_of (page_at (P.pages pages.new) p)) (sha256 bytes.now))) }
     ensures lowest { OnOk result (All (λ other. slot_of (page_at (P.pages pages.new) p) ≤ other) slots.old.free) }
-    ensures written { OnOk result (S.true_to_digests store.old → S.held store.new (slot_of (page_at (P.pages pages.new) p)) ≡ Some bytes.now) }
+    ensures written { OnOk result (AreHeld (S.held store.new (slot_of (page_at (P.pages pages.new) p))) bytes.now) }
     ensures taken { OnOk result (length slots.old.free ≡ length slots.new.free + 1) }
     ensures none { IsErrOf result EvictError.NoSwap → slots.old.free ≡ [] }
     ensures err { IfErr result (WhyStays slots.new (S.failed store.new ≡ one_more (S.failed store.old))) }
@@ -163,14 +163,15 @@ pub fn supply_page<P: Pages, S: SwapStore>(
         (kind_at (P.pages pages.old) p ≡ PageKind.Swapped → OnOk result (shown (page_at (P.pages pages.new) p) ≡ view p)) → Faithful view (P.pages pages.new) }
     ensures kept { S.true_to_digests store.old → (view : ℕ → List ℕ) →
         Kept (S.held store.old) view (P.pages pages.old) → Kept (S.held store.new) view (P.pages pages.new) }
-    ensures used { S.true_to_digests store.old → UsedStay slots.old (S.held store.old) (S.held store.new) }
+    ensures used { UsedStay slots.old (S.held store.old) (S.held store.new) }
     ensures count { length (P.pages pages.new) ≡ length (P.pages pages.old) }
     ensures rest { P.rest pages.new ≡ P.rest pages.old }
     ensures hints { shares.new.hints ≡ shares.old.hints }
     ensures private { OnOk result (kind_at (P.pages pages.new) p ≡ PageKind.Private) }
     ensures others { (other : ℕ) → (other ≡ p → ⊥) → page_at (P.pages pages.new) other ≡ page_at (P.pages pages.old) other }
     ensures err { IfErr result (WhyAway pool.old (S.failed store.new ≡ one_more (S.failed store.old))
-        (S.honest store.old → IsDamaged (S.held store.old (slot_of (page_at (P.pages pages.old) p))) (digest_of (page_at (P.pages pages.old) p)))) }
+        (IsDamaged (S.gives store.old (slot_of (page_at (P.pages pages.old) p))) (S.honest store.old) (S.held store.old (slot_of (page_at (P.pages pages.old) p)))
+        (digest_of (page_at (P.pages pages.old) p)))) }
     ensures undamaged { IsErrOf result SupplyError.SwapDamaged → S.honest store.old → (view : ℕ → List ℕ) →
         Kept (S.held store.old) view (P.pages pages.old) → ⊥ }
     ensures no_failure { OnOk result (S.failed store.new ≡ S.failed store.old) }

@@ -124,17 +124,19 @@ pub(crate) fn supply_swapped_from<P: Pages, S: SwapStore>(
     ensures rest { P.rest pages.new ≡ P.rest pages.old }
     ensures supplied { OnOk result (Supplies (P.pages pages.old) p (shown (page_at (P.pages pages.new) p)) (P.pages pages.new)) }
     ensures digest { OnOk result (sha256 (shown (page_at (P.pages pages.new) p)) ≡ digest_of (page_at (P.pages pages.old) p)) }
+    ensures gives { OnOk result (S.gives store.old (slot_of (page_at (P.pages pages.old) p)) (shown (page_at (P.pages pages.new) p))) }
     ensures honest_gives { OnOk result
         (S.honest store.old → AreHeld (S.held store.old (slot_of (page_at (P.pages pages.old) p))) (shown (page_at (P.pages pages.new) p))) }
     ensures slot_free { OnOk result (Gives slots.old (slot_of (page_at (P.pages pages.old) p)) slots.new) }
     ensures some { OnOk result (0 < length pool.old.free) }
     ensures no_failure { OnOk result (S.failed store.new ≡ S.failed store.old) }
     ensures err { IfErr result (WhyAway pool.old (S.failed store.new ≡ one_more (S.failed store.old))
-        (S.honest store.old → IsDamaged (S.held store.old (slot_of (page_at (P.pages pages.old) p))) (digest_of (page_at (P.pages pages.old) p)))) }
+        (IsDamaged (S.gives store.old (slot_of (page_at (P.pages pages.old) p))) (S.honest store.old) (S.held store.old (slot_of (page_at (P.pages pages.old) p)))
+        (digest_of (page_at (P.pages pages.old) p)))) }
     ensures unchanged { OnErr result (P.pages pages.new ≡ P.pages pages.old) }
     ensures pool_unchanged { OnErr result (SameNumbers pool.old pool.new) }
     ensures slots_unchanged { OnErr result (slots.new ≡ slots.old) }
-    ensures held { S.true_to_digests store.old → AllStay (S.held store.old) (S.held store.new) }
+    ensures held { AllStay (S.held store.old) (S.held store.new) }
     ensures slots { S.slots store.new ≡ S.slots store.old }
     ensures honest { S.honest store.new ↔ S.honest store.old }
     ensures true_to_digests { S.true_to_digests store.new ↔ S.true_to_digests store.old }

@@ -14,7 +14,7 @@ use sampling::Sample;
 use sharetab::Shares;
 use std::alloc::AllocError;
 use std::marker::Model;
-use taxpolicy::{SAMPLE_SIZE, Stat};
+use taxpolicy::{SAMPLE_SIZE, Stat, pick_sample};
 use word32::Ppn;
 
 /// A guest with its four seats, and with what the policy goes by: its shares of the memory, the least number of pages that are left to
@@ -142,7 +142,13 @@ impl Tenant {
         ensures sampled { IsSampled (R.stream rng.old) self.old self.new }
         ensures rest { R.stream rng.new ≡ after_words 100 (R.stream rng.old) }
     {
-        self.guest.sample(&mut self.state.sample, rng);
+        let touched = match self.state.sample.draws {
+            None => None,
+            Some(draws) => Some(self.guest.touched(&draws)),
+        };
+        let draws = pick_sample(rng, self.page_count());
+        self.guest.clear_touched(&draws);
+        self.state.sample.next(touched, draws);
     }
 
     /// How many pages it has, at most 2^20.

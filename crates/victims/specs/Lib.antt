@@ -1,1 +1,2 @@
 pub mod Victims
+pub mod Wanted

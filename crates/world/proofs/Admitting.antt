@@ -26,76 +26,71 @@ use Rattle.world.specs.declared.running.End.{End}
 use Rattle.world.specs.declared.running.End.TheVariants as end
 use Rattle.world.specs.declared.running.RunStop.{RunStop}
 use Rattle.world.specs.declared.running.RunStop.TheVariants as stop
-use Rattle.world.specs.Admission.{IsAdmitted, LimitsStay, BlockedStay, IsNoRoom, IsNoRoomIn, IsEndWithRoom, IsAccessWithRoom, FindsRoom}
+use Rattle.world.specs.Admission.{IsAdmitted, LimitsStay, GuestsStay, IsNoRoom, IsNoRoomIn, IsEndWithRoom, IsAccessWithRoom, FindsRoom}
 use Rattle.world.specs.Events.{IfStop, IsForRoom, WhyStopped}
 use Rattle.world.specs.Debugging.{IfStopped}
 use Rattle.world.specs.Samples.{OnlySamplesChange}
 use Rattle.world.specs.declared.turns.Turn.{Turn}
 use Rattle.world.specs.Turns.{AreTurned, IsTurn, actions_in}
-use Rattle.world.specs.Victims.{OnlyPagesMove, WhyLacking, all_resident}
+use Rattle.world.specs.Victims.{OnlyPagesMove, WhyLacking, WhyUnsupplied, all_resident}
 use Rattle.world.specs.Answers.{IsAnswered}
-use Rattle.world.specs.Worlds.{WorldIs, Sound, Changes, PagesMove, FailsOnce}
+use Rattle.world.specs.Worlds.{WorldIs, Sound, Changes, PagesMove, FailsOnce, boot_of}
 use Rattle.world.proofs.Sampling.{stays, same_map}
-use Rattle.world.proofs.Victims.{map_same, some_tenant, only_pages, stays_beside}
+use Rattle.world.proofs.Victims.{some_tenant, changed, only_pages, stays_beside}
+use Rattle.world.proofs.Worlds.{same_boots}
 
--- ---- limits and blocked guests
+-- ---- boots, limits and blocked guests
 
-pub limits_same : (ts ts' : List TenantIs) → ts' ≡ ts → LimitsStay ts ts'
-limits_same ts ts' same =
-    record { pages = ap (map (λ t. length (pages_in t))) same; shares = ap (map (λ (t : TenantIs). t.shares)) same; minimums = ap (map (λ (t : TenantIs). t.minimum)) same }
+pub limits_then : {ts mid ts' : List TenantIs} → LimitsStay ts mid → LimitsStay mid ts' → LimitsStay ts ts'
+limits_then a b = record { pages = b.pages ∙ a.pages; shares = b.shares ∙ a.shares; minimums = b.minimums ∙ a.minimums }
 
-pub limits_then : (ts mid ts' : List TenantIs) → LimitsStay ts mid → LimitsStay mid ts' → LimitsStay ts ts'
-limits_then ts mid ts' a b = record { pages = b.pages ∙ a.pages; shares = b.shares ∙ a.shares; minimums = b.minimums ∙ a.minimums }
+pub guests_then : {ts mid ts' : List TenantIs} → GuestsStay ts mid → GuestsStay mid ts' → GuestsStay ts ts'
+guests_then a b = record { boots = b.boots ∙ a.boots; limits = limits_then a.limits b.limits; blocked = b.blocked ∙ a.blocked }
 
-changed : {Y : Type 0} (f : TenantIs → Y) (how : TenantIs → TenantIs → Type 0) (g : ℕ) (ts ts' : List TenantIs) → g < length ts → Changes how g ts ts'
-    → ((t t' : TenantIs) → how t t' → f t' ≡ f t) → map f ts' ≡ map f ts
-changed f how g ts ts' inside c same =
-    let d = some_tenant ts g inside in
-    ap (map f) (c.one d) ∙ map_same f ts g (get_or ts' g d) d inside (same (get_or ts g d) (get_or ts' g d) (c.so d))
-
-pub limits_stay : (g : ℕ) (ts ts' : List TenantIs) → g < length ts → Changes Stays g ts ts' → LimitsStay ts ts'
-limits_stay g ts ts' inside c = record {
-  pages = changed (λ t. length (pages_in t)) Stays g ts ts' inside c (λ t t' s. s.count);
-  shares = changed (λ (t : TenantIs). t.shares) Stays g ts ts' inside c (λ t t' s. s.shares);
-  minimums = changed (λ (t : TenantIs). t.minimum) Stays g ts ts' inside c (λ t t' s. s.minimum);
+pub guests_stay : {g : ℕ} {ts ts' : List TenantIs} → Changes Stays g ts ts' → g < length ts → GuestsStay ts ts'
+guests_stay c inside = record {
+  boots = same_boots c inside;
+  limits = record {
+    pages = changed (λ t. length (pages_in t)) c inside (λ t t' s. s.count);
+    shares = changed (λ (t : TenantIs). t.shares) c inside (λ t t' s. s.shares);
+    minimums = changed (λ (t : TenantIs). t.minimum) c inside (λ t t' s. s.minimum);
+  };
+  blocked = changed (λ (t : TenantIs). t.blocked) c inside (λ t t' s. s.blocked);
 }
 
-pub blocked_stay : (g : ℕ) (ts ts' : List TenantIs) → g < length ts → Changes Stays g ts ts' → BlockedStay ts ts'
-blocked_stay g ts ts' inside c = changed (λ (t : TenantIs). t.blocked) Stays g ts ts' inside c (λ t t' s. s.blocked)
-
-pub limits_move : (ts ts' : List TenantIs) → OnlyPagesMove ts ts' → LimitsStay ts ts'
-limits_move ts ts' m = record {
-  pages = m.counts;
-  shares = stays_beside (λ (t : TenantIs). t.shares) (λ t. refl) ts ts' m;
-  minimums = stays_beside (λ (t : TenantIs). t.minimum) (λ t. refl) ts ts' m;
+pub guests_move : {ts ts' : List TenantIs} → OnlyPagesMove ts ts' → GuestsStay ts ts'
+guests_move {ts} {ts'} m = record {
+  boots = stays_beside boot_of (λ t. refl) ts ts' m;
+  limits = record {
+    pages = m.counts;
+    shares = stays_beside (λ (t : TenantIs). t.shares) (λ t. refl) ts ts' m;
+    minimums = stays_beside (λ (t : TenantIs). t.minimum) (λ t. refl) ts ts' m;
+  };
+  blocked = stays_beside (λ (t : TenantIs). t.blocked) (λ t. refl) ts ts' m;
 }
 
-pub blocked_move : (ts ts' : List TenantIs) → OnlyPagesMove ts ts' → BlockedStay ts ts'
-blocked_move ts ts' m = stays_beside (λ (t : TenantIs). t.blocked) (λ t. refl) ts ts' m
+pub guests_one : {g : ℕ} {ts ts' : List TenantIs} → Changes PagesMove g ts ts' → g < length ts → GuestsStay ts ts'
+guests_one {g} {ts} {ts'} c inside = guests_move (only_pages g ts ts' inside c)
 
-pub limits_one : (g : ℕ) (ts ts' : List TenantIs) → g < length ts → Changes PagesMove g ts ts' → LimitsStay ts ts'
-limits_one g ts ts' inside c = limits_move ts ts' (only_pages g ts ts' inside c)
-
-pub blocked_one : (g : ℕ) (ts ts' : List TenantIs) → g < length ts → Changes PagesMove g ts ts' → BlockedStay ts ts'
-blocked_one g ts ts' inside c = blocked_move ts ts' (only_pages g ts ts' inside c)
-
-pub limits_sampled : (ts ts' : List TenantIs) → OnlySamplesChange ts ts' → LimitsStay ts ts'
-limits_sampled ts ts' s = record {
-  pages = stays (λ t. length (pages_in t)) (λ t. refl) ts ts' s;
-  shares = stays (λ (t : TenantIs). t.shares) (λ t. refl) ts ts' s;
-  minimums = stays (λ (t : TenantIs). t.minimum) (λ t. refl) ts ts' s;
+pub guests_sampled : {ts ts' : List TenantIs} → OnlySamplesChange ts ts' → GuestsStay ts ts'
+guests_sampled {ts} {ts'} s = record {
+  boots = stays boot_of (λ t. refl) ts ts' s;
+  limits = record {
+    pages = stays (λ t. length (pages_in t)) (λ t. refl) ts ts' s;
+    shares = stays (λ (t : TenantIs). t.shares) (λ t. refl) ts ts' s;
+    minimums = stays (λ (t : TenantIs). t.minimum) (λ t. refl) ts ts' s;
+  };
+  blocked = stays (λ (t : TenantIs). t.blocked) (λ t. refl) ts ts' s;
 }
-
-pub blocked_sampled : (ts ts' : List TenantIs) → OnlySamplesChange ts ts' → BlockedStay ts ts'
-blocked_sampled ts ts' s = stays (λ (t : TenantIs). t.blocked) (λ t. refl) ts ts' s
 
 pub limits_turned : (actions : List Action) (made : List Aim) (ts mid ts' : List TenantIs) → Action → AreTurned actions ts made mid → OnlyPagesMove mid ts' → LimitsStay ts ts'
 limits_turned actions made ts mid ts' d turned moves =
-    limits_then ts mid ts' (record {
+    let first : LimitsStay ts mid = record {
       pages = same_map (λ t. length (pages_in t)) ts mid turned.count (λ g t inside. (turned.each g t d aim.Kept inside).stays.count);
       shares = same_map (λ (t : TenantIs). t.shares) ts mid turned.count (λ g t inside. (turned.each g t d aim.Kept inside).stays.shares);
       minimums = same_map (λ (t : TenantIs). t.minimum) ts mid turned.count (λ g t inside. (turned.each g t d aim.Kept inside).stays.minimum);
-    }) (limits_move mid ts' moves)
+    } in
+    limits_then first (guests_move moves).limits
 
 -- ---- admitted guests stay admitted
 
@@ -141,8 +136,8 @@ few_pages (t ∷ ts) =
       few_pages ts,
     )
 
-pub still_admitted : (frames slots frames' slots' : ℕ) (ts ts' : List TenantIs) → frames' ≡ frames → slots' ≡ slots → LimitsStay ts ts' → IsAdmitted frames slots ts → IsAdmitted frames' slots' ts'
-still_admitted frames slots frames' slots' ts ts' same_frames same_slots s a =
+pub still_admitted : {frames slots frames' slots' : ℕ} {ts ts' : List TenantIs} → frames' ≡ frames → slots' ≡ slots → LimitsStay ts ts' → IsAdmitted frames slots ts → IsAdmitted frames' slots' ts'
+still_admitted {ts = ts} {ts' = ts'} same_frames same_slots s a =
     let count : length ts' ≡ length ts = sym (lengths ts') ∙ ap length s.minimums ∙ lengths ts in
     let least = same_sum (λ (t : TenantIs). t.minimum) ts ts' s.minimums in
     record {
@@ -155,10 +150,7 @@ still_admitted frames slots frames' slots' ts ts' same_frames same_slots s a =
 
 at_most_one : (q : Page) → one_private q + one_shared q + one_swapped q ≤ 1
 at_most_one page.Zero = omega arith
-at_most_one page.Given = omega arith
-at_most_one (page.Private frame) = omega arith
-at_most_one (page.Shared share ticket) = omega arith
-at_most_one (page.Swapped slot digest) = omega arith
+at_most_one q = omega arith
 
 pages_held : (ps : List Page) → private_pages ps + shared_pages ps + swapped_pages ps ≤ length ps
 pages_held [] = omega arith
@@ -214,22 +206,22 @@ few_entries k (e ∷ es) fit =
       few_entries (k + 1) es (λ j. let same : k + suc j ≡ k + 1 + j = omega arith in subst (λ (n : ℕ). Fits n (entry_at es j)) same (fit (suc j))),
     )
 
-module _ (frames slots : ℕ) (trusted : Type 0) (held : ℕ → Option (List ℕ)) (ts : List TenantIs) (pool book : FreeList) (es : EntriesAre)
-    (sound : Sound frames slots trusted held ts pool book es) (fit : AllFit es) (admitted : IsAdmitted frames slots ts) (none : pool.free ≡ []) where
-  out : sum_by private_pages (map pages_in ts) + entry_count es ≡ frames
-  out = omega (arith, frames_add_up frames slots (map pages_in ts) es pool book sound.books, ap length none)
+module _ {frames slots : ℕ} {trusted : Type 0} {held : ℕ → Option (List ℕ)} {ts : List TenantIs} {pool book : FreeList} {es : EntriesAre}
+    (sound : Sound frames slots trusted held ts pool book es) (fit : AllFit es) (admitted : IsAdmitted frames slots ts) where
+  out : pool.free ≡ [] → sum_by private_pages (map pages_in ts) + entry_count es ≡ frames
+  out none = omega (arith, frames_add_up frames slots (map pages_in ts) es pool book sound.books, ap length none)
 
   entries : entry_count es ≤ sum_by shared_pages (map pages_in ts)
   entries = omega (arith, few_entries 0 es (λ j. let same : j ≡ 0 + j = omega arith in subst (λ (n : ℕ). Fits n (entry_at es j)) same (fit j)), tickets_add_up frames slots (map pages_in ts) es pool book sound.books)
 
-  pub somebody : All (λ s. ¬ IsEligible s) (map stat_of ts) → ⊥
-  somebody nobody = omega (arith, out, entries, resident_in_all ts, nobody_above ts nobody, admitted.frames_for, one_more_each ts, admitted.some)
+  pub somebody : pool.free ≡ [] → All (λ s. ¬ IsEligible s) (map stat_of ts) → ⊥
+  somebody none nobody = omega (arith, out none, entries, resident_in_all ts, nobody_above ts nobody, admitted.frames_for, one_more_each ts, admitted.some)
 
-  pub some_slot : book.free ≡ [] → ⊥
-  some_slot full =
+  pub some_slot : pool.free ≡ [] → book.free ≡ [] → ⊥
+  some_slot none full =
       omega (
         arith,
-        out,
+        out none,
         entries,
         resident_in_all ts,
         all_held ts,
@@ -242,27 +234,20 @@ module _ (frames slots : ℕ) (trusted : Type 0) (held : ℕ → Option (List �
         admitted.some,
       )
 
--- ---- what is answered
+  -- ---- what is answered
 
-module _ (frames slots : ℕ) (trusted : Type 0) (held : ℕ → Option (List ℕ)) (ts : List TenantIs) (pool book : FreeList) (es : EntriesAre)
-    (sound : Sound frames slots trusted held ts pool book es) (fit : AllFit es) (admitted : IsAdmitted frames slots ts) where
   pub finds_frame : (failed damaged : Type 0) (e : FaultError) → WhyLacking pool book (map stat_of ts) failed damaged e → IsNoRoom failed e
   finds_frame failed damaged lacking.NoFrame why = elim why.1 [
     | inl broke ↦ broke
-    | inr nobody ↦ absurd (somebody frames slots trusted held ts pool book es sound fit admitted why.0 nobody)
+    | inr nobody ↦ absurd (somebody why.0 nobody)
   ]
-  finds_frame failed damaged lacking.NoSwap why = some_slot frames slots trusted held ts pool book es sound fit admitted why.0 why.1
-  finds_frame failed damaged lacking.SwapRead why = tt
-  finds_frame failed damaged lacking.SwapDamaged why = tt
-  finds_frame failed damaged lacking.Memory why = tt
+  finds_frame failed damaged lacking.NoSwap why = some_slot why.0 why.1
+  finds_frame failed damaged e why = tt
 
   pub finds_frames : (failed damaged : Type 0) (e : RunStop) → WhyStopped pool book (map stat_of ts) failed damaged e → IsNoRoomIn failed e
   finds_frames failed damaged stop.NoFrame why = finds_frame failed damaged lacking.NoFrame why
   finds_frames failed damaged stop.NoSwap why = finds_frame failed damaged lacking.NoSwap why
-  finds_frames failed damaged stop.SwapRead why = tt
-  finds_frames failed damaged stop.SwapDamaged why = tt
-  finds_frames failed damaged stop.Memory why = tt
-  finds_frames failed damaged stop.LogFull why = tt
+  finds_frames failed damaged e why = tt
 
   pub ends_with_room : (failed damaged : Type 0) (e : End) → IfStop e (WhyStopped pool book (map stat_of ts) failed damaged) → IsEndWithRoom failed e
   ends_with_room failed damaged end.Done why = tt
@@ -275,14 +260,9 @@ module _ (frames slots : ℕ) (trusted : Type 0) (held : ℕ → Option (List �
 
 -- steps for which no page is supplied stop for want of room in their log alone
 for_its_log : (failed : Type 0) (e : End) → IfStop e IsForRoom → IsEndWithRoom failed e
-for_its_log failed end.Done why = tt
-for_its_log failed (end.Need page w) why = tt
 for_its_log failed (end.Stop stop.NoFrame) why = absurd why
 for_its_log failed (end.Stop stop.NoSwap) why = absurd why
-for_its_log failed (end.Stop stop.SwapRead) why = tt
-for_its_log failed (end.Stop stop.SwapDamaged) why = tt
-for_its_log failed (end.Stop stop.Memory) why = tt
-for_its_log failed (end.Stop stop.LogFull) why = tt
+for_its_log failed e why = tt
 
 -- each page that an event needs finds room where the guests are admitted
 module _ {Kept : Type 0} (trusted : Kept → Type 0) (failures : Kept → ℕ) (honest : Kept → Type 0) (slots : Kept → ℕ) (held : Kept → ℕ → Option (List ℕ)) (tax : ℕ) (w w' : WorldIs Kept) where
@@ -292,82 +272,26 @@ module _ {Kept : Type 0} (trusted : Kept → Type 0) (failures : Kept → ℕ) (
   pub room_of : (e : Event) (a : Answer) → IsAnswered trusted failures honest tax w w' e a
       → Sound w'.frames (slots w'.store) (trusted w'.store) (held w'.store) w'.tenants w'.pool w'.slots w'.shares.entries → AllFit w'.shares.entries
       → IsAdmitted w'.frames (slots w'.store) w'.tenants → FindsRoom (FailsOnce failures w w') a
-  room_of e (answer.Stepped stepped) is sound fit admitted = tt
-  room_of e (answer.Input done) is sound fit admitted = tt
-  room_of e (answer.Fed fed) is sound fit admitted = tt
-  room_of e (answer.Probed (Ok bytes)) is sound fit admitted = tt
-  room_of e (answer.Written (Ok done)) is sound fit admitted = tt
-  room_of e (answer.Supplied done) is sound fit admitted = tt
-  room_of e (answer.Faulted (Ok done)) is sound fit admitted = tt
-  room_of e (answer.Evicted done) is sound fit admitted = tt
-  room_of e (answer.Scanned scan) is sound fit admitted = tt
-  room_of e answer.Sampled is sound fit admitted = tt
-  room_of e (answer.Turned done) is sound fit admitted = tt
-  room_of e answer.Blocked is sound fit admitted = tt
-  room_of e answer.Nowhere is sound fit admitted = tt
-  room_of (event.Step g) (answer.Ran ran) is sound fit admitted = absurd is
   room_of (event.Steps g count) (answer.Ran ran) is sound fit admitted = for_its_log (FailsOnce failures w w') ran.end (is (one_of admitted)).0.stop
-  room_of (event.Run g count) (answer.Ran ran) is sound fit admitted = ends_with_room w'.frames (slots w'.store) (trusted w'.store) (held w'.store) w'.tenants w'.pool w'.slots w'.shares.entries sound fit admitted (FailsOnce failures w w') (honest w.store → ⊥) ran.end (is (one_of admitted)).0.stop
-  room_of (event.Input g item) (answer.Ran ran) is sound fit admitted = absurd is
-  room_of (event.Feed g bytes) (answer.Ran ran) is sound fit admitted = absurd is
-  room_of (event.Probe g address count) (answer.Ran ran) is sound fit admitted = absurd is
-  room_of (event.Write g address bytes) (answer.Ran ran) is sound fit admitted = absurd is
-  room_of (event.Supply g p) (answer.Ran ran) is sound fit admitted = absurd is
-  room_of (event.Fault g) (answer.Ran ran) is sound fit admitted = absurd is
-  room_of (event.Evict g p) (answer.Ran ran) is sound fit admitted = absurd is
-  room_of (event.Scan g p) (answer.Ran ran) is sound fit admitted = absurd is
-  room_of event.Sample (answer.Ran ran) is sound fit admitted = absurd is
-  room_of event.Level (answer.Ran ran) is sound fit admitted = absurd is
-  room_of (event.Step g) (answer.Probed (Err error)) is sound fit admitted = absurd is
-  room_of (event.Steps g count) (answer.Probed (Err error)) is sound fit admitted = absurd is
-  room_of (event.Run g count) (answer.Probed (Err error)) is sound fit admitted = absurd is
-  room_of (event.Input g item) (answer.Probed (Err error)) is sound fit admitted = absurd is
-  room_of (event.Feed g bytes) (answer.Probed (Err error)) is sound fit admitted = absurd is
-  room_of (event.Probe g address count) (answer.Probed (Err error)) is sound fit admitted = access_with_room w'.frames (slots w'.store) (trusted w'.store) (held w'.store) w'.tenants w'.pool w'.slots w'.shares.entries sound fit admitted (FailsOnce failures w w') (honest w.store → ⊥) error (is (one_of admitted)).stop
-  room_of (event.Write g address bytes) (answer.Probed (Err error)) is sound fit admitted = absurd is
-  room_of (event.Supply g p) (answer.Probed (Err error)) is sound fit admitted = absurd is
-  room_of (event.Fault g) (answer.Probed (Err error)) is sound fit admitted = absurd is
-  room_of (event.Evict g p) (answer.Probed (Err error)) is sound fit admitted = absurd is
-  room_of (event.Scan g p) (answer.Probed (Err error)) is sound fit admitted = absurd is
-  room_of event.Sample (answer.Probed (Err error)) is sound fit admitted = absurd is
-  room_of event.Level (answer.Probed (Err error)) is sound fit admitted = absurd is
-  room_of (event.Step g) (answer.Written (Err error)) is sound fit admitted = absurd is
-  room_of (event.Steps g count) (answer.Written (Err error)) is sound fit admitted = absurd is
-  room_of (event.Run g count) (answer.Written (Err error)) is sound fit admitted = absurd is
-  room_of (event.Input g item) (answer.Written (Err error)) is sound fit admitted = absurd is
-  room_of (event.Feed g bytes) (answer.Written (Err error)) is sound fit admitted = absurd is
-  room_of (event.Probe g address count) (answer.Written (Err error)) is sound fit admitted = absurd is
-  room_of (event.Write g address bytes) (answer.Written (Err error)) is sound fit admitted = access_with_room w'.frames (slots w'.store) (trusted w'.store) (held w'.store) w'.tenants w'.pool w'.slots w'.shares.entries sound fit admitted (FailsOnce failures w w') (honest w.store → ⊥) error (is (one_of admitted)).stop
-  room_of (event.Supply g p) (answer.Written (Err error)) is sound fit admitted = absurd is
-  room_of (event.Fault g) (answer.Written (Err error)) is sound fit admitted = absurd is
-  room_of (event.Evict g p) (answer.Written (Err error)) is sound fit admitted = absurd is
-  room_of (event.Scan g p) (answer.Written (Err error)) is sound fit admitted = absurd is
-  room_of event.Sample (answer.Written (Err error)) is sound fit admitted = absurd is
-  room_of event.Level (answer.Written (Err error)) is sound fit admitted = absurd is
-  room_of (event.Step g) (answer.Faulted (Err error)) is sound fit admitted = absurd is
-  room_of (event.Steps g count) (answer.Faulted (Err error)) is sound fit admitted = absurd is
-  room_of (event.Run g count) (answer.Faulted (Err error)) is sound fit admitted = absurd is
-  room_of (event.Input g item) (answer.Faulted (Err error)) is sound fit admitted = absurd is
-  room_of (event.Feed g bytes) (answer.Faulted (Err error)) is sound fit admitted = absurd is
-  room_of (event.Probe g address count) (answer.Faulted (Err error)) is sound fit admitted = absurd is
-  room_of (event.Write g address bytes) (answer.Faulted (Err error)) is sound fit admitted = absurd is
-  room_of (event.Supply g p) (answer.Faulted (Err error)) is sound fit admitted = absurd is
-  room_of (event.Fault g) (answer.Faulted (Err error)) is sound fit admitted = finds_frame w'.frames (slots w'.store) (trusted w'.store) (held w'.store) w'.tenants w'.pool w'.slots w'.shares.entries sound fit admitted (FailsOnce failures w w') (honest w.store → ⊥) error (is (one_of admitted)).err
-  room_of (event.Evict g p) (answer.Faulted (Err error)) is sound fit admitted = absurd is
-  room_of (event.Scan g p) (answer.Faulted (Err error)) is sound fit admitted = absurd is
-  room_of event.Sample (answer.Faulted (Err error)) is sound fit admitted = absurd is
-  room_of event.Level (answer.Faulted (Err error)) is sound fit admitted = absurd is
+  room_of (event.Run g count) (answer.Ran ran) is sound fit admitted = ends_with_room sound fit admitted (FailsOnce failures w w') (honest w.store → ⊥) ran.end (is (one_of admitted)).0.stop
+  room_of e (answer.Ran ran) is sound fit admitted = absurd is
+  room_of (event.Probe g address count) (answer.Probed (Err error)) is sound fit admitted = access_with_room sound fit admitted (FailsOnce failures w w') (honest w.store → ⊥) error (is (one_of admitted)).stop
+  room_of e (answer.Probed (Err error)) is sound fit admitted = absurd is
+  room_of (event.Write g address bytes) (answer.Written (Err error)) is sound fit admitted = access_with_room sound fit admitted (FailsOnce failures w w') (honest w.store → ⊥) error (is (one_of admitted)).stop
+  room_of e (answer.Written (Err error)) is sound fit admitted = absurd is
+  room_of (event.Fault g) (answer.Faulted (Err error)) is sound fit admitted = finds_frame sound fit admitted (FailsOnce failures w w') (honest w.store → ⊥) error (is (one_of admitted)).err
+  room_of e (answer.Faulted (Err error)) is sound fit admitted = absurd is
+  room_of e a is sound fit admitted = tt
 
 -- a turn of the policy
 pub done_limits : {Store E : Type 0} (tax : ℕ) (failed : Type 0) (w w' : WorldIs Store) (r : Result Turn E) → IfOk r (λ turn. IsTurn tax failed w turn w') → OnErr r (w' ≡ w) → LimitsStay w.tenants w'.tenants
 done_limits tax failed w w' (Ok turn) made unchanged =
     limits_turned (actions_in tax w turn) turn.aims.items w.tenants made.mid w'.tenants (record { balloon = None; swap_out = 0; blocked = false }) made.turned made.moves
-done_limits tax failed w w' (Err error) made unchanged = limits_same w.tenants w'.tenants (ap (λ (x : WorldIs _). x.tenants) unchanged)
+done_limits tax failed w w' (Err error) made unchanged = subst (λ (x : WorldIs _). LimitsStay w.tenants x.tenants) (sym unchanged) (record { pages = refl; shares = refl; minimums = refl })
 
 pub fault_room : {Kept T : Type 0} (trusted : Kept → Type 0) (failures : Kept → ℕ) (honest : Kept → Type 0) (slots : Kept → ℕ) (held : Kept → ℕ → Option (List ℕ)) (w w' : WorldIs Kept) (r : Result T FaultError)
-    → IfErr r (WhyLacking w'.pool w'.slots (map stat_of w'.tenants) (FailsOnce failures w w') (honest w.store → ⊥))
+    → IfErr r (WhyUnsupplied failures honest w w')
     → Sound w'.frames (slots w'.store) (trusted w'.store) (held w'.store) w'.tenants w'.pool w'.slots w'.shares.entries → AllFit w'.shares.entries
     → IsAdmitted w'.frames (slots w'.store) w'.tenants → IfErr r (IsNoRoom (FailsOnce failures w w'))
 fault_room trusted failures honest slots held w w' (Ok done) why sound fit admitted = tt
-fault_room trusted failures honest slots held w w' (Err error) why sound fit admitted =
-    finds_frame w'.frames (slots w'.store) (trusted w'.store) (held w'.store) w'.tenants w'.pool w'.slots w'.shares.entries sound fit admitted (FailsOnce failures w w') (honest w.store → ⊥) error why
+fault_room trusted failures honest slots held w w' (Err error) why sound fit admitted = finds_frame sound fit admitted (FailsOnce failures w w') (honest w.store → ⊥) error why

@@ -43,13 +43,10 @@ one_booted runs guests guest ts ts' size more boots a = record {
 pub why_of_loading : (failed : Type 0) (config : Config) (slots : ℕ) (guests : List NewGuest) (e : BootError)
     → AreWithinLimits config slots guests × All HoldsImage guests × AreAdmitted config slots guests
     → (e ≡ error.Room → config.frames + slots < sum_by (λ (g : NewGuest). g.pages) guests) → WhyNotLoaded failed e → WhyNotBooted config slots guests e
-why_of_loading failed config slots guests error.Limits is room i = absurd i
-why_of_loading failed config slots guests error.Segment is room i = absurd i
-why_of_loading failed config slots guests error.AdmitFrames is room i = absurd i
-why_of_loading failed config slots guests error.AdmitSlots is room i = absurd i
 why_of_loading failed config slots guests error.Room is room i = (is.0, is.1, is.2, room refl)
 why_of_loading failed config slots guests error.Store is room i = is
 why_of_loading failed config slots guests error.Memory is room i = is
+why_of_loading failed config slots guests e is room i = absurd i
 
 pub if_err_both : {T E : Type 0} {P Q R : E → Type 0} (r : Result T E) → ((e : E) → P e → Q e → R e) → IfErr r P → IfErr r Q → IfErr r R
 if_err_both (Ok x) f p q = tt

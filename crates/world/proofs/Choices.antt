@@ -12,6 +12,7 @@ use Rattle.world.specs.declared.running.End.TheVariants as ending
 use Rattle.world.specs.declared.running.RunStop.{RunStop}
 use Rattle.world.specs.declared.running.RunStop.TheVariants as halted
 use Rattle.world.specs.Events.{stop_of}
+use Rattle.world.specs.Worlds.{WorldIs, AroundStays}
 
 -- ---- evictions
 
@@ -28,12 +29,10 @@ then_one : (frames slots tax : ℕ) (spared : Option Spared) (m : Moment) (ms : 
 then_one frames slots tax spared m [] mid m' same one = (subst (λ (from : Moment). IsEviction frames slots tax spared from m') same one, refl)
 then_one frames slots tax spared m (next ∷ ms) mid m' all one = (all.0, then_one frames slots tax spared next ms mid m' all.1 one)
 
-pub one_more_evicted : (frames slots tax : ℕ) (spared : Option Spared) (m mid m' : Moment) → Evicted frames slots tax spared m mid → IsEviction frames slots tax spared mid m'
+pub one_more_evicted : {frames slots tax : ℕ} {spared : Option Spared} {m mid m' : Moment} → Evicted frames slots tax spared m mid → IsEviction frames slots tax spared mid m'
     → Evicted frames slots tax spared m m'
-one_more_evicted frames slots tax spared m mid m' so_far one = record {
-  moments = so_far.moments ++ m' ∷ [];
-  evictions = then_one frames slots tax spared m so_far.moments mid m' so_far.evictions one;
-}
+one_more_evicted {frames} {slots} {tax} {spared} {m} {mid} {m'} so_far one =
+    record { moments = so_far.moments ++ m' ∷ []; evictions = then_one frames slots tax spared m so_far.moments mid m' so_far.evictions one }
 
 pub room_made : (frames slots tax : ℕ) (spared : Option Spared) (m last m' : Moment) → Evicted frames slots tax spared m last → NoneLeaves tax last m' → MakesRoom frames slots tax spared m m'
 room_made frames slots tax spared m last m' so_far end = record { moments = so_far.moments; last = last; evictions = so_far.evictions; end = end }
@@ -54,39 +53,28 @@ supplied_then : (frames slots : ℕ) (trusted : Type 0) (tax g : ℕ) (m : Momen
 supplied_then frames slots trusted tax g m [] mid m' same one = (subst (λ (from : Moment). IsForStep frames slots trusted tax g from m') same one, refl)
 supplied_then frames slots trusted tax g m (next ∷ ms) mid m' all one = (all.0, supplied_then frames slots trusted tax g next ms mid m' all.1 one)
 
-pub one_more_supplied : (frames slots : ℕ) (trusted : Type 0) (tax g count : ℕ) (m mid m' : Moment) → Supplied frames slots trusted tax g count m mid
+pub one_more_supplied : {frames slots : ℕ} {trusted : Type 0} {tax g count : ℕ} {m mid m' : Moment} → Supplied frames slots trusted tax g count m mid
     → IsForStep frames slots trusted tax g mid m' → Supplied frames slots trusted tax g (count + 1) m m'
-one_more_supplied frames slots trusted tax g count m mid m' so_far one = record {
+one_more_supplied {frames} {slots} {trusted} {tax} {g} {count} {m} {mid} {m'} so_far one = record {
   moments = so_far.moments ++ m' ∷ [];
   many = length-append so_far.moments (m' ∷ []) ∙ ap (λ (n : ℕ). n + 1) so_far.many;
   supplied = supplied_then frames slots trusted tax g m so_far.moments mid m' so_far.supplied one;
 }
 
-pub then_made : (frames slots : ℕ) (trusted : Type 0) (tax g tries count : ℕ) (m mid m' : Moment) → Supplied frames slots trusted tax g tries m mid → tries ≤ 64 → 0 < count
+pub then_made : {frames slots : ℕ} {trusted : Type 0} {tax g tries count : ℕ} {m mid m' : Moment} → Supplied frames slots trusted tax g tries m mid → tries ≤ 64 → 0 < count
     → AreSteps frames slots trusted g count mid m' → MakesSteps frames slots trusted tax g count m m'
-then_made frames slots trusted tax g tries count m mid m' so_far few some steps = record {
-  moments = so_far.moments;
-  few = omega (arith, so_far.many, few);
-  last = mid;
-  supplied = so_far.supplied;
-  some = some;
-  steps = steps;
-}
+then_made {mid = mid} so_far few some steps =
+    record { moments = so_far.moments; few = omega (arith, so_far.many, few); last = mid; supplied = so_far.supplied; some = some; steps = steps }
 
-pub then_none : (frames slots : ℕ) (trusted : Type 0) (tax g tries : ℕ) (end : End) (m mid m' : Moment) → Supplied frames slots trusted tax g tries m mid → tries ≤ 64
+pub then_none : {frames slots : ℕ} {trusted : Type 0} {tax g tries : ℕ} {end : End} {m mid m' : Moment} → Supplied frames slots trusted tax g tries m mid → tries ≤ 64
     → StopsBy frames slots trusted tax g end mid m' → MakesNone frames slots trusted tax g end m m'
-then_none frames slots trusted tax g tries end m mid m' so_far few stops = record {
-  moments = so_far.moments;
-  few = omega (arith, so_far.many, few);
-  last = mid;
-  supplied = so_far.supplied;
-  stops = stops;
-}
+then_none {mid = mid} so_far few stops =
+    record { moments = so_far.moments; few = omega (arith, so_far.many, few); last = mid; supplied = so_far.supplied; stops = stops }
 
-pub last_made : {E : Type 0} (r : Result ℕ E) (Given : ℕ → Type 0) (frames slots : ℕ) (trusted : Type 0) (tax g tries : ℕ) (m mid m' : Moment) → Supplied frames slots trusted tax g tries m mid → tries ≤ 64
-    → ((count : ℕ) → Given count → AreSteps frames slots trusted g count mid m') → IfOk r (λ count. 0 < count) → IfOk r Given → IfOk r (λ count. MakesSteps frames slots trusted tax g count m m')
-last_made (Ok count) Given frames slots trusted tax g tries m mid m' so_far few so some given = then_made frames slots trusted tax g tries count m mid m' so_far few some (so count given)
-last_made (Err error) Given frames slots trusted tax g tries m mid m' so_far few so some given = tt
+pub last_made : {E : Type 0} (r : Result ℕ E) (Given : ℕ → Type 0) {frames slots : ℕ} {trusted : Type 0} {tax g tries : ℕ} {m mid : Moment} (m' : Moment) → Supplied frames slots trusted tax g tries m mid
+    → tries ≤ 64 → ((count : ℕ) → Given count → AreSteps frames slots trusted g count mid m') → IfOk r (λ count. 0 < count) → IfOk r Given → IfOk r (λ count. MakesSteps frames slots trusted tax g count m m')
+last_made (Ok count) Given m' so_far few so some given = then_made so_far few some (so count given)
+last_made (Err error) Given m' so_far few so some given = tt
 
 stuck : (frames slots : ℕ) (trusted : Type 0) (tax g : ℕ) (m m' : Moment) → AreSteps frames slots trusted g 0 m m' → IsStuck frames slots trusted tax g m m'
 stuck frames slots trusted tax g m m' none = record { between = m'; none = none; fault = inl refl }
@@ -96,18 +84,14 @@ pub stops_unmade : (frames slots : ℕ) (trusted : Type 0) (tax g : ℕ) (end : 
     → StopsBy frames slots trusted tax g end m m'
 stops_unmade frames slots trusted tax g ending.Done m m' early none = absurd (early refl)
 stops_unmade frames slots trusted tax g (ending.Need p why) m m' early none = none
-stops_unmade frames slots trusted tax g (ending.Stop halted.NoFrame) m m' early none = stuck frames slots trusted tax g m m' none
-stops_unmade frames slots trusted tax g (ending.Stop halted.NoSwap) m m' early none = stuck frames slots trusted tax g m m' none
-stops_unmade frames slots trusted tax g (ending.Stop halted.SwapRead) m m' early none = stuck frames slots trusted tax g m m' none
-stops_unmade frames slots trusted tax g (ending.Stop halted.SwapDamaged) m m' early none = stuck frames slots trusted tax g m m' none
-stops_unmade frames slots trusted tax g (ending.Stop halted.Memory) m m' early none = stuck frames slots trusted tax g m m' none
 stops_unmade frames slots trusted tax g (ending.Stop halted.LogFull) m m' early none = none
+stops_unmade frames slots trusted tax g (ending.Stop why) m m' early none = stuck frames slots trusted tax g m m' none
 
-pub last_none : {T : Type 0} (r : Result T End) (Given : Type 0) (frames slots : ℕ) (trusted : Type 0) (tax g tries : ℕ) (m mid m' : Moment) → Supplied frames slots trusted tax g tries m mid → tries ≤ 64
-    → (Given → AreSteps frames slots trusted g 0 mid m') → (IsErrOf r ending.Done → ⊥) → OnErr r Given → IfErr r (λ end. MakesNone frames slots trusted tax g end m m')
-last_none (Ok t) Given frames slots trusted tax g tries m mid m' so_far few so early given = tt
-last_none (Err end) Given frames slots trusted tax g tries m mid m' so_far few so early given =
-    then_none frames slots trusted tax g tries end m mid m' so_far few (stops_unmade frames slots trusted tax g end mid m' (λ is. early (ap Err is)) (so given))
+pub last_none : {T : Type 0} (r : Result T End) (Given : Type 0) {frames slots : ℕ} {trusted : Type 0} {tax g tries : ℕ} {m mid : Moment} (m' : Moment) → Supplied frames slots trusted tax g tries m mid
+    → tries ≤ 64 → (Given → AreSteps frames slots trusted g 0 mid m') → (IsErrOf r ending.Done → ⊥) → OnErr r Given → IfErr r (λ end. MakesNone frames slots trusted tax g end m m')
+last_none (Ok t) Given m' so_far few so early given = tt
+last_none (Err end) Given {frames} {slots} {trusted} {tax} {g} {tries} {m} {mid} m' so_far few so early given =
+    then_none so_far few (stops_unmade frames slots trusted tax g end mid m' (λ is. early (ap Err is)) (so given))
 
 pub stop_not_done : (why : RunStop) → ending.Stop why ≡ ending.Done → ⊥
 stop_not_done why is = cc
@@ -116,10 +100,7 @@ stop_not_done why is = cc
 pub stops_faulted : (frames slots : ℕ) (trusted : Type 0) (tax g : ℕ) (error : FaultError) (m m' : Moment) → IsStuck frames slots trusted tax g m m'
     → StopsBy frames slots trusted tax g (ending.Stop (stop_of error)) m m'
 stops_faulted frames slots trusted tax g lacking.NoFrame m m' it = it
-stops_faulted frames slots trusted tax g lacking.NoSwap m m' it = it
-stops_faulted frames slots trusted tax g lacking.SwapRead m m' it = it
-stops_faulted frames slots trusted tax g lacking.SwapDamaged m m' it = it
-stops_faulted frames slots trusted tax g lacking.Memory m m' it = it
+stops_faulted frames slots trusted tax g error m m' it = it
 
 -- ---- steps, and more of them
 
@@ -136,100 +117,86 @@ made_then : (frames slots : ℕ) (trusted : Type 0) (tax g count : ℕ) (m : Mom
 made_then frames slots trusted tax g count m [] mid m' same one = (count, subst (λ (from : Moment). MakesSteps frames slots trusted tax g count from m') same one, refl)
 made_then frames slots trusted tax g count m (next ∷ ms) mid m' all one = (all.0, all.1, made_then frames slots trusted tax g count next ms mid m' all.2 one)
 
-pub more_made : (frames slots : ℕ) (trusted : Type 0) (tax g count : ℕ) (m mid m' : Moment) → Made frames slots trusted tax g m mid → MakesSteps frames slots trusted tax g count mid m'
+pub more_made : {frames slots : ℕ} {trusted : Type 0} {tax g count : ℕ} {m mid m' : Moment} → Made frames slots trusted tax g m mid → MakesSteps frames slots trusted tax g count mid m'
     → Made frames slots trusted tax g m m'
-more_made frames slots trusted tax g count m mid m' so_far one = record {
-  moments = so_far.moments ++ m' ∷ [];
-  steps = made_then frames slots trusted tax g count m so_far.moments mid m' so_far.steps one;
-}
+more_made {frames} {slots} {trusted} {tax} {g} {count} {m} {mid} {m'} so_far one =
+    record { moments = so_far.moments ++ m' ∷ []; steps = made_then frames slots trusted tax g count m so_far.moments mid m' so_far.steps one }
 
 ends : (frames slots : ℕ) (trusted : Type 0) (tax g : ℕ) (end : End) (m m' : Moment) → MakesNone frames slots trusted tax g end m m' → EndsBy frames slots trusted tax g end m m'
 ends frames slots trusted tax g ending.Done m m' none = absurd none.stops
 ends frames slots trusted tax g (ending.Need p why) m m' none = none
 ends frames slots trusted tax g (ending.Stop why) m m' none = none
 
-pub run_ends : (frames slots : ℕ) (trusted : Type 0) (tax g : ℕ) (end : End) (m mid m' : Moment) → Made frames slots trusted tax g m mid → MakesNone frames slots trusted tax g end mid m'
+pub run_ends : {frames slots : ℕ} {trusted : Type 0} {tax g : ℕ} {end : End} {m mid m' : Moment} → Made frames slots trusted tax g m mid → MakesNone frames slots trusted tax g end mid m'
     → IsRun frames slots trusted tax g end m m'
-run_ends frames slots trusted tax g end m mid m' so_far none = record {
-  moments = so_far.moments;
-  last = mid;
-  steps = so_far.steps;
-  ends = ends frames slots trusted tax g end mid m' none;
-}
+run_ends {frames} {slots} {trusted} {tax} {g} {end} {m} {mid} {m'} so_far none =
+    record { moments = so_far.moments; last = mid; steps = so_far.steps; ends = ends frames slots trusted tax g end mid m' none }
 
-pub run_done : (frames slots : ℕ) (trusted : Type 0) (tax g : ℕ) (m m' : Moment) → Made frames slots trusted tax g m m' → IsRun frames slots trusted tax g ending.Done m m'
-run_done frames slots trusted tax g m m' so_far = record { moments = so_far.moments; last = m'; steps = so_far.steps; ends = refl }
+pub run_done : {frames slots : ℕ} {trusted : Type 0} {tax g : ℕ} {m m' : Moment} → Made frames slots trusted tax g m m' → IsRun frames slots trusted tax g ending.Done m m'
+run_done {m' = m'} so_far = record { moments = so_far.moments; last = m'; steps = so_far.steps; ends = refl }
 
--- ---- where as many frames and slots are, and the store is trusted as before
+-- ---- by the world that came before, where what lies around the guests is as it was
 
-module _ (frames frames' slots slots' : ℕ) (trusted trusted' : Type 0) (tax g : ℕ) (same_frames : frames' ≡ frames) (same_slots : slots' ≡ slots) (trust : trusted → trusted') where
-  pub steps_where : (count : ℕ) (m m' : Moment) → AreSteps frames' slots' trusted' g count m m' → AreSteps frames slots trusted g count m m'
-  steps_where count m m' a = record {
-    words = a.words;
-    logs = a.logs;
-    stays = a.stays;
-    needs_none = λ now. a.needs_none (trust now);
-    booked = subst (λ (n : ℕ). IsBooked n slots m') same_frames (subst (λ (n : ℕ). IsBooked frames' n m') same_slots a.booked);
-  }
+module _ {Store : Type 0} {slots_of : Store → ℕ} {honest trusted : Store → Type 0} {w w' : WorldIs Store} (around : AroundStays slots_of honest trusted w w') where
+  -- what is so of the frames and slots there are
+  booked : (P : ℕ → ℕ → Type 0) → P w'.frames (slots_of w'.store) → P w.frames (slots_of w.store)
+  booked P p = subst (λ (n : ℕ). P n (slots_of w.store)) around.frames (subst (λ (n : ℕ). P w'.frames n) around.store.slots p)
 
-  need_where : (m m' : Moment) → IsForNeed frames' slots' trusted' tax g m m' → IsForNeed frames slots trusted tax g m m'
-  need_where m m' a = record {
+  pub booked_where : (m : Moment) → IsBooked w'.frames (slots_of w'.store) m → IsBooked w.frames (slots_of w.store) m
+  booked_where m b = booked (λ frames slots. IsBooked frames slots m) b
+
+  pub steps_where : {g count : ℕ} {m m' : Moment} → AreSteps w'.frames (slots_of w'.store) (trusted w'.store) g count m m' → AreSteps w.frames (slots_of w.store) (trusted w.store) g count m m'
+  steps_where {m' = m'} a = record { words = a.words; logs = a.logs; stays = a.stays; needs_none = λ now. a.needs_none (around.store.true_to_digests.1 now); booked = booked_where m' a.booked }
+
+  need_where : {tax g : ℕ} {m m' : Moment} → IsForNeed w'.frames (slots_of w'.store) (trusted w'.store) tax g m m' → IsForNeed w.frames (slots_of w.store) (trusted w.store) tax g m m'
+  need_where {tax} {g} {m} {m'} a = record {
     p = a.p;
-    needed = λ now. a.needed (trust now);
-    supplied = subst (λ (n : ℕ). IsSuppliedFor n slots tax None g a.p m m') same_frames (subst (λ (n : ℕ). IsSuppliedFor frames' n tax None g a.p m m') same_slots a.supplied);
+    needed = λ now. a.needed (around.store.true_to_digests.1 now);
+    supplied = booked (λ frames slots. IsSuppliedFor frames slots tax None g a.p m m') a.supplied;
   }
 
-  pub fault_where : (m m' : Moment) → IsFault frames' slots' trusted' tax g m m' → IsFault frames slots trusted tax g m m'
-  fault_where m m' (inl same) = inl same
-  fault_where m m' (inr a) = inr (need_where m m' a)
+  pub fault_where : (tax g : ℕ) (m m' : Moment) → IsFault w'.frames (slots_of w'.store) (trusted w'.store) tax g m m' → IsFault w.frames (slots_of w.store) (trusted w.store) tax g m m'
+  fault_where tax g m m' (inl same) = inl same
+  fault_where tax g m m' (inr a) = inr (need_where a)
 
-  pub met_where : (m m' : Moment) → IsMet frames' slots' trusted' tax g m m' → IsMet frames slots trusted tax g m m'
+  pub met_where : (tax g : ℕ) (m m' : Moment) → IsMet w'.frames (slots_of w'.store) (trusted w'.store) tax g m m' → IsMet w.frames (slots_of w.store) (trusted w.store) tax g m m'
   unfolding need_where
-  met_where m m' (inl same) = inl same
-  met_where m m' (inr a) = inr (record { its = need_where m m' a.its; private = a.private })
+  met_where tax g m m' (inl same) = inl same
+  met_where tax g m m' (inr a) = inr (record { its = need_where a.its; private = a.private })
 
-  step_where : (m m' : Moment) → IsForStep frames' slots' trusted' tax g m m' → IsForStep frames slots trusted tax g m m'
-  step_where m m' a = record { between = a.between; none = steps_where 0 m a.between a.none; met = met_where a.between m' a.met }
+  supplied_where : (tax g : ℕ) (m : Moment) (ms : List Moment) (m' : Moment) → AreForStep w'.frames (slots_of w'.store) (trusted w'.store) tax g m ms m'
+      → AreForStep w.frames (slots_of w.store) (trusted w.store) tax g m ms m'
+  supplied_where tax g m [] m' all = all
+  supplied_where tax g m (next ∷ ms) m' all =
+      (record { between = all.0.between; none = steps_where all.0.none; met = met_where tax g all.0.between next all.0.met }, supplied_where tax g next ms m' all.1)
 
-  supplied_where : (m : Moment) (ms : List Moment) (m' : Moment) → AreForStep frames' slots' trusted' tax g m ms m' → AreForStep frames slots trusted tax g m ms m'
-  supplied_where m [] m' all = all
-  supplied_where m (next ∷ ms) m' all = (step_where m next all.0, supplied_where next ms m' all.1)
-
-  pub makes_where : (count : ℕ) (m m' : Moment) → MakesSteps frames' slots' trusted' tax g count m m' → MakesSteps frames slots trusted tax g count m m'
-  makes_where count m m' a = record {
+  pub makes_where : {tax g count : ℕ} {m m' : Moment} → MakesSteps w'.frames (slots_of w'.store) (trusted w'.store) tax g count m m' → MakesSteps w.frames (slots_of w.store) (trusted w.store) tax g count m m'
+  makes_where {tax} {g} {count} {m} a = record {
     moments = a.moments;
     few = a.few;
     last = a.last;
-    supplied = supplied_where m a.moments a.last a.supplied;
+    supplied = supplied_where tax g m a.moments a.last a.supplied;
     some = a.some;
-    steps = steps_where count a.last m' a.steps;
+    steps = steps_where a.steps;
   }
 
-  stuck_where : (m m' : Moment) → IsStuck frames' slots' trusted' tax g m m' → IsStuck frames slots trusted tax g m m'
-  stuck_where m m' a = record { between = a.between; none = steps_where 0 m a.between a.none; fault = fault_where a.between m' a.fault }
+  stuck_where : {tax g : ℕ} {m m' : Moment} → IsStuck w'.frames (slots_of w'.store) (trusted w'.store) tax g m m' → IsStuck w.frames (slots_of w.store) (trusted w.store) tax g m m'
+  stuck_where {tax} {g} {m} {m'} a = record { between = a.between; none = steps_where a.none; fault = fault_where tax g a.between m' a.fault }
 
-  stops_where : (end : End) (m m' : Moment) → StopsBy frames' slots' trusted' tax g end m m' → StopsBy frames slots trusted tax g end m m'
-  stops_where ending.Done m m' a = a
-  stops_where (ending.Need p why) m m' a = steps_where 0 m m' a
-  stops_where (ending.Stop halted.NoFrame) m m' a = stuck_where m m' a
-  stops_where (ending.Stop halted.NoSwap) m m' a = stuck_where m m' a
-  stops_where (ending.Stop halted.SwapRead) m m' a = stuck_where m m' a
-  stops_where (ending.Stop halted.SwapDamaged) m m' a = stuck_where m m' a
-  stops_where (ending.Stop halted.Memory) m m' a = stuck_where m m' a
-  stops_where (ending.Stop halted.LogFull) m m' a = steps_where 0 m m' a
+  stops_where : (tax g : ℕ) (end : End) (m m' : Moment) → StopsBy w'.frames (slots_of w'.store) (trusted w'.store) tax g end m m' → StopsBy w.frames (slots_of w.store) (trusted w.store) tax g end m m'
+  stops_where tax g ending.Done m m' a = a
+  stops_where tax g (ending.Need p why) m m' a = steps_where a
+  stops_where tax g (ending.Stop halted.LogFull) m m' a = steps_where a
+  stops_where tax g (ending.Stop why) m m' a = stuck_where a
 
-  pub makes_none_where : (end : End) (m m' : Moment) → MakesNone frames' slots' trusted' tax g end m m' → MakesNone frames slots trusted tax g end m m'
-  makes_none_where end m m' a = record {
+  pub makes_none_where : {tax g : ℕ} {end : End} {m m' : Moment} → MakesNone w'.frames (slots_of w'.store) (trusted w'.store) tax g end m m' → MakesNone w.frames (slots_of w.store) (trusted w.store) tax g end m m'
+  makes_none_where {tax} {g} {end} {m} {m'} a = record {
     moments = a.moments;
     few = a.few;
     last = a.last;
-    supplied = supplied_where m a.moments a.last a.supplied;
-    stops = stops_where end a.last m' a.stops;
+    supplied = supplied_where tax g m a.moments a.last a.supplied;
+    stops = stops_where tax g end a.last m' a.stops;
   }
-
--- as many frames and slots
-pub booked_where : (frames frames' slots slots' : ℕ) (m : Moment) → frames' ≡ frames → slots' ≡ slots → IsBooked frames' slots' m → IsBooked frames slots m
-booked_where frames frames' slots slots' m same_frames same_slots b = subst (λ (n : ℕ). IsBooked n slots m) same_frames (subst (λ (n : ℕ). IsBooked frames' n m) same_slots b)
 
 -- ---- a page that gets a frame, or stays
 
@@ -260,17 +227,16 @@ outs_joined frames slots from g to m (next ∷ ms) ns mid m' all more = (all.0, 
 pub up_to : (frames slots from to to' : ℕ) (m m' : Moment) → to ≤ to' → SwapOuts frames slots from to m m' → SwapOuts frames slots from to' m m'
 up_to frames slots from to to' m m' higher a = record { moments = a.moments; swap_outs = to_higher frames slots from to to' m a.moments m' higher a.swap_outs }
 
--- and more of them, where as many frames and slots are
-pub then_outs : (frames frames' slots slots' from g to : ℕ) (m mid m' : Moment) → frames' ≡ frames → slots' ≡ slots → SwapOuts frames slots from g m mid → SwapOuts frames' slots' g to mid m'
-    → SwapOuts frames slots from to m m'
-then_outs frames frames' slots slots' from g to m mid m' same_frames same_slots a b =
-    let here : SwapOuts frames slots g to mid m' = subst (λ (n : ℕ). SwapOuts n slots g to mid m') same_frames (subst (λ (n : ℕ). SwapOuts frames' n g to mid m') same_slots b) in
-    record { moments = a.moments ++ here.moments; swap_outs = outs_joined frames slots from g to m a.moments here.moments mid m' a.swap_outs here.swap_outs }
+-- and more of them
+pub then_outs : {Store : Type 0} {slots_of : Store → ℕ} {honest trusted : Store → Type 0} {w w' : WorldIs Store} → AroundStays slots_of honest trusted w w' → {from g to : ℕ} {m mid m' : Moment}
+    → SwapOuts w.frames (slots_of w.store) from g m mid → SwapOuts w'.frames (slots_of w'.store) g to mid m' → SwapOuts w.frames (slots_of w.store) from to m m'
+then_outs {slots_of = slots_of} {w = w} around {from} {g} {to} {m} {mid} {m'} a b =
+    let here : SwapOuts w.frames (slots_of w.store) g to mid m' = booked around (λ frames slots. SwapOuts frames slots g to mid m') b in
+    record { moments = a.moments ++ here.moments; swap_outs = outs_joined w.frames (slots_of w.store) from g to m a.moments here.moments mid m' a.swap_outs here.swap_outs }
 
-pub then_end : (frames frames' slots slots' from g to : ℕ) (m mid m' : Moment) → frames' ≡ frames → slots' ≡ slots → SwapOuts frames slots from g m mid → SwapOutsEnd frames' slots' g to mid m'
-    → SwapOutsEnd frames slots from to m m'
-then_end frames frames' slots slots' from g to m mid m' same_frames same_slots a b =
-    record { last = b.last; before = then_outs frames frames' slots slots' from g to m mid b.last same_frames same_slots a b.before; stay = b.stay }
+pub then_end : {Store : Type 0} {slots_of : Store → ℕ} {honest trusted : Store → Type 0} {w w' : WorldIs Store} → AroundStays slots_of honest trusted w w' → {from g to : ℕ} {m mid m' : Moment}
+    → SwapOuts w.frames (slots_of w.store) from g m mid → SwapOutsEnd w'.frames (slots_of w'.store) g to mid m' → SwapOutsEnd w.frames (slots_of w.store) from to m m'
+then_end around a b = record { last = b.last; before = then_outs around a b.before; stay = b.stay }
 
 pub end_up_to : (frames slots from to to' : ℕ) (m m' : Moment) → to ≤ to' → SwapOutsEnd frames slots from to m m' → SwapOutsEnd frames slots from to' m m'
 end_up_to frames slots from to to' m m' higher a = record { last = a.last; before = up_to frames slots from to to' m a.last higher a.before; stay = a.stay }

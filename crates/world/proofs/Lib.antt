@@ -1,6 +1,7 @@
 pub mod Admitting
 pub mod BootedGuests
 pub mod Choices
+pub mod Damaged
 pub mod Feeding
 pub mod Reached
 pub mod Runs
@@ -10,3 +11,4 @@ pub mod Turning
 pub mod Unsupplied
 pub mod Victims
 pub mod Worlds
+pub mod SlotOrder

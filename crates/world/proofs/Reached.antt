@@ -9,12 +9,13 @@ use Rattle.flatvm.specs.Items.{accepts}
 use Rattle.flatvm.specs.Replies.{bytes_at}
 use Rattle.physmap.specs.declared.page.Page.{Page}
 use Rattle.physmap.specs.declared.page.PageKind.{PageKind}
-use Rattle.physmap.specs.declared.page.PageKind.TheVariants.{Zero, Given, Private, Shared, Swapped}
+use Rattle.physmap.specs.declared.page.PageKind.TheVariants.{Private, Swapped}
 use Rattle.physmap.specs.Pages.{page_at, kind_of, kind_at}
 use Rattle.paged_bus.specs.Lacking.{lack_of}
-use Rattle.world.specs.declared.debugging.Access.{Access}
-use Rattle.world.specs.declared.debugging.Access.TheVariants as access
-use Rattle.world.specs.Debugging.{is_wanted, IsReady, OnlyPagesAndRoom}
+use Rattle.victims.specs.declared.wanted.Access.{Access}
+use Rattle.victims.specs.declared.wanted.Access.TheVariants as access
+use Rattle.victims.specs.Wanted.{is_wanted}
+use Rattle.world.specs.Debugging.{IsReady, OnlyPagesAndRoom}
 use Rattle.tenant.specs.Tenants.{TenantIs, pages_in}
 use Rattle.victims.specs.Victims.{is_one_of, spared_of}
 use Rattle.world.specs.Victims.{OnlyPagesMove, OtherSparedStay}
@@ -50,25 +51,16 @@ not_both b e f = absurd (cc)
 -- ---- pages that are wanted
 
 pub stored_to : (k : PageKind) → is_wanted access.Write k ≡ false → lack_of k Store ≡ None
-stored_to Zero e = absurd (cc)
-stored_to Given e = absurd (cc)
 stored_to Private e = refl
-stored_to Shared e = absurd (cc)
-stored_to Swapped e = absurd (cc)
+stored_to k e = absurd (cc)
 
 pub not_away : (k : PageKind) → is_wanted access.Read k ≡ false → k ≡ Swapped → ⊥
-not_away Zero e f = absurd (cc)
-not_away Given e f = absurd (cc)
-not_away Private e f = absurd (cc)
-not_away Shared e f = absurd (cc)
 not_away Swapped e f = absurd (cc)
+not_away k e f = absurd (cc)
 
 pub unread : (k : PageKind) → k ≢ Swapped → is_wanted access.Read k ≡ false
-unread Zero apart = refl
-unread Given apart = refl
-unread Private apart = refl
-unread Shared apart = refl
 unread Swapped apart = absurd (apart refl)
+unread k apart = refl
 
 private_unwanted : (how : Access) (k : PageKind) → k ≡ Private → is_wanted how k ≡ false
 private_unwanted access.Read k is = ap (is_wanted access.Read) is

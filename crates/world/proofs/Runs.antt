@@ -24,7 +24,7 @@ use Rattle.world.specs.Events.{steps_for, IsSupplied}
 use Rattle.tenant.specs.Tenants.{TenantIs, pages_in, beside_pages, Stays, NothingHappens}
 use Rattle.world.specs.Worlds.{Changes, boot_of, log_at}
 use Rattle.world.specs.Victims.{OnlyPagesMove}
-use Rattle.world.proofs.Worlds.{same_logs, set_twice}
+use Rattle.world.proofs.Worlds.{same_logs, same_boots, set_twice}
 use Rattle.world.proofs.Victims.{map_at, still_inside, first_of, stays_beside, fault_logs}
 
 -- ---- so many steps
@@ -50,8 +50,11 @@ steps_none h g old = sym (append-nil old) ∙ ap (λ (xs : List Item). old ++ xs
 pub still_there : (g : ℕ) (ts ts' : List TenantIs) → g < length ts → map boot_of ts' ≡ map boot_of ts → g < length ts'
 still_there g ts ts' inside boots = omega (arith, inside, ap length boots, length-map ts boot_of, length-map ts' boot_of)
 
-pub fault_stays : (ts ts' : List TenantIs) → OnlyPagesMove ts ts' → (h : ℕ) → log_at ts' h ≡ log_at ts h
-fault_stays ts ts' m h = fault_logs ts ts' m h ∙ append-nil (log_at ts h)
+pub stays_there : {g : ℕ} {ts ts' : List TenantIs} → Changes Stays g ts ts' → g < length ts → g < length ts'
+stays_there {g} {ts} {ts'} c inside = still_there g ts ts' inside (same_boots c inside)
+
+pub fault_stays : {ts ts' : List TenantIs} → OnlyPagesMove ts ts' → (h : ℕ) → log_at ts' h ≡ log_at ts h
+fault_stays {ts} m h = fault_logs m h ∙ append-nil (log_at ts h)
 
 same_view : (t t' : TenantIs) → NothingHappens t t' → Stays t t' → view_of t'.guest ≡ view_of t.guest
 same_view t t' n s = ap (λ (items : List Item). run items t'.guest.boot) n.items ∙ ap (run t.guest.log.items) s.boot
@@ -83,14 +86,11 @@ stays_on t u v s r = record {
   count = r.count ∙ s.count;
 }
 
-pub all_stays : (g : ℕ) (ts : List TenantIs) → Changes Stays g ts ts
-all_stays g ts = changes_none Stays stays_same g ts
-
 pub stays_none : (g : ℕ) (ts : List TenantIs) → Changes Stays g ts ts
 stays_none g ts = changes_none Stays stays_same g ts
 
-pub stays_then : (g : ℕ) (ts mid ts' : List TenantIs) → Changes Stays g ts mid → Changes Stays g mid ts' → Changes Stays g ts ts'
-stays_then g ts mid ts' before after = changes_then Stays stays_on g ts mid ts' before after
+pub stays_then : {g : ℕ} {ts mid ts' : List TenantIs} → Changes Stays g ts mid → Changes Stays g mid ts' → Changes Stays g ts ts'
+stays_then {g} {ts} {mid} {ts'} before after = changes_then Stays stays_on g ts mid ts' before after
 
 pub not_made_on : {E : Type 0} (r : Result ℕ E) (g : ℕ) (old ts ts' : List TenantIs) (Around : Type 0) → g < length ts
     → ((h : ℕ) → log_at ts h ≡ log_at old h) → OnErr r (Changes NothingHappens g ts ts' × Around) → OnErr r ((h : ℕ) → log_at ts' h ≡ log_at old h)

@@ -12,7 +12,7 @@ use Rattle.paging.specs.Books.{Books}
 use Rattle.items.specs.declared.item.Item.{Item}
 use Rattle.tenant.specs.Tenants.{TenantIs, pages_in, IsKept, IsSampled}
 use Rattle.world.specs.Samples.{AreSampled, OnlySamplesChange, without_sample}
-use Rattle.world.specs.Worlds.{Sound, items_of, boot_of, log_at}
+use Rattle.world.specs.Worlds.{Sound, items_of, log_at}
 
 words_add : (m n : ℕ) (s : Stream) → after_words n (after_words m s) ≡ after_words (m + n) s
 unfolding after_words
@@ -90,6 +90,3 @@ sound_sampled frames slots trusted held old new pool book es s w = record {
 
 pub sampled_logs : (old new : List TenantIs) → OnlySamplesChange old new → (h : ℕ) → log_at new h ≡ log_at old h
 sampled_logs old new s h = ap (λ (logs : List (List Item)). get_or logs h []) (stays items_of (λ t. refl) old new s)
-
-pub sampled_boots : (old new : List TenantIs) → OnlySamplesChange old new → map boot_of new ≡ map boot_of old
-sampled_boots old new s = stays boot_of (λ t. refl) old new s

@@ -19,7 +19,7 @@ use Rattle.items.specs.declared.item.Item.{Item}
 use Rattle.mips_step.specs.declared.access.Why.{Why}
 use Rattle.world.specs.Evictions.{IsEvicted}
 use Rattle.tenant.specs.Tenants.{TenantIs, pages_in, beside_pages}
-use Rattle.world.specs.Worlds.{Changes, PagesMove, items_of, boot_of, log_at}
+use Rattle.world.specs.Worlds.{Changes, PagesMove, items_of, log_at}
 use Rattle.victims.specs.declared.spared.Spared.{Spared}
 use Rattle.victims.specs.Victims.{is_one_of, spared_of, may_leave}
 use Rattle.victims.proofs.Searching.{counted_once, leaves_apart}
@@ -49,13 +49,16 @@ pub some_tenant : (ts : List TenantIs) (g : ℕ) → g < length ts → TenantIs
 some_tenant [] g inside = absurd (omega (arith, inside))
 some_tenant (t ∷ ts) g inside = t
 
+-- what is the same of the one guest that changes is the same of all
+pub changed : {Y : Type 0} (f : TenantIs → Y) {how : TenantIs → TenantIs → Type 0} {g : ℕ} {ts ts' : List TenantIs} → Changes how g ts ts' → g < length ts
+    → ((t t' : TenantIs) → how t t' → f t' ≡ f t) → map f ts' ≡ map f ts
+changed f {g = g} {ts = ts} {ts' = ts'} c inside same =
+    let d = some_tenant ts g inside in
+    ap (map f) (c.one d) ∙ map_same f ts g (get_or ts' g d) d inside (same (get_or ts g d) (get_or ts' g d) (c.so d))
+
 pub only_pages : (g : ℕ) (ts ts' : List TenantIs) → g < length ts → Changes PagesMove g ts ts' → OnlyPagesMove ts ts'
 only_pages g ts ts' inside c =
-    let d = some_tenant ts g inside in
-    record {
-      beside = ap (map beside_pages) (c.one d) ∙ map_same beside_pages ts g (get_or ts' g d) d inside (c.so d).beside;
-      counts = ap (map (λ t. length (pages_in t))) (c.one d) ∙ map_same (λ t. length (pages_in t)) ts g (get_or ts' g d) d inside (c.so d).count;
-    }
+    record { beside = changed beside_pages c inside (λ t t' m. m.beside); counts = changed (λ t. length (pages_in t)) c inside (λ t t' m. m.count) }
 
 pub pages_stay : (ts ts' : List TenantIs) → ts' ≡ ts → OnlyPagesMove ts ts'
 pages_stay ts ts' same = record { beside = ap (map beside_pages) same; counts = ap (map (λ t. length (pages_in t))) same }
@@ -159,7 +162,7 @@ some_none needed e = cc
 pub first_of : (needed : ℕ × Why) (p : ℕ) (why : Why) → Some needed ≡ Some (p, why) → needed.0 ≡ p
 first_of needed p why e = ap (λ (n : ℕ × Why). n.0) (same_Some needed (p, why) e)
 
--- ---- logs and boots of guests of which only pages have moved
+-- ---- logs of guests of which only pages have moved
 
 beside_map : {Y : Type 0} (f : TenantIs → Y) → ((t : TenantIs) → f (beside_pages t) ≡ f t) → (ts : List TenantIs) → map f (map beside_pages ts) ≡ map f ts
 beside_map f same [] = refl
@@ -168,8 +171,8 @@ beside_map f same (t ∷ ts) = λ i. same t i ∷ beside_map f same ts i
 pub stays_beside : {Y : Type 0} (f : TenantIs → Y) → ((t : TenantIs) → f (beside_pages t) ≡ f t) → (ts ts' : List TenantIs) → OnlyPagesMove ts ts' → map f ts' ≡ map f ts
 stays_beside f same ts ts' m = sym (beside_map f same ts') ∙ ap (map f) m.beside ∙ beside_map f same ts
 
-pub fault_logs : (ts ts' : List TenantIs) → OnlyPagesMove ts ts' → (h : ℕ) → log_at ts' h ≡ log_at ts h ++ []
-fault_logs ts ts' m h = ap (λ (logs : List (List Item)). get_or logs h []) (stays_beside items_of (λ t. refl) ts ts' m) ∙ sym (append-nil (log_at ts h))
+pub fault_logs : {ts ts' : List TenantIs} → OnlyPagesMove ts ts' → (h : ℕ) → log_at ts' h ≡ log_at ts h ++ []
+fault_logs {ts} {ts'} m h = ap (λ (logs : List (List Item)). get_or logs h []) (stays_beside items_of (λ t. refl) ts ts' m) ∙ sym (append-nil (log_at ts h))
 
-pub fault_boots : (ts ts' : List TenantIs) → OnlyPagesMove ts ts' → map boot_of ts' ≡ map boot_of ts
-fault_boots ts ts' m = stays_beside boot_of (λ t. refl) ts ts' m
+pub moved_logs : {g : ℕ} {ts ts' : List TenantIs} → Changes PagesMove g ts ts' → g < length ts → (h : ℕ) → log_at ts' h ≡ log_at ts h ++ []
+moved_logs {g} {ts} {ts'} c inside = fault_logs (only_pages g ts ts' inside c)

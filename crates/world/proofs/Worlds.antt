@@ -14,13 +14,13 @@ use Rattle.mips_step.specs.declared.access.StepOut.{StepOut}
 use Rattle.mips_step.specs.declared.access.StepOut.TheVariants as out
 use Rattle.guest.specs.declared.refused.Refused.{Refused}
 use Rattle.sharetab.specs.Entries.{EntriesAre}
-use Rattle.mips_step.specs.Step.{Machine}
+use Rattle.sharetab.specs.Shares.{SharesAre}
 use Rattle.physmap.specs.declared.page.Page.{Page}
 use Rattle.physmap.specs.Holdings.{slots_held}
 use Rattle.physmap.specs.Outline.{outline}
 use Rattle.physmap.specs.declared.page.Page.TheVariants as page
 use Rattle.paging.specs.declared.supply.SupplyError.{SupplyError}
-use Rattle.paging.specs.declared.supply.SupplyError.TheVariants.{NoFrame, Memory, SwapRead, SwapDamaged}
+use Rattle.paging.specs.declared.supply.SupplyError.TheVariants.{SwapDamaged}
 use Rattle.paging.specs.Supplies.{WhyAway}
 use Rattle.paging.proofs.Starting.{books_of_nothing, books_with_owner}
 use Rattle.paging.specs.Books.{Books, pages_of}
@@ -37,10 +37,10 @@ use Rattle.rand_core.specs.Stream.{Stream}
 use Rattle.world.specs.Answers.{Happens, AllHappen}
 use Rattle.world.specs.Events.{step_items, steps_for, input_items, own_items, own}
 use Rattle.tenant.specs.Tenants.{TenantIs, pages_in, beside_pages, IsKept, Stays, Adds, AddsSteps, NothingHappens}
-use Rattle.world.specs.Worlds.{WorldIs, Sound, Changes, PagesMove, items_of, boot_of, log_at, item_for}
+use Rattle.world.specs.Worlds.{WorldIs, Sound, Changes, SameAround, OnlyBooksChange, StoreStays, AroundStays, items_of, boot_of, log_at, item_for}
 use Rattle.tenant.proofs.Giving.{outline_conserves, outline_reads}
 use Rattle.tenant.proofs.Keeping.{used_kept}
-use Rattle.world.proofs.Victims.{some_tenant}
+use Rattle.world.proofs.Victims.{some_tenant, changed}
 
 -- ---- one guest
 
@@ -74,19 +74,20 @@ not_free frames slots ts g d pool book es slot inside b some =
       | inr none ↦ omega (arith, none)
     ]
 
-pub sound_after : (frames slots : ℕ) (trusted trusted' : Type 0) (held held' : ℕ → Option (List ℕ)) (ts : List TenantIs) (g : ℕ) (t t' : TenantIs) (pool book pool' book' : FreeList) (es es' : EntriesAre)
-    → g < length ts → t ≡ get_or ts g t
+-- What a call for one guest leaves, where that guest's part of the books is still exact and it is still its run.
+pub sound_after : {frames slots : ℕ} {trusted : Type 0} {held : ℕ → Option (List ℕ)} {ts : List TenantIs} {pool book : FreeList} {es : EntriesAre} → Sound frames slots trusted held ts pool book es
+    → (g : ℕ) (t t' : TenantIs) (slots' : ℕ) (trusted' : Type 0) (held' : ℕ → Option (List ℕ)) (pool' book' : FreeList) (es' : EntriesAre) → g < length ts → t ≡ get_or ts g t → slots' ≡ slots
     → Conserves (pages_in t) pool book es (pages_in t') pool' book' es' → (Reads es (pages_in t) → Reads es' (pages_in t'))
-    → (trusted' → trusted) → (trusted → IsKept held t → IsKept held' t') → (trusted → UsedStay book held held')
-    → Sound frames slots trusted held ts pool book es → Sound frames slots trusted' held' (set ts g t') pool' book' es'
-sound_after frames slots trusted trusted' held held' ts g t t' pool book pool' book' es es' inside is conserves reads trust kept used s =
+    → (trusted' → trusted) → (trusted → IsKept held t → IsKept held' t') → (trusted → UsedStay book held held') → Sound frames slots' trusted' held' (set ts g t') pool' book' es'
+sound_after {frames} {slots} {trusted} {held} {ts} {pool} {book} {es} s g t t' slots' trusted' held' pool' book' es' inside is same_slots conserves reads trust kept used =
     let all = map pages_in ts in
     let there = inside_map ts g inside in
     let same : pages_of all g ≡ pages_in t = pages_at ts g t inside ∙ ap pages_in (sym is) in
     record {
-      books = subst (λ (l : List (List Page)). Books frames slots l es' pool' book') (sym (map-set pages_in ts g t'))
+      books = subst (λ (n : ℕ). Books frames n (map pages_in (set ts g t')) es' pool' book') (sym same_slots)
+          (subst (λ (l : List (List Page)). Books frames slots l es' pool' book') (sym (map-set pages_in ts g t'))
           (books_after frames slots all g (pages_in t') es es' pool pool' book book' there (subst (λ (ps : List Page). Conserves ps pool book es (pages_in t') pool' book' es') (sym same) conserves)
-          (reads (subst (Reads es) same (reads_each frames slots all es pool book g s.books there))) s.books);
+          (reads (subst (Reads es) same (reads_each frames slots all es pool book g s.books there))) s.books));
       kept = λ trust'. All-from_get_or (IsKept held') (set ts g t') t (λ j h. each (trust trust') j (omega (arith, h, length-set ts g t')));
     }
   where
@@ -185,66 +186,52 @@ log_stays how g ts ts' d inside c same h =
     ∙ same_log (h == g) (log_at ts h) (items_of (get_or ts g d)) (λ e. ap (log_at ts) (eqb-true h g e) ∙ its_log ts g d inside)
     ∙ sym (append-nil (log_at ts h))
 
-boots_set : (ts : List TenantIs) (g : ℕ) (t' d : TenantIs) → g < length ts → boot_of t' ≡ boot_of (get_or ts g d) → map boot_of (set ts g t') ≡ map boot_of ts
-boots_set [] g t' d inside same = absurd (omega (arith, inside))
-boots_set (t ∷ ts) zero t' d inside same = ap (λ (m : Machine). m ∷ map boot_of ts) same
-boots_set (t ∷ ts) (suc g) t' d inside same = ap (λ (ms : List Machine). boot_of t ∷ ms) (boots_set ts g t' d (omega (arith, inside)) same)
+-- ---- one guest of a world, by what is seen of the world
 
-pub boots_stay : (how : TenantIs → TenantIs → Type 0) (g : ℕ) (ts ts' : List TenantIs) (d : TenantIs) → g < length ts → Changes how g ts ts'
-    → ((t t' : TenantIs) → how t t' → boot_of t' ≡ boot_of t) → map boot_of ts' ≡ map boot_of ts
-boots_stay how g ts ts' d inside c same =
-    ap (map boot_of) (c.one d) ∙ boots_set ts g (get_or ts' g d) d inside (same (get_or ts g d) (get_or ts' g d) (c.so d))
+pub tenants_of : {Store : Type 0} {w w' : WorldIs Store} → w ≡ w' → w.tenants ≡ w'.tenants
+tenants_of {Store} e = ap (λ (x : WorldIs Store). x.tenants) e
 
-pub moved_items : (t t' : TenantIs) → PagesMove t t' → items_of t' ≡ items_of t
-moved_items t t' m = ap items_of m.beside
+pub guest_inside : {Store : Type 0} {w w' : WorldIs Store} {g : ℕ} → w ≡ w' → g < length w'.tenants → g < length w.tenants
+guest_inside {Store} e inside = omega (arith, inside, ap (λ (x : WorldIs Store). length x.tenants) e)
 
-pub moved_boot : (t t' : TenantIs) → PagesMove t t' → boot_of t' ≡ boot_of t
-moved_boot t t' m = ap boot_of m.beside
+pub guest_at : {Store : Type 0} {w w' : WorldIs Store} {g : ℕ} {t : TenantIs} → w ≡ w' → g < length w'.tenants → t ≡ get_or w.tenants g t → (d : TenantIs) → t ≡ get_or w'.tenants g d
+guest_at {Store} {w} {w'} {g} {t} e inside is d = is ∙ any_default w.tenants g t d (guest_inside e inside) ∙ ap (λ (x : WorldIs Store). get_or x.tenants g d) e
 
--- ---- what a world knows of one of its guests
-
-pub tenants_of : {Store : Type 0} (w w' : WorldIs Store) → w ≡ w' → w.tenants ≡ w'.tenants
-tenants_of w w' e = ap (λ (x : WorldIs _). x.tenants) e
-
-pub shares_of : {Store : Type 0} (w w' : WorldIs Store) → w ≡ w' → w.shares ≡ w'.shares
-shares_of w w' e = ap (λ (x : WorldIs _). x.shares) e
-
-pub guest_inside : (ts ts' : List TenantIs) (g : ℕ) → ts ≡ ts' → g < length ts' → g < length ts
-guest_inside ts ts' g e inside = omega (arith, inside, ap length e)
-
--- the guest at a place, by the world before
-pub guest_at : (ts ts' : List TenantIs) (g : ℕ) (t d : TenantIs) → ts ≡ ts' → g < length ts → t ≡ get_or ts g t → t ≡ get_or ts' g d
-guest_at ts ts' g t d e inside is = is ∙ any_default ts g t d inside ∙ ap (λ (l : List TenantIs). get_or l g d) e
-
-pub lent_of : (frames slots : ℕ) (trusted : Type 0) (held : ℕ → Option (List ℕ)) (ts : List TenantIs) (g : ℕ) (t : TenantIs) (pool book : FreeList) (es : EntriesAre)
-    → g < length ts → t ≡ get_or ts g t → Sound frames slots trusted held ts pool book es → Lent slots (pages_in t) pool book es
-lent_of frames slots trusted held ts g t pool book es inside is s =
+pub lent_of : {frames slots : ℕ} {trusted : Type 0} {held : ℕ → Option (List ℕ)} {ts : List TenantIs} {pool book : FreeList} {es : EntriesAre} {g : ℕ} {t : TenantIs}
+    → Sound frames slots trusted held ts pool book es → g < length ts → t ≡ get_or ts g t → Lent slots (pages_in t) pool book es
+lent_of {frames} {slots} {trusted} {held} {ts} {pool} {book} {es} {g} {t} s inside is =
     subst (λ (u : TenantIs). Lent slots (pages_in u) pool book es) (sym is) (lent frames slots ts g t pool book es inside s.books)
 
-pub kept_of : (frames slots : ℕ) (trusted : Type 0) (held : ℕ → Option (List ℕ)) (ts : List TenantIs) (g : ℕ) (t : TenantIs) (pool book : FreeList) (es : EntriesAre)
-    → g < length ts → t ≡ get_or ts g t → trusted → Sound frames slots trusted held ts pool book es → IsKept held t
-kept_of frames slots trusted held ts g t pool book es inside is trust s =
-    subst (IsKept held) (sym is) (All-get_or (IsKept held) ts g t inside (s.kept trust))
+pub kept_of : {frames slots : ℕ} {trusted : Type 0} {held : ℕ → Option (List ℕ)} {ts : List TenantIs} {pool book : FreeList} {es : EntriesAre} {g : ℕ} {t : TenantIs}
+    → Sound frames slots trusted held ts pool book es → g < length ts → t ≡ get_or ts g t → trusted → IsKept held t
+kept_of {held = held} {ts = ts} {g = g} {t = t} s inside is trust = subst (IsKept held) (sym is) (All-get_or (IsKept held) ts g t inside (s.kept trust))
+
+-- of a guest that a call hands out
+pub guest_of : {x : GuestIs} {t : TenantIs} (ts : List TenantIs) (g : ℕ) → x ≡ t.guest → ((d : TenantIs) → t ≡ get_or ts g d) → (d : TenantIs) → x ≡ (get_or ts g d).guest
+guest_of ts g is at d = is ∙ ap (λ (u : TenantIs). u.guest) (at d)
+
+pub kept_at : {frames slots : ℕ} {trusted : Type 0} {held : ℕ → Option (List ℕ)} {ts : List TenantIs} {pool book : FreeList} {es : EntriesAre} {g : ℕ} {t : TenantIs}
+    → Sound frames slots trusted held ts pool book es → g < length ts → ((d : TenantIs) → t ≡ get_or ts g d) → trusted → (d : TenantIs) → IsKept held (get_or ts g d)
+kept_at {held = held} {t = t} s inside at trust d = subst (IsKept held) (at d) (kept_of s inside (at t) trust)
 
 -- a guest neither whose pages nor else anything has changed is the same
 with_pages_of : List Page → TenantIs → TenantIs
 with_pages_of pages t = record t { guest = record t.guest { bus = record t.guest.bus { pages = pages } } }
 
-pub same_guests : (ts : List TenantIs) (g : ℕ) (t t' : TenantIs) → g < length ts → t ≡ get_or ts g t → beside_pages t' ≡ beside_pages t → pages_in t' ≡ pages_in t → set ts g t' ≡ ts
+pub same_guests : {Store : Type 0} {w w' : WorldIs Store} {g : ℕ} {t : TenantIs} (t' : TenantIs) → w ≡ w' → g < length w'.tenants → t ≡ get_or w.tenants g t
+    → beside_pages t' ≡ beside_pages t → pages_in t' ≡ pages_in t → set w.tenants g t' ≡ w'.tenants
 unfolding with_pages_of
-same_guests ts g t t' inside is beside pages =
+same_guests {w = w} {g = g} {t = t} t' e inside is beside pages =
     let same : t' ≡ t = λ i. with_pages_of (pages i) (beside i) in
-    ap (set ts g) (same ∙ is) ∙ set-get_or ts g t
+    ap (set w.tenants g) (same ∙ is) ∙ set-get_or w.tenants g t ∙ tenants_of e
 
 -- ---- a page that isn't supplied
 
 pub why_away : {T : Type 0} (r : Result T SupplyError) (pool : FreeList) (failed damaged wanted : Type 0) → (r ≡ Err SwapDamaged → wanted)
     → IfErr r (WhyAway pool failed damaged) → IfErr r (WhyAway pool failed wanted)
 why_away (Ok x) pool failed damaged wanted why w = tt
-why_away (Err NoFrame) pool failed damaged wanted why w = w
-why_away (Err Memory) pool failed damaged wanted why w = w
-why_away (Err SwapRead) pool failed damaged wanted why w = w
 why_away (Err SwapDamaged) pool failed damaged wanted why w = (w.0, why refl)
+why_away (Err e) pool failed damaged wanted why w = w
 
 -- ---- a new world, and one more guest
 
@@ -315,13 +302,12 @@ sound_add_new frames slots n trusted trusted' held held' ts g t pool pool' book 
     used s
 
 -- an item that is no step leaves where pages are
-pub input_sound : (frames slots : ℕ) (trusted : Type 0) (held : ℕ → Option (List ℕ)) (ts : List TenantIs) (g : ℕ) (t t' : TenantIs) (pool book : FreeList) (es : EntriesAre)
-    → g < length ts → t ≡ get_or ts g t → outline (pages_in t') ≡ outline (pages_in t) → (IsKept held t → IsKept held t')
-    → Sound frames slots trusted held ts pool book es → Sound frames slots trusted held (set ts g t') pool book es
-input_sound frames slots trusted held ts g t t' pool book es inside is same kept s =
-    sound_after frames slots trusted trusted held held ts g t t' pool book pool book es es inside is
-    (outline_conserves (pages_in t) (pages_in t') same pool book es) (outline_reads (pages_in t) (pages_in t') same es)
-    (λ trust. trust) (λ trust k. kept k) (λ trust slot none. refl) s
+pub input_sound : {frames slots : ℕ} {trusted : Type 0} {held : ℕ → Option (List ℕ)} {ts : List TenantIs} {pool book : FreeList} {es : EntriesAre} → Sound frames slots trusted held ts pool book es
+    → (g : ℕ) (t t' : TenantIs) → g < length ts → t ≡ get_or ts g t → outline (pages_in t') ≡ outline (pages_in t) → (IsKept held t → IsKept held t')
+    → Sound frames slots trusted held (set ts g t') pool book es
+input_sound {pool = pool} {book = book} {es = es} s g t t' inside is same kept =
+    sound_after s g t t' _ _ _ pool book es inside is refl (outline_conserves (pages_in t) (pages_in t') same pool book es) (outline_reads (pages_in t) (pages_in t') same es)
+    (λ trust. trust) (λ trust k. kept k) (λ trust slot none. refl)
 
 -- ---- what events add to logs
 
@@ -345,14 +331,50 @@ pub input_logs : (g : ℕ) (ts ts' : List TenantIs) (item : Item) (r : Result Re
 input_logs g ts ts' item (Ok reply) inside adds err h = log_adds g ts ts' item (some_tenant ts g inside) inside adds h
 input_logs g ts ts' item (Err refused) inside adds err h = log_stays NothingHappens g ts ts' (some_tenant ts g inside) inside err (λ t t' n. n.items) h
 
-pub moved_logs : (g : ℕ) (ts ts' : List TenantIs) → g < length ts → Changes PagesMove g ts ts' → (h : ℕ) → log_at ts' h ≡ log_at ts h ++ []
-moved_logs g ts ts' inside c = log_stays PagesMove g ts ts' (some_tenant ts g inside) inside c moved_items
+pub same_boots : {g : ℕ} {ts ts' : List TenantIs} → Changes Stays g ts ts' → g < length ts → map boot_of ts' ≡ map boot_of ts
+same_boots c inside = changed boot_of c inside (λ t t' s. s.boot)
 
-pub moved_boots : (g : ℕ) (ts ts' : List TenantIs) → g < length ts → Changes PagesMove g ts ts' → map boot_of ts' ≡ map boot_of ts
-moved_boots g ts ts' inside c = boots_stay PagesMove g ts ts' (some_tenant ts g inside) inside c moved_boot
+-- ---- what lies around the guests
 
-pub same_boots : (g : ℕ) (ts ts' : List TenantIs) → g < length ts → Changes Stays g ts ts' → map boot_of ts' ≡ map boot_of ts
-same_boots g ts ts' inside c = boots_stay Stays g ts ts' (some_tenant ts g inside) inside c (λ t t' s. s.boot)
+pub store_same : {Store : Type 0} {slots_of : Store → ℕ} {honest true_to_digests : Store → Type 0} {s s' : Store} → s' ≡ s → StoreStays slots_of honest true_to_digests s s'
+store_same {slots_of = slots_of} {honest = honest} {true_to_digests = true_to_digests} same = record {
+  slots = ap slots_of same;
+  honest = (subst honest same, subst honest (sym same));
+  true_to_digests = (subst true_to_digests same, subst true_to_digests (sym same));
+}
+
+pub store_then : {Store : Type 0} {slots_of : Store → ℕ} {honest true_to_digests : Store → Type 0} {s mid s' : Store}
+    → StoreStays slots_of honest true_to_digests s mid → StoreStays slots_of honest true_to_digests mid s' → StoreStays slots_of honest true_to_digests s s'
+store_then a b = record {
+  slots = b.slots ∙ a.slots;
+  honest = (λ now. a.honest.0 (b.honest.0 now), λ before. b.honest.1 (a.honest.1 before));
+  true_to_digests = (λ now. a.true_to_digests.0 (b.true_to_digests.0 now), λ before. b.true_to_digests.1 (a.true_to_digests.1 before));
+}
+
+pub around_then : {Store : Type 0} {slots_of : Store → ℕ} {honest true_to_digests : Store → Type 0} {w mid w' : WorldIs Store}
+    → AroundStays slots_of honest true_to_digests w mid → AroundStays slots_of honest true_to_digests mid w' → AroundStays slots_of honest true_to_digests w w'
+around_then a b = record { hints = b.hints ∙ a.hints; frames = b.frames ∙ a.frames; level = b.level ∙ a.level; store = store_then a.store b.store }
+
+-- only the books have changed
+pub around_books : {Store : Type 0} {slots_of : Store → ℕ} {honest true_to_digests : Store → Type 0} {w w' : WorldIs Store} → OnlyBooksChange w w' → AroundStays slots_of honest true_to_digests w w'
+around_books o = record { hints = o.hints; frames = o.frames; level = o.level; store = store_same o.store }
+
+pub books_then : {Store : Type 0} {w mid w' : WorldIs Store} → OnlyBooksChange w mid → OnlyBooksChange mid w' → OnlyBooksChange w w'
+books_then a b = record { hints = b.hints ∙ a.hints; store = b.store ∙ a.store; frames = b.frames ∙ a.frames; level = b.level ∙ a.level }
+
+-- nothing has changed
+pub books_same : {Store : Type 0} {w w' : WorldIs Store} → SameAround w w' → OnlyBooksChange w w'
+books_same a = record { hints = ap (λ (x : SharesAre). x.hints) a.shares; store = a.store; frames = a.frames; level = a.level }
+
+pub same_then : {Store : Type 0} {w mid w' : WorldIs Store} → SameAround w mid → SameAround mid w' → SameAround w w'
+same_then a b = record {
+  pool = b.pool ∙ a.pool;
+  slots = b.slots ∙ a.slots;
+  shares = b.shares ∙ a.shares;
+  store = b.store ∙ a.store;
+  frames = b.frames ∙ a.frames;
+  level = b.level ∙ a.level;
+}
 
 -- ---- events, one after another
 

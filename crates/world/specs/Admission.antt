@@ -12,6 +12,7 @@ use Rattle.world.specs.declared.running.End.{End}
 use Rattle.world.specs.declared.running.End.TheVariants as end
 use Rattle.world.specs.declared.running.RunStop.{RunStop}
 use Rattle.world.specs.declared.running.RunStop.TheVariants as stop
+use Rattle.world.specs.Worlds.{boot_of}
 
 -- Guests are admitted by their minimums: there are as many frames as they always keep pages, and one more for each of them, and a slot for
 -- each of their other pages.
@@ -32,29 +33,29 @@ pub record LimitsStay (ts ts' : List TenantIs) : Type 0 where
 abbrev pub BlockedStay : List TenantIs → List TenantIs → Type 0
 BlockedStay ts ts' = map (λ (t : TenantIs). t.blocked) ts' ≡ map (λ (t : TenantIs). t.blocked) ts
 
+-- the machines that the guests booted are the same, and so are their limits and who of them is blocked
+pub record GuestsStay (ts ts' : List TenantIs) : Type 0 where
+  pub boots : map boot_of ts' ≡ map boot_of ts
+  pub limits : LimitsStay ts ts'
+  pub blocked : BlockedStay ts ts'
+
 -- ---- room
 
 -- a page found no frame: not for want of slots, and for want of frames only where the store failed
 abbrev pub IsNoRoom : Type 0 → FaultError → Type 0
 IsNoRoom failed lacking.NoFrame = failed
 IsNoRoom failed lacking.NoSwap = ⊥
-IsNoRoom failed lacking.SwapRead = Unit {0}
-IsNoRoom failed lacking.SwapDamaged = Unit {0}
-IsNoRoom failed lacking.Memory = Unit {0}
+IsNoRoom failed _ = Unit {0}
 
 -- the same of what stops several steps, or a debugger's access
 abbrev pub IsNoRoomIn : Type 0 → RunStop → Type 0
 IsNoRoomIn failed stop.NoFrame = failed
 IsNoRoomIn failed stop.NoSwap = ⊥
-IsNoRoomIn failed stop.SwapRead = Unit {0}
-IsNoRoomIn failed stop.SwapDamaged = Unit {0}
-IsNoRoomIn failed stop.Memory = Unit {0}
-IsNoRoomIn failed stop.LogFull = Unit {0}
+IsNoRoomIn failed _ = Unit {0}
 
 abbrev pub IsEndWithRoom : Type 0 → End → Type 0
-IsEndWithRoom failed end.Done = Unit {0}
-IsEndWithRoom failed (end.Need page why) = Unit {0}
 IsEndWithRoom failed (end.Stop why) = IsNoRoomIn failed why
+IsEndWithRoom failed _ = Unit {0}
 
 abbrev pub IsAccessWithRoom : Type 0 → DebugError → Type 0
 IsAccessWithRoom failed debug.NoPlace = Unit {0}

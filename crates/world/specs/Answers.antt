@@ -52,7 +52,7 @@ use Rattle.world.specs.Samples.{IsSampling}
 use Rattle.world.specs.Turns.{IsTurn}
 use Rattle.world.specs.Victims.{WhyUnsupplied}
 use Rattle.world.specs.Words.{GoesByWords}
-use Rattle.world.specs.Worlds.{WorldIs, Sound, SameAround, boot_of, log_at, guest_at, needed_by, FailsOnce}
+use Rattle.world.specs.Worlds.{WorldIs, Sound, SameAround, StoreStays, boot_of, log_at, guest_at, needed_by, FailsOnce}
 
 -- a step answers the page that it needs, and else is made; it stops for a full log exactly where the log is full
 pub record IsStepAnswer (trusted : Type 0) (t : TenantIs) (stepped : Result StepOut Stop) : Type 0 where
@@ -209,9 +209,7 @@ pub record Happens {Kept : Type 0} (trusted : Kept → Type 0) (failures : Kept 
   pub limits : LimitsStay w.tenants w'.tenants
   pub blocked : NotTurned a → BlockedStay w.tenants w'.tenants
   pub frames : w'.frames ≡ w.frames
-  pub slots_stay : slots w'.store ≡ slots w.store
-  pub honesty : honest w'.store ↔ honest w.store
-  pub trust : trusted w'.store ↔ trusted w.store
+  pub store : StoreStays slots honest trusted w.store w'.store
   pub room : IsAdmitted w.frames (slots w.store) w.tenants → FindsRoom (FailsOnce failures w w') a
   pub sound : IsSoundWorld trusted slots held w'
 

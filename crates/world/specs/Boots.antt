@@ -1,9 +1,10 @@
 -- Which worlds can be booted, and what they are then.
 use Rattle.std.specs.Prelude.{◌≡◌, ℕ, ◌+◌, ◌-◌, ◌<◌, ◌≤◌, true, List, [], All, length, sum_by, slice_index_or}
+use Rattle.frames.specs.Counts.{count_of}
 use Rattle.frames.specs.FreeList.{FreeList}
 use Rattle.elf32.specs.Images.{FitsPages}
 use Rattle.physmap.specs.declared.page.PageKind.TheVariants.{Private, Swapped}
-use Rattle.physmap.specs.Pages.{kind_at}
+use Rattle.physmap.specs.Pages.{page_at, kind_at, slot_of}
 use Rattle.world.specs.declared.boot.Config.{Config}
 use Rattle.world.specs.declared.boot.NewGuest.{NewGuest}
 use Rattle.tenant.specs.declared.loading.BootError.{BootError}
@@ -56,15 +57,24 @@ pub record FramesComeFirst (pool : FreeList) (tenants : List TenantIs) : Type 0 
   pub earlier : (g h p q : ℕ) (t : TenantIs) → g < h → h < length tenants → kind_at (pages_in (slice_index_or tenants g t)) p ≡ Swapped →
       kind_at (pages_in (slice_index_or tenants h t)) q ≡ Private → ⊥
 
+-- Slots are taken in the order of their numbers, guests and pages rising: where a page of a guest is in a slot, those of the pages above it
+-- are greater, and those of each later guest; and so is each slot that is free.
+pub record SlotsComeInOrder (book : FreeList) (tenants : List TenantIs) : Type 0 where
+  pub pages : (g p q : ℕ) (t : TenantIs) → g < length tenants → p < q → kind_at (pages_in (slice_index_or tenants g t)) p ≡ Swapped →
+      kind_at (pages_in (slice_index_or tenants g t)) q ≡ Swapped →
+      slot_of (page_at (pages_in (slice_index_or tenants g t)) p) < slot_of (page_at (pages_in (slice_index_or tenants g t)) q)
+  pub guests : (g h p q : ℕ) (t : TenantIs) → g < h → h < length tenants → kind_at (pages_in (slice_index_or tenants g t)) p ≡ Swapped →
+      kind_at (pages_in (slice_index_or tenants h t)) q ≡ Swapped →
+      slot_of (page_at (pages_in (slice_index_or tenants g t)) p) < slot_of (page_at (pages_in (slice_index_or tenants h t)) q)
+  pub free : (g p slot : ℕ) (t : TenantIs) → g < length tenants → kind_at (pages_in (slice_index_or tenants g t)) p ≡ Swapped →
+      0 < count_of slot book.free → slot_of (page_at (pages_in (slice_index_or tenants g t)) p) < slot
+
 -- a refusal that comes before a page is loaded
 abbrev pub IsOfNumbers : BootError → Type 0
-IsOfNumbers Limits = Unit {0}
-IsOfNumbers Segment = Unit {0}
-IsOfNumbers AdmitFrames = Unit {0}
-IsOfNumbers AdmitSlots = Unit {0}
 IsOfNumbers Room = ⊥
 IsOfNumbers Store = ⊥
 IsOfNumbers Memory = ⊥
+IsOfNumbers _ = Unit {0}
 
 -- why a world with so many slots is not booted; the first that holds, in this order
 abbrev pub WhyNotBooted : Config → ℕ → List NewGuest → BootError → Type 0

@@ -15,12 +15,12 @@ use Rattle.taxpolicy.specs.Victim.{victim_of}
 use Rattle.tenant.specs.Tenants.{TenantIs, pages_in, stat_of, Stays}
 use Rattle.victims.specs.Victims.{IsNextResident}
 use Rattle.victims.specs.declared.spared.Spared.{Spared}
-use Rattle.world.specs.declared.debugging.Access.{Access}
-use Rattle.world.specs.declared.debugging.Access.TheVariants as access
+use Rattle.victims.specs.declared.wanted.Access.{Access}
+use Rattle.victims.specs.declared.wanted.Access.TheVariants as access
 use Rattle.world.specs.declared.running.End.{End}
 use Rattle.world.specs.declared.running.End.TheVariants as ending
 use Rattle.world.specs.declared.running.RunStop.TheVariants as halted
-use Rattle.world.specs.Debugging.{is_wanted}
+use Rattle.victims.specs.Wanted.{is_wanted}
 use Rattle.world.specs.Events.{steps_for}
 use Rattle.world.specs.Evictions.{IsEvicted}
 use Rattle.world.specs.Steps.{NoneNeeds}
@@ -41,8 +41,8 @@ abbrev pub moment_of : {Store : Type 0} → Stream → WorldIs Store → Moment
 moment_of words w = record { words = words; tenants = w.tenants; pool = w.pool; slots = w.slots; entries = w.shares.entries }
 
 -- the guest of a number
-abbrev pub tenant_of : Moment → ℕ → TenantIs → TenantIs
-tenant_of m g t = slice_index_or m.tenants g t
+abbrev pub guest_in : Moment → ℕ → TenantIs → TenantIs
+guest_in m g t = slice_index_or m.tenants g t
 
 -- of so many frames and slots the books are exact: so which guests have which pages says how many frames are free
 abbrev pub IsBooked : ℕ → ℕ → Moment → Type 0
@@ -57,16 +57,20 @@ pub record IsEviction (frames slots tax : ℕ) (spared : Option Spared) (m m' : 
   pub rest : m'.words ≡ (next_u32 m.words).1
   pub booked : IsBooked frames slots m'
 
--- no frame is free, and a word was drawn for a page of the policy's victim, which stays in its frame
-pub record IsRefusal (tax : ℕ) (m m' : Moment) : Type 0 where
-  pub full : m.pool.free ≡ []
-  pub g : ℕ
-  pub victim : victim_of tax (map stat_of m.tenants) ≡ Some g
+-- a word was drawn for a page, which stays in its frame
+pub record IsStay (m m' : Moment) : Type 0 where
   pub rest : m'.words ≡ (next_u32 m.words).1
   pub tenants : m'.tenants ≡ m.tenants
   pub pool : m'.pool ≡ m.pool
   pub slots : SameNumbers m.slots m'.slots
   pub entries : m'.entries ≡ m.entries
+
+-- no frame is free, and the page that was drawn is one of the policy's victim
+pub record IsRefusal (tax : ℕ) (m m' : Moment) : Type 0 where
+  pub full : m.pool.free ≡ []
+  pub g : ℕ
+  pub victim : victim_of tax (map stat_of m.tenants) ≡ Some g
+  pub stay : IsStay m m'
 
 -- no page leaves: nothing has changed, or the page that was drawn stays
 abbrev pub NoneLeaves : ℕ → Moment → Moment → Type 0
@@ -93,8 +97,8 @@ pub record GetsFrame (frames slots g p : ℕ) (m m' : Moment) : Type 0 where
   pub free : 0 < length m.pool.free
   pub words : m'.words ≡ m.words
   pub moves : Changes PagesMove g m.tenants m'.tenants
-  pub others : (t : TenantIs) (q : ℕ) → (q ≡ p → ⊥) → page_at (pages_in (tenant_of m' g t)) q ≡ page_at (pages_in (tenant_of m g t)) q
-  pub its : ((t : TenantIs) → kind_at (pages_in (tenant_of m' g t)) p ≡ Private) ⊎ (m'.tenants ≡ m.tenants)
+  pub others : (t : TenantIs) (q : ℕ) → (q ≡ p → ⊥) → page_at (pages_in (guest_in m' g t)) q ≡ page_at (pages_in (guest_in m g t)) q
+  pub its : ((t : TenantIs) → kind_at (pages_in (guest_in m' g t)) p ≡ Private) ⊎ (m'.tenants ≡ m.tenants)
   pub booked : IsBooked frames slots m'
 
 -- room is made for a page of a guest, and where a frame is free then the page gets one
@@ -109,7 +113,7 @@ pub record IsSuppliedFor (frames slots tax : ℕ) (spared : Option Spared) (g p 
 -- another page of that guest.
 pub record IsForNeed (frames slots : ℕ) (trusted : Type 0) (tax g : ℕ) (m m' : Moment) : Type 0 where
   pub p : ℕ
-  pub needed : trusted → (t : TenantIs) → (why : Why) × (needed_by (tenant_of m g t) ≡ Some (p, why))
+  pub needed : trusted → (t : TenantIs) → (why : Why) × (needed_by (guest_in m g t) ≡ Some (p, why))
   pub supplied : IsSuppliedFor frames slots tax None g p m m'
 
 -- nothing has changed, where no page is needed; or the page is supplied that is
@@ -119,7 +123,7 @@ IsFault frames slots trusted tax g m m' = (m' ≡ m) ⊎ IsForNeed frames slots 
 -- the page that is needed has a frame of its own then
 pub record MeetsNeed (frames slots : ℕ) (trusted : Type 0) (tax g : ℕ) (m m' : Moment) : Type 0 where
   pub its : IsForNeed frames slots trusted tax g m m'
-  pub private : (t : TenantIs) → kind_at (pages_in (tenant_of m' g t)) its.p ≡ Private
+  pub private : (t : TenantIs) → kind_at (pages_in (guest_in m' g t)) its.p ≡ Private
 
 -- a fault that is answered by no error
 abbrev pub IsMet : ℕ → ℕ → Type 0 → ℕ → ℕ → Moment → Moment → Type 0
@@ -133,7 +137,7 @@ pub record AreSteps (frames slots : ℕ) (trusted : Type 0) (g count : ℕ) (m m
   pub words : m'.words ≡ m.words
   pub logs : (h : ℕ) → log_at m'.tenants h ≡ log_at m.tenants h ++ steps_for h g count
   pub stays : Changes Stays g m.tenants m'.tenants
-  pub needs_none : trusted → (t : TenantIs) → NoneNeeds count (view_of (tenant_of m g t).guest) (pages_in (tenant_of m g t)) (pages_in (tenant_of m' g t))
+  pub needs_none : trusted → (t : TenantIs) → NoneNeeds count (view_of (guest_in m g t).guest) (pages_in (guest_in m g t)) (pages_in (guest_in m' g t))
   pub booked : IsBooked frames slots m'
 
 -- no step is made, and the page that the next one needs is supplied
@@ -201,20 +205,20 @@ pub record IsRun (frames slots : ℕ) (trusted : Type 0) (tax g : ℕ) (end : En
 -- one of two pages that a debugger reaches stays as it is, or it is wanted and supplied, and both are spared
 abbrev pub IsReached : ℕ → ℕ → ℕ → Access → ℕ → ℕ × ℕ → ℕ → Moment → Moment → Type 0
 IsReached frames slots tax how g pages p m m' =
-    (m' ≡ m) ⊎ (((t : TenantIs) → is_wanted how (kind_at (pages_in (tenant_of m g t)) p) ≡ true)
+    (m' ≡ m) ⊎ (((t : TenantIs) → is_wanted how (kind_at (pages_in (guest_in m g t)) p) ≡ true)
     × IsSuppliedFor frames slots tax (Some (record { guest = g; pages = pages })) g p m m')
 
 -- the first of two pages is supplied, and then the other, where the first is there
 pub record AreReached (frames slots tax : ℕ) (how : Access) (g : ℕ) (pages : ℕ × ℕ) (m m' : Moment) : Type 0 where
   pub between : Moment
   pub first : IsReached frames slots tax how g pages pages.0 m between
-  pub last : (m' ≡ between) ⊎ (((t : TenantIs) → is_wanted how (kind_at (pages_in (tenant_of between g t)) pages.0) ≡ false)
+  pub last : (m' ≡ between) ⊎ (((t : TenantIs) → is_wanted how (kind_at (pages_in (guest_in between g t)) pages.0) ≡ false)
       × IsReached frames slots tax how g pages pages.1 between m')
 
 -- the pages that bytes of a guest lie in are supplied, and just these are spared
 pub record ReachesBytes (frames slots tax : ℕ) (how : Access) (g address count : ℕ) (m m' : Moment) : Type 0 where
   pub pages : ℕ × ℕ
-  pub these : (t : TenantIs) (q : ℕ) → SomePlaceIn (standing (tenant_of m g t).guest) address count q ↔ ((q ≡ pages.0) ⊎ (q ≡ pages.1))
+  pub these : (t : TenantIs) (q : ℕ) → SomePlaceIn (standing (guest_in m g t).guest) address count q ↔ ((q ≡ pages.0) ⊎ (q ≡ pages.1))
   pub reached : AreReached frames slots tax how g pages m m'
 
 -- and then an item happens to the guest, by which no frame and no slot gets free or is taken, and no word is drawn
@@ -230,19 +234,11 @@ pub record WritesBytes (frames slots tax g address count : ℕ) (m m' : Moment) 
 -- page of any guest has moved.
 pub record IsSwapOut (frames slots g : ℕ) (m m' : Moment) : Type 0 where
   pub p : ℕ
-  pub page : (t : TenantIs) → IsNextResident None (pages_in (tenant_of m g t)) ((next_u32 m.words).0 % length (pages_in (tenant_of m g t))) p
-  pub evicted : (t : TenantIs) → IsEvicted p (pages_in (tenant_of m g t)) (pages_in (tenant_of m' g t)) m.slots
+  pub page : (t : TenantIs) → IsNextResident None (pages_in (guest_in m g t)) ((next_u32 m.words).0 % length (pages_in (guest_in m g t))) p
+  pub evicted : (t : TenantIs) → IsEvicted p (pages_in (guest_in m g t)) (pages_in (guest_in m' g t)) m.slots
   pub others : Changes PagesMove g m.tenants m'.tenants
   pub rest : m'.words ≡ (next_u32 m.words).1
   pub booked : IsBooked frames slots m'
-
--- a word was drawn for a page, which stays in its frame
-pub record IsStay (m m' : Moment) : Type 0 where
-  pub rest : m'.words ≡ (next_u32 m.words).1
-  pub tenants : m'.tenants ≡ m.tenants
-  pub pool : m'.pool ≡ m.pool
-  pub slots : SameNumbers m.slots m'.slots
-  pub entries : m'.entries ≡ m.entries
 
 -- pages leave one after another, of guests in the order of their numbers, from one number up to another; each leaves from the moment that
 -- the one before it left
@@ -267,6 +263,6 @@ pub record SwapOutsEnd (frames slots from to : ℕ) (m m' : Moment) : Type 0 whe
 -- balloons have their targets, for which no page has moved.
 pub record TurnsBy (frames slots : ℕ) (m m' : Moment) : Type 0 where
   pub turned : Moment
-  pub pages : (g : ℕ) (t : TenantIs) → g < length m.tenants → outline (pages_in (tenant_of turned g t)) ≡ outline (pages_in (tenant_of m g t))
+  pub pages : (g : ℕ) (t : TenantIs) → g < length m.tenants → outline (pages_in (guest_in turned g t)) ≡ outline (pages_in (guest_in m g t))
   pub around : turned ≡ record m { tenants = turned.tenants }
   pub swaps : SwapOuts frames slots 0 (length m.tenants) turned m' ⊎ SwapOutsEnd frames slots 0 (length m.tenants) turned m'

@@ -1,33 +1,18 @@
 -- What a debugger reads and writes of the guests, and the pages that this moves.
-use Rattle.std.specs.Prelude.{◌≡◌, ℕ, Bool, true, false, Result, Ok, Err, List, []}
+use Rattle.std.specs.Prelude.{◌≡◌, ℕ, true, false, Result, Ok, Err, List, []}
 use Rattle.items.specs.declared.item.Item.{Item}
 use Rattle.items.specs.declared.item.What.TheVariants.{Write}
 use Rattle.physmap.specs.declared.page.Page.{Page}
-use Rattle.physmap.specs.declared.page.PageKind.{PageKind}
-use Rattle.physmap.specs.declared.page.PageKind.TheVariants.{Zero, Given, Private, Shared, Swapped}
+use Rattle.physmap.specs.declared.page.PageKind.TheVariants.{Private}
 use Rattle.physmap.specs.Pages.{kind_of}
-use Rattle.world.specs.declared.debugging.Access.{Access}
-use Rattle.world.specs.declared.debugging.Access.TheVariants as access
+use Rattle.victims.specs.declared.wanted.Access.{Access}
+use Rattle.victims.specs.Wanted.{is_wanted}
 use Rattle.world.specs.declared.debugging.DebugError.{DebugError}
 use Rattle.world.specs.declared.debugging.DebugError.TheVariants as debug
 use Rattle.world.specs.declared.running.RunStop.{RunStop}
 use Rattle.tenant.specs.Tenants.{TenantIs, NothingHappens}
 use Rattle.world.specs.Victims.{OnlyPagesMove}
 use Rattle.world.specs.Worlds.{Changes, item_for}
-
--- whether a page is to be supplied first: one that is read where it is in a slot, one that is written to where it has no frame of
--- its own
-abbrev pub is_wanted : Access → PageKind → Bool
-is_wanted access.Read Zero = false
-is_wanted access.Read Given = false
-is_wanted access.Read Private = false
-is_wanted access.Read Shared = false
-is_wanted access.Read Swapped = true
-is_wanted access.Write Zero = true
-is_wanted access.Write Given = true
-is_wanted access.Write Private = false
-is_wanted access.Write Shared = true
-is_wanted access.Write Swapped = true
 
 -- a page that was to be supplied first has a frame of its own, and any other is as before
 pub record IsReady (how : Access) (page page' : Page) : Type 0 where

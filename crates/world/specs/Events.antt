@@ -36,19 +36,10 @@ use Rattle.world.specs.Worlds.{item_for, FailsOnce, WorldIs}
 
 -- an item that is to happen is no step, and a debugger reads and writes 1 to 1,024 bytes
 abbrev pub IsProper : Event → Type 0
-IsProper (event.Step g) = Unit {0}
-IsProper (event.Steps g count) = Unit {0}
-IsProper (event.Run g count) = Unit {0}
 IsProper (event.Input g item) = is_step item.what ≡ false
 IsProper (event.Probe g address count) = (0 < count) × (count ≤ 1024)
-IsProper (event.Feed g bytes) = Unit {0}
 IsProper (event.Write g address bytes) = (0 < length bytes.items) × (length bytes.items ≤ 1024)
-IsProper (event.Supply g p) = Unit {0}
-IsProper (event.Fault g) = Unit {0}
-IsProper (event.Evict g p) = Unit {0}
-IsProper (event.Scan g p) = Unit {0}
-IsProper event.Sample = Unit {0}
-IsProper event.Level = Unit {0}
+IsProper _ = Unit {0}
 
 -- a step that is made is an item of seat 0
 abbrev pub step_items : ℕ → ℕ → Result StepOut Stop → List Item
@@ -112,14 +103,9 @@ own_items h (event.Steps g count) a = items_ran h g a
 own_items h (event.Run g count) a = items_ran h g a
 own_items h (event.Input g item) a = items_input h g item a
 own_items h (event.Feed g bytes) a = items_fed h g bytes.items a
-own_items h (event.Probe g address count) a = []
 own_items h (event.Write g address bytes) a = items_written h g address bytes.items a
-own_items h (event.Supply g p) a = []
-own_items h (event.Fault g) a = []
-own_items h (event.Evict g p) a = []
-own_items h (event.Scan g p) a = []
-own_items h event.Sample a = []
 own_items h event.Level a = items_turned h a
+own_items h _ a = []
 
 -- the items that events add to the log of guest h, in order
 abbrev pub own : ℕ → List Event → List Answer → List Item
@@ -136,18 +122,14 @@ for_room halt.LogFull = stop.LogFull
 
 -- what is so where a run of steps stopped
 abbrev pub IfStop : End → (RunStop → Type 0) → Type 0
-IfStop end.Done so = Unit {0}
-IfStop (end.Need page why) so = Unit {0}
 IfStop (end.Stop why) so = so why
+IfStop _ so = Unit {0}
 
 -- what stops steps for which no page is supplied: the log has no room
 abbrev pub IsForRoom : RunStop → Type 0
-IsForRoom stop.NoFrame = ⊥
-IsForRoom stop.NoSwap = ⊥
-IsForRoom stop.SwapRead = ⊥
-IsForRoom stop.SwapDamaged = ⊥
 IsForRoom stop.Memory = Unit {0}
 IsForRoom stop.LogFull = Unit {0}
+IsForRoom _ = ⊥
 
 -- A page was supplied for the step that a guest is to make, which needs this other page now: the step accesses it, and it has a frame
 -- of its own.
@@ -172,8 +154,7 @@ WhyStopped pool slots stats failed damaged stop.NoFrame = WhyLacking pool slots 
 WhyStopped pool slots stats failed damaged stop.NoSwap = WhyLacking pool slots stats failed damaged lacking.NoSwap
 WhyStopped pool slots stats failed damaged stop.SwapRead = WhyLacking pool slots stats failed damaged lacking.SwapRead
 WhyStopped pool slots stats failed damaged stop.SwapDamaged = WhyLacking pool slots stats failed damaged lacking.SwapDamaged
-WhyStopped pool slots stats failed damaged stop.Memory = Unit {0}
-WhyStopped pool slots stats failed damaged stop.LogFull = Unit {0}
+WhyStopped pool slots stats failed damaged _ = Unit {0}
 
 -- why many steps, or a debugger's access, for which pages are supplied one after another stopped: the last of them has no frame for a
 -- reason that `WhyStopped` has

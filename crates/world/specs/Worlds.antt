@@ -1,5 +1,5 @@
 -- What is seen of a world, and what its guests have to do with what lies around them.
-use Rattle.std.specs.Prelude.{◌≡◌, ℕ, ◌==◌, if◌then◌else◌, List, [], ◌∷◌, Option, All, length, map, slice_set, slice_index_or}
+use Rattle.std.specs.Prelude.{◌≡◌, ◌↔◌, ℕ, ◌==◌, if◌then◌else◌, List, [], ◌∷◌, Option, All, length, map, slice_set, slice_index_or}
 use Rattle.items.specs.declared.item.Item.{Item}
 use Rattle.frames.specs.FreeList.{FreeList}
 use Rattle.sharetab.specs.Entries.{EntriesAre}
@@ -87,3 +87,24 @@ pub record SameAround {Store : Type 0} (w w' : WorldIs Store) : Type 0 where
   pub store : w'.store ≡ w.store
   pub frames : w'.frames ≡ w.frames
   pub level : w'.level ≡ w.level
+
+-- around the guests only the books have changed: which frames and slots are free, and the entries of shared frames
+pub record OnlyBooksChange {Store : Type 0} (w w' : WorldIs Store) : Type 0 where
+  pub hints : w'.shares.hints ≡ w.shares.hints
+  pub store : w'.store ≡ w.store
+  pub frames : w'.frames ≡ w.frames
+  pub level : w'.level ≡ w.level
+
+-- a store has as many slots as before, and is honest and true to digests where it was
+pub record StoreStays {Store : Type 0} (slots_of : Store → ℕ) (is_honest is_true : Store → Type 0) (s s' : Store) : Type 0 where
+  pub slots : slots_of s' ≡ slots_of s
+  pub honest : is_honest s' ↔ is_honest s
+  pub true_to_digests : is_true s' ↔ is_true s
+
+-- What no move of pages changes around the guests: where pages were last noted with which digests, how many frames there are, the level,
+-- and what is so of the store.
+pub record AroundStays {Store : Type 0} (slots_of : Store → ℕ) (is_honest is_true : Store → Type 0) (w w' : WorldIs Store) : Type 0 where
+  pub hints : w'.shares.hints ≡ w.shares.hints
+  pub frames : w'.frames ≡ w.frames
+  pub level : w'.level ≡ w.level
+  pub store : StoreStays slots_of is_honest is_true w.store w'.store

@@ -13,7 +13,7 @@ use tenant::Cause;
 use word32::Ppn;
 
 impl<S: SwapStore> World<S> {
-    ghost use Rattle.std.specs.Prelude.{◌≡◌, ◌≢◌, ◌↔◌, ◌<◌, ◌≤◌, ◌++◌, ℕ, [], false, All, Some, None, IfOk, OnOk, OnErr, IsErrOf, Option, length, map, take};
+    ghost use Rattle.std.specs.Prelude.{◌≡◌, ◌≢◌, ◌<◌, ◌≤◌, ◌++◌, ℕ, [], false, All, Some, None, IfOk, OnOk, OnErr, IsErrOf, Option, length, map, take};
     ghost use Rattle.items.specs.declared.item.Item.{Item};
     ghost use Rattle.items.specs.declared.item.What.{What};
     ghost use Rattle.items.specs.Items.{is_step};
@@ -22,21 +22,17 @@ impl<S: SwapStore> World<S> {
     ghost use Rattle.flatvm.specs.Items.{accepts};
     ghost use Rattle.tenant.specs.Tenants.{TenantIs, Stays};
     ghost use Rattle.world.specs.declared.events.Event.{Event};
-    ghost use Rattle.world.specs.Admission.{IsAdmitted, LimitsStay, BlockedStay, NotTurned, FindsRoom};
+    ghost use Rattle.world.specs.Admission.{IsAdmitted, LimitsStay, BlockedStay, GuestsStay, NotTurned, FindsRoom};
     ghost use Rattle.world.specs.Answers.{IsAnswered, IsFeedAnswer, IsSoundWorld, AllHappen};
     ghost use Rattle.world.specs.Events.{IsProper, items_stepped, items_ran, items_input, input_of, inputs_for, items_fed, items_written, items_turned, own_items, own};
     ghost use Rattle.world.specs.Words.{GoesByWords};
-    ghost use Rattle.world.specs.Worlds.{Changes, boot_of, log_at, item_for, guest_at, view_at, FailsOnce};
+    ghost use Rattle.world.specs.Worlds.{Changes, SameAround, OnlyBooksChange, StoreStays, AroundStays, boot_of, log_at, item_for, guest_at, view_at, FailsOnce};
 
     fn apply_step(&mut self, g: usize) -> Answer
         ensures logs { (h : ℕ) → log_at self.new.tenants h ≡ log_at self.old.tenants h ++ items_stepped h g result }
         ensures answered { (tax : ℕ) → IsAnswered S.true_to_digests S.failed S.honest tax self.old self.new (Event.Step g) result }
-        ensures boots { map boot_of self.new.tenants ≡ map boot_of self.old.tenants }
-        ensures limits { LimitsStay self.old.tenants self.new.tenants }
-        ensures blocked { BlockedStay self.old.tenants self.new.tenants }
-        ensures store { self.new.store ≡ self.old.store }
-        ensures frames { self.new.frames ≡ self.old.frames }
-        ensures level { self.new.level ≡ self.old.level }
+        ensures guests { GuestsStay self.old.tenants self.new.tenants }
+        ensures around { OnlyBooksChange self.old self.new }
     {
         if g >= self.count() {
             return Answer::Nowhere;
@@ -50,12 +46,8 @@ impl<S: SwapStore> World<S> {
     fn apply_steps(&mut self, g: usize, count: u32) -> Answer
         ensures logs { (h : ℕ) → log_at self.new.tenants h ≡ log_at self.old.tenants h ++ items_ran h g result }
         ensures answered { (tax : ℕ) → IsAnswered S.true_to_digests S.failed S.honest tax self.old self.new (Event.Steps g count) result }
-        ensures boots { map boot_of self.new.tenants ≡ map boot_of self.old.tenants }
-        ensures limits { LimitsStay self.old.tenants self.new.tenants }
-        ensures blocked { BlockedStay self.old.tenants self.new.tenants }
-        ensures store { self.new.store ≡ self.old.store }
-        ensures frames { self.new.frames ≡ self.old.frames }
-        ensures level { self.new.level ≡ self.old.level }
+        ensures guests { GuestsStay self.old.tenants self.new.tenants }
+        ensures around { OnlyBooksChange self.old self.new }
     {
         if g >= self.count() {
             return Answer::Nowhere;
@@ -75,16 +67,10 @@ impl<S: SwapStore> World<S> {
         rng: &mut R,
     ) -> Answer
         ensures logs { (h : ℕ) → log_at self.new.tenants h ≡ log_at self.old.tenants h ++ items_ran h g result }
-        ensures answered { (tax : ℕ) → IsAnswered S.true_to_digests S.failed S.honest tax self.old self.new (Event.Run g count) result }
+        ensures answered { IsAnswered S.true_to_digests S.failed S.honest tax.percent self.old self.new (Event.Run g count) result }
         ensures by_words { GoesByWords S.true_to_digests S.slots tax.percent (R.stream rng.old) self.old (Event.Run g count) result (R.stream rng.new) self.new }
-        ensures boots { map boot_of self.new.tenants ≡ map boot_of self.old.tenants }
-        ensures limits { LimitsStay self.old.tenants self.new.tenants }
-        ensures blocked { BlockedStay self.old.tenants self.new.tenants }
-        ensures frames { self.new.frames ≡ self.old.frames }
-        ensures level { self.new.level ≡ self.old.level }
-        ensures slots { S.slots self.new.store ≡ S.slots self.old.store }
-        ensures honest { S.honest self.new.store ↔ S.honest self.old.store }
-        ensures true_to_digests { S.true_to_digests self.new.store ↔ S.true_to_digests self.old.store }
+        ensures guests { GuestsStay self.old.tenants self.new.tenants }
+        ensures around { AroundStays S.slots S.honest S.true_to_digests self.old self.new }
     {
         if g >= self.count() {
             return Answer::Nowhere;
@@ -99,12 +85,8 @@ impl<S: SwapStore> World<S> {
         requires { is_step item.what ≡ false }
         ensures logs { (h : ℕ) → log_at self.new.tenants h ≡ log_at self.old.tenants h ++ items_input h g item result }
         ensures answered { (tax : ℕ) → IsAnswered S.true_to_digests S.failed S.honest tax self.old self.new (Event.Input g item) result }
-        ensures boots { map boot_of self.new.tenants ≡ map boot_of self.old.tenants }
-        ensures limits { LimitsStay self.old.tenants self.new.tenants }
-        ensures blocked { BlockedStay self.old.tenants self.new.tenants }
-        ensures store { self.new.store ≡ self.old.store }
-        ensures frames { self.new.frames ≡ self.old.frames }
-        ensures level { self.new.level ≡ self.old.level }
+        ensures guests { GuestsStay self.old.tenants self.new.tenants }
+        ensures around { SameAround self.old self.new }
     {
         if g < self.count() {
             Answer::Input(self.input(g, item))
@@ -124,9 +106,7 @@ impl<S: SwapStore> World<S> {
         ensures room { (stop : Option Stop) → IsErrOf result stop → stop ≢ Some Stop.LogFull → (t : TenantIs) →
             IsFull (guest_at self.new g t).guest.log → ⊥ }
         ensures stays { Changes Stays g self.old.tenants self.new.tenants }
-        ensures store { self.new.store ≡ self.old.store }
-        ensures frames { self.new.frames ≡ self.old.frames }
-        ensures level { self.new.level ≡ self.old.level }
+        ensures around { SameAround self.old self.new }
     {
         let item = Item {
             seat: SeatNo::runner(),
@@ -149,9 +129,7 @@ impl<S: SwapStore> World<S> {
         ensures logs { (h : ℕ) → log_at self.new.tenants h ≡ log_at self.old.tenants h ++ inputs_for h g (take result.count bytes.now) }
         ensures answer { (t : TenantIs) → IsFeedAnswer (S.true_to_digests self.old.store) bytes.now (guest_at self.new g t) result }
         ensures stays { Changes Stays g self.old.tenants self.new.tenants }
-        ensures store { self.new.store ≡ self.old.store }
-        ensures frames { self.new.frames ≡ self.old.frames }
-        ensures level { self.new.level ≡ self.old.level }
+        ensures around { SameAround self.old self.new }
     {
         for count in 0..bytes.len() {
             match self.feed_byte(g, bytes[count]) {
@@ -168,12 +146,8 @@ impl<S: SwapStore> World<S> {
     fn apply_feed(&mut self, g: usize, bytes: Vec<u8>) -> Answer
         ensures logs { (h : ℕ) → log_at self.new.tenants h ≡ log_at self.old.tenants h ++ items_fed h g bytes.items result }
         ensures answered { (tax : ℕ) → IsAnswered S.true_to_digests S.failed S.honest tax self.old self.new (Event.Feed g bytes) result }
-        ensures boots { map boot_of self.new.tenants ≡ map boot_of self.old.tenants }
-        ensures limits { LimitsStay self.old.tenants self.new.tenants }
-        ensures blocked { BlockedStay self.old.tenants self.new.tenants }
-        ensures store { self.new.store ≡ self.old.store }
-        ensures frames { self.new.frames ≡ self.old.frames }
-        ensures level { self.new.level ≡ self.old.level }
+        ensures guests { GuestsStay self.old.tenants self.new.tenants }
+        ensures around { SameAround self.old self.new }
     {
         if g < self.count() {
             Answer::Fed(self.feed(g, &bytes))
@@ -194,16 +168,10 @@ impl<S: SwapStore> World<S> {
         requires some { 0 < count }
         requires few { count ≤ 1024 }
         ensures logs { (h : ℕ) → log_at self.new.tenants h ≡ log_at self.old.tenants h ++ [] }
-        ensures answered { (tax : ℕ) → IsAnswered S.true_to_digests S.failed S.honest tax self.old self.new (Event.Probe g address count) result }
+        ensures answered { IsAnswered S.true_to_digests S.failed S.honest tax.percent self.old self.new (Event.Probe g address count) result }
         ensures by_words { GoesByWords S.true_to_digests S.slots tax.percent (R.stream rng.old) self.old (Event.Probe g address count) result (R.stream rng.new) self.new }
-        ensures boots { map boot_of self.new.tenants ≡ map boot_of self.old.tenants }
-        ensures limits { LimitsStay self.old.tenants self.new.tenants }
-        ensures blocked { BlockedStay self.old.tenants self.new.tenants }
-        ensures frames { self.new.frames ≡ self.old.frames }
-        ensures level { self.new.level ≡ self.old.level }
-        ensures slots { S.slots self.new.store ≡ S.slots self.old.store }
-        ensures honest { S.honest self.new.store ↔ S.honest self.old.store }
-        ensures true_to_digests { S.true_to_digests self.new.store ↔ S.true_to_digests self.old.store }
+        ensures guests { GuestsStay self.old.tenants self.new.tenants }
+        ensures around { AroundStays S.slots S.honest S.true_to_digests self.old self.new }
     {
         if g >= self.count() {
             return Answer::Nowhere;
@@ -229,16 +197,10 @@ impl<S: SwapStore> World<S> {
         requires some { 0 < length bytes.items }
         requires few { length bytes.items ≤ 1024 }
         ensures logs { (h : ℕ) → log_at self.new.tenants h ≡ log_at self.old.tenants h ++ items_written h g address bytes.items result }
-        ensures answered { (tax : ℕ) → IsAnswered S.true_to_digests S.failed S.honest tax self.old self.new (Event.Write g address bytes) result }
+        ensures answered { IsAnswered S.true_to_digests S.failed S.honest tax.percent self.old self.new (Event.Write g address bytes) result }
         ensures by_words { GoesByWords S.true_to_digests S.slots tax.percent (R.stream rng.old) self.old (Event.Write g address bytes) result (R.stream rng.new) self.new }
-        ensures boots { map boot_of self.new.tenants ≡ map boot_of self.old.tenants }
-        ensures limits { LimitsStay self.old.tenants self.new.tenants }
-        ensures blocked { BlockedStay self.old.tenants self.new.tenants }
-        ensures frames { self.new.frames ≡ self.old.frames }
-        ensures level { self.new.level ≡ self.old.level }
-        ensures slots { S.slots self.new.store ≡ S.slots self.old.store }
-        ensures honest { S.honest self.new.store ↔ S.honest self.old.store }
-        ensures true_to_digests { S.true_to_digests self.new.store ↔ S.true_to_digests self.old.store }
+        ensures guests { GuestsStay self.old.tenants self.new.tenants }
+        ensures around { AroundStays S.slots S.honest S.true_to_digests self.old self.new }
     {
         if g < self.count() {
             Answer::Written(self.debug_write(alloc, g, address, bytes, tax, rng))
@@ -250,14 +212,8 @@ impl<S: SwapStore> World<S> {
     fn apply_supply(&mut self, alloc: Global, g: usize, p: Ppn) -> Answer
         ensures logs { (h : ℕ) → log_at self.new.tenants h ≡ log_at self.old.tenants h ++ [] }
         ensures answered { (tax : ℕ) → IsAnswered S.true_to_digests S.failed S.honest tax self.old self.new (Event.Supply g p) result }
-        ensures boots { map boot_of self.new.tenants ≡ map boot_of self.old.tenants }
-        ensures limits { LimitsStay self.old.tenants self.new.tenants }
-        ensures blocked { BlockedStay self.old.tenants self.new.tenants }
-        ensures frames { self.new.frames ≡ self.old.frames }
-        ensures level { self.new.level ≡ self.old.level }
-        ensures slots { S.slots self.new.store ≡ S.slots self.old.store }
-        ensures honest { S.honest self.new.store ↔ S.honest self.old.store }
-        ensures true_to_digests { S.true_to_digests self.new.store ↔ S.true_to_digests self.old.store }
+        ensures guests { GuestsStay self.old.tenants self.new.tenants }
+        ensures around { AroundStays S.slots S.honest S.true_to_digests self.old self.new }
     {
         if g >= self.count() {
             return Answer::Nowhere;
@@ -270,16 +226,10 @@ impl<S: SwapStore> World<S> {
 
     fn apply_fault<R: Rng>(&mut self, alloc: Global, g: usize, tax: Tax, rng: &mut R) -> Answer
         ensures logs { (h : ℕ) → log_at self.new.tenants h ≡ log_at self.old.tenants h ++ [] }
-        ensures answered { (tax : ℕ) → IsAnswered S.true_to_digests S.failed S.honest tax self.old self.new (Event.Fault g) result }
+        ensures answered { IsAnswered S.true_to_digests S.failed S.honest tax.percent self.old self.new (Event.Fault g) result }
         ensures by_words { GoesByWords S.true_to_digests S.slots tax.percent (R.stream rng.old) self.old (Event.Fault g) result (R.stream rng.new) self.new }
-        ensures boots { map boot_of self.new.tenants ≡ map boot_of self.old.tenants }
-        ensures limits { LimitsStay self.old.tenants self.new.tenants }
-        ensures blocked { BlockedStay self.old.tenants self.new.tenants }
-        ensures frames { self.new.frames ≡ self.old.frames }
-        ensures level { self.new.level ≡ self.old.level }
-        ensures slots { S.slots self.new.store ≡ S.slots self.old.store }
-        ensures honest { S.honest self.new.store ↔ S.honest self.old.store }
-        ensures true_to_digests { S.true_to_digests self.new.store ↔ S.true_to_digests self.old.store }
+        ensures guests { GuestsStay self.old.tenants self.new.tenants }
+        ensures around { AroundStays S.slots S.honest S.true_to_digests self.old self.new }
     {
         if g < self.count() {
             Answer::Faulted(self.fault(alloc, g, Cause::Fault, tax, rng))
@@ -291,14 +241,8 @@ impl<S: SwapStore> World<S> {
     fn apply_evict(&mut self, g: usize, p: Ppn) -> Answer
         ensures logs { (h : ℕ) → log_at self.new.tenants h ≡ log_at self.old.tenants h ++ [] }
         ensures answered { (tax : ℕ) → IsAnswered S.true_to_digests S.failed S.honest tax self.old self.new (Event.Evict g p) result }
-        ensures boots { map boot_of self.new.tenants ≡ map boot_of self.old.tenants }
-        ensures limits { LimitsStay self.old.tenants self.new.tenants }
-        ensures blocked { BlockedStay self.old.tenants self.new.tenants }
-        ensures frames { self.new.frames ≡ self.old.frames }
-        ensures level { self.new.level ≡ self.old.level }
-        ensures slots { S.slots self.new.store ≡ S.slots self.old.store }
-        ensures honest { S.honest self.new.store ↔ S.honest self.old.store }
-        ensures true_to_digests { S.true_to_digests self.new.store ↔ S.true_to_digests self.old.store }
+        ensures guests { GuestsStay self.old.tenants self.new.tenants }
+        ensures around { AroundStays S.slots S.honest S.true_to_digests self.old self.new }
     {
         if g < self.count() {
             Answer::Evicted(self.evict(g, p))
@@ -310,9 +254,7 @@ impl<S: SwapStore> World<S> {
     fn apply_scan(&mut self, g: usize, p: Ppn) -> Answer
         ensures logs { (h : ℕ) → log_at self.new.tenants h ≡ log_at self.old.tenants h ++ [] }
         ensures answered { (tax : ℕ) → IsAnswered S.true_to_digests S.failed S.honest tax self.old self.new (Event.Scan g p) result }
-        ensures boots { map boot_of self.new.tenants ≡ map boot_of self.old.tenants }
-        ensures limits { LimitsStay self.old.tenants self.new.tenants }
-        ensures blocked { BlockedStay self.old.tenants self.new.tenants }
+        ensures guests { GuestsStay self.old.tenants self.new.tenants }
         ensures store { self.new.store ≡ self.old.store }
         ensures frames { self.new.frames ≡ self.old.frames }
         ensures level { self.new.level ≡ self.old.level }
@@ -330,12 +272,8 @@ impl<S: SwapStore> World<S> {
         ensures logs { (h : ℕ) → log_at self.new.tenants h ≡ log_at self.old.tenants h ++ [] }
         ensures answered { (tax : ℕ) → IsAnswered S.true_to_digests S.failed S.honest tax self.old self.new Event.Sample result }
         ensures by_words { (tax : ℕ) → GoesByWords S.true_to_digests S.slots tax (R.stream rng.old) self.old Event.Sample result (R.stream rng.new) self.new }
-        ensures boots { map boot_of self.new.tenants ≡ map boot_of self.old.tenants }
-        ensures limits { LimitsStay self.old.tenants self.new.tenants }
-        ensures blocked { BlockedStay self.old.tenants self.new.tenants }
-        ensures store { self.new.store ≡ self.old.store }
-        ensures frames { self.new.frames ≡ self.old.frames }
-        ensures level { self.new.level ≡ self.old.level }
+        ensures guests { GuestsStay self.old.tenants self.new.tenants }
+        ensures around { SameAround self.old self.new }
     {
         self.sample(rng);
         Answer::Sampled
@@ -348,9 +286,7 @@ impl<S: SwapStore> World<S> {
         ensures boots { map boot_of self.new.tenants ≡ map boot_of self.old.tenants }
         ensures limits { LimitsStay self.old.tenants self.new.tenants }
         ensures frames { self.new.frames ≡ self.old.frames }
-        ensures slots { S.slots self.new.store ≡ S.slots self.old.store }
-        ensures honest { S.honest self.new.store ↔ S.honest self.old.store }
-        ensures true_to_digests { S.true_to_digests self.new.store ↔ S.true_to_digests self.old.store }
+        ensures store { StoreStays S.slots S.honest S.true_to_digests self.old.store self.new.store }
     {
         Answer::Turned(self.level_turn(alloc, tax, rng))
     }
@@ -365,9 +301,7 @@ impl<S: SwapStore> World<S> {
         ensures limits { LimitsStay self.old.tenants self.new.tenants }
         ensures blocked { NotTurned result → BlockedStay self.old.tenants self.new.tenants }
         ensures frames { self.new.frames ≡ self.old.frames }
-        ensures slots { S.slots self.new.store ≡ S.slots self.old.store }
-        ensures honest { S.honest self.new.store ↔ S.honest self.old.store }
-        ensures true_to_digests { S.true_to_digests self.new.store ↔ S.true_to_digests self.old.store }
+        ensures store { StoreStays S.slots S.honest S.true_to_digests self.old.store self.new.store }
     {
         match event {
             Event::Step(g) => self.apply_step(g),
@@ -412,9 +346,7 @@ impl<S: SwapStore> World<S> {
         ensures room { IsAdmitted self.old.frames (S.slots self.old.store) self.old.tenants →
             FindsRoom (FailsOnce S.failed self.old self.new) result }
         ensures frames { self.new.frames ≡ self.old.frames }
-        ensures slots { S.slots self.new.store ≡ S.slots self.old.store }
-        ensures honest { S.honest self.new.store ↔ S.honest self.old.store }
-        ensures true_to_digests { S.true_to_digests self.new.store ↔ S.true_to_digests self.old.store }
+        ensures store { StoreStays S.slots S.honest S.true_to_digests self.old.store self.new.store }
         ensures sound { IsSoundWorld S.true_to_digests S.slots S.held self.new }
     {
         let answer = self.apply_event(alloc, event, tax, rng);
@@ -446,9 +378,7 @@ impl<S: SwapStore> World<S> {
         ensures boots { map boot_of self.new.tenants ≡ map boot_of self.old.tenants }
         ensures limits { LimitsStay self.old.tenants self.new.tenants }
         ensures frames { self.new.frames ≡ self.old.frames }
-        ensures slots { S.slots self.new.store ≡ S.slots self.old.store }
-        ensures honest { S.honest self.new.store ↔ S.honest self.old.store }
-        ensures true_to_digests { S.true_to_digests self.new.store ↔ S.true_to_digests self.old.store }
+        ensures store { StoreStays S.slots S.honest S.true_to_digests self.old.store self.new.store }
     {
         let mut answers = Vec::with_capacity(alloc, events.len())?;
         for event in events {

@@ -1,5 +1,5 @@
 //! Worlds that are booted with all of their guests.
-ghost use Rattle.std.specs.Prelude.{◌≡◌, ◌↔◌, All};
+ghost use Rattle.std.specs.Prelude.{◌≡◌, All};
 
 use crate::World;
 use crate::limits::refusal;
@@ -35,12 +35,13 @@ pub struct NewGuest {
 }
 
 impl<S: SwapStore> World<S> {
-    ghost use Rattle.std.specs.Prelude.{◌≡◌, ◌+◌, ◌<◌, ◌↔◌, true, All, IfOk, IfErr, None, [], length, sum_by};
+    ghost use Rattle.std.specs.Prelude.{◌≡◌, ◌+◌, ◌<◌, true, All, IfOk, IfErr, None, [], length, sum_by};
     ghost use Rattle.sharetab.specs.Maps.{at_page};
     ghost use Rattle.sharetab.specs.declared.guest_page.GuestPage.{GuestPage};
     ghost use Rattle.world.specs.Admission.{IsAdmitted};
     ghost use Rattle.swapstore.specs.Failures.{one_more};
-    ghost use Rattle.world.specs.Boots.{IsWithinLimits, AreWithinLimits, HoldsImage, AreAdmitted, AreBooted, FramesComeFirst, WhyNotBooted};
+    ghost use Rattle.world.specs.Worlds.{StoreStays, AroundStays};
+    ghost use Rattle.world.specs.Boots.{IsWithinLimits, AreWithinLimits, HoldsImage, AreAdmitted, AreBooted, FramesComeFirst, SlotsComeInOrder, WhyNotBooted};
     ghost use Rattle.tenant.specs.Loading.{WhyNotLoaded};
     ghost use Rattle.tenant.specs.declared.loading.BootError.{BootError};
     ghost use Rattle.reclaim.specs.declared.level.Level.{Level};
@@ -57,17 +58,13 @@ impl<S: SwapStore> World<S> {
         requires hold { All HoldsImage guests.items }
         ensures booted { IfOk result (λ w. AreBooted log_runs guests.items w.tenants) }
         ensures shares { IfOk result (λ w. w.shares ≡ self.shares) }
-        ensures frames { IfOk result (λ w. w.frames ≡ self.frames) }
-        ensures level { IfOk result (λ w. w.level ≡ self.level) }
-        ensures slots { IfOk result (λ w. S.slots w.store ≡ S.slots self.store) }
-        ensures honest { IfOk result (λ w. S.honest w.store ↔ S.honest self.store) }
-        ensures true_to_digests { IfOk result (λ w. S.true_to_digests w.store ↔ S.true_to_digests self.store) }
+        ensures around { IfOk result (λ w. AroundStays S.slots S.honest S.true_to_digests self w) }
         ensures frames_first { IfOk result (λ w. FramesComeFirst w.pool w.tenants) }
+        ensures slots_in_order { IfOk result (λ w. SlotsComeInOrder w.slots w.tenants) }
         ensures room { IfErr result (λ refused. refused.0 ≡ BootError.Room →
             length self.pool.free + length self.slots.free < sum_by (λ g. g.pages) guests.items) }
         ensures err { IfErr result (λ refused. WhyNotLoaded (S.failed refused.1 ≡ one_more (S.failed self.store)) refused.0) }
-        ensures back { IfErr result (λ refused. (S.slots refused.1 ≡ S.slots self.store) × (S.honest refused.1 ↔ S.honest self.store) ×
-            (S.true_to_digests refused.1 ↔ S.true_to_digests self.store)) }
+        ensures back { IfErr result (λ refused. StoreStays S.slots S.honest S.true_to_digests self.store refused.1) }
     {
         let mut world = self;
         for guest in guests {
@@ -84,7 +81,7 @@ impl<S: SwapStore> World<S> {
     }
 
     /// A world with these guests, each at the boot of its image, in their order. The image's pages are in frames while one is free,
-    /// guests and pages rising, and then in slots of the store, which has at most 131,072.
+    /// guests and pages rising, and then in slots of the store, which has at most 131,072, the slots' numbers rising from 0.
     ///
     /// It is refused, and the store comes back, where a number is outside its limits or there are no or more than 16 guests
     /// (`Limits`); else where a guest's pages don't hold its image (`Segment`); else, where guests are to be admitted by their minimums,
@@ -102,17 +99,15 @@ impl<S: SwapStore> World<S> {
         ensures hints { IfOk result (λ w. (page : GuestPage) → at_page w.shares.hints page ≡ None) }
         ensures frames { IfOk result (λ w. w.frames ≡ config.frames) }
         ensures level { IfOk result (λ w. w.level ≡ Level.High) }
-        ensures slots { IfOk result (λ w. S.slots w.store ≡ S.slots store) }
-        ensures honest { IfOk result (λ w. S.honest w.store ↔ S.honest store) }
-        ensures true_to_digests { IfOk result (λ w. S.true_to_digests w.store ↔ S.true_to_digests store) }
+        ensures store { IfOk result (λ w. StoreStays S.slots S.honest S.true_to_digests store w.store) }
         ensures within { IfOk result (λ w. AreWithinLimits config (S.slots store) guests.items × All HoldsImage guests.items × AreAdmitted config (S.slots store) guests.items) }
         ensures admitted { IfOk result (λ w. config.admit ≡ true → IsAdmitted config.frames (S.slots store) w.tenants) }
         ensures frames_first { IfOk result (λ w. FramesComeFirst w.pool w.tenants) }
+        ensures slots_in_order { IfOk result (λ w. SlotsComeInOrder w.slots w.tenants) }
         ensures err { IfErr result (λ refused. WhyNotBooted config (S.slots store) guests.items refused.0) }
         ensures failed { IfErr result (λ refused. refused.0 ≡ BootError.Store → S.failed refused.1 ≡ one_more (S.failed store)) }
         ensures admitted_find_room { IfErr result (λ refused. refused.0 ≡ BootError.Room → config.admit ≡ true → ⊥) }
-        ensures back { IfErr result (λ refused. (S.slots refused.1 ≡ S.slots store) × (S.honest refused.1 ↔ S.honest store) ×
-            (S.true_to_digests refused.1 ↔ S.true_to_digests store)) }
+        ensures back { IfErr result (λ refused. StoreStays S.slots S.honest S.true_to_digests store refused.1) }
     {
         if let Some(error) = refusal(config, store.slot_count(), &guests) {
             return Err((error, store));

@@ -1,20 +1,16 @@
 //! What a debugger reads and writes of guests by virtual addresses, with the pages that it needs supplied.
-ghost use Rattle.std.specs.Prelude.{◌≡◌};
-ghost use Rattle.physmap.specs.declared.page.PageKind.{PageKind};
-ghost use Rattle.world.specs.Debugging.{is_wanted};
 
 use crate::running::stop_of;
 use crate::{FaultError, RunStop, World};
 use guest::{Refused, Stop};
 use items::{Item, SeatNo, What, WriteBytes};
 use paging::Pages;
-use physmap::PageKind;
 use rand_core::Rng;
 use std::alloc::Global;
 use swapstore::SwapStore;
 use taxpolicy::Tax;
 use tenant::Cause;
-use victims::Spared;
+use victims::{Access, Spared, is_wanted};
 use word32::Ppn;
 
 /// Why a debugger's bytes are not read or written.
@@ -26,41 +22,24 @@ pub enum DebugError {
     Stop(RunStop),
 }
 
-/// What a debugger does to bytes.
-#[derive(Clone, Copy, Debug, PartialEq, Eq)]
-pub(crate) enum Access {
-    /// It reads them.
-    Read,
-    /// It writes them.
-    Write,
-}
-
-// Whether a page of a kind is to be supplied first: one that is read where it is in a slot, one that is written to where it has no
-// frame of its own.
-fn is_wanted(access: Access, kind: PageKind) -> bool
-    ensures { result ≡ is_wanted access kind }
-{
-    match access {
-        Access::Read => kind == PageKind::Swapped,
-        Access::Write => kind != PageKind::Private,
-    }
-}
-
 impl<S: SwapStore> World<S> {
-    ghost use Rattle.std.specs.Prelude.{◌≡◌, ◌≢◌, ◌<◌, ◌≤◌, ◌⊎◌, ◌↔◌, ◌++◌, ℕ, true, false, Some, None, OnOk, OnErr, IfErr, IsErrOf, length, map};
+    ghost use Rattle.std.specs.Prelude.{◌≡◌, ◌≢◌, ◌<◌, ◌≤◌, ◌⊎◌, ◌↔◌, ◌++◌, ℕ, true, false, Some, None, OnOk, OnErr, IfErr, IsErrOf, length};
     ghost use Rattle.items.specs.declared.item.What.{What};
     ghost use Rattle.guest_log.specs.Logs.{IsFull};
     ghost use Rattle.flatvm.specs.Items.{accepts};
     ghost use Rattle.flatvm.specs.Replies.{bytes_at, SomePlaceIn};
+    ghost use Rattle.physmap.specs.declared.page.PageKind.{PageKind};
     ghost use Rattle.physmap.specs.Pages.{page_at, kind_at};
+    ghost use Rattle.victims.specs.Wanted.{is_wanted};
+    ghost use Rattle.victims.specs.declared.wanted.Access.{Access};
     ghost use Rattle.guest.specs.Guests.{standing};
     ghost use Rattle.world.specs.Debugging.{IsReady, IfStopped, written_items, OnlyPagesAndRoom};
     ghost use Rattle.world.specs.Events.{IsForRoom, WhyHalted};
     ghost use Rattle.tenant.specs.Tenants.{TenantIs, Stays, NothingHappens};
     ghost use Rattle.world.specs.Choices.{moment_of, IsReached, AreReached, ReachesBytes, WritesBytes};
     ghost use Rattle.world.specs.Victims.{OnlyPagesMove, WhyUnsupplied};
-    ghost use Rattle.world.specs.Admission.{LimitsStay, BlockedStay};
-    ghost use Rattle.world.specs.Worlds.{Changes, SameAround, boot_of, log_at, guest_at, pages_at, view_at};
+    ghost use Rattle.world.specs.Admission.{GuestsStay};
+    ghost use Rattle.world.specs.Worlds.{Changes, SameAround, AroundStays, log_at, guest_at, pages_at, view_at};
 
     // One of two pages that a debugger reaches gets a frame of its own, where it is wanted, and no eviction takes either of them.
     fn supply_one<R: Rng>(
@@ -86,12 +65,7 @@ impl<S: SwapStore> World<S> {
             (moment_of (R.stream rng.old) self.old) (moment_of (R.stream rng.new) self.new) }
         ensures err { IfErr result (WhyUnsupplied S.failed S.honest self.old self.new) }
         ensures no_failure { OnOk result (S.failed self.new.store ≡ S.failed self.old.store) }
-        ensures hints { self.new.shares.hints ≡ self.old.shares.hints }
-        ensures frames { self.new.frames ≡ self.old.frames }
-        ensures level { self.new.level ≡ self.old.level }
-        ensures slots { S.slots self.new.store ≡ S.slots self.old.store }
-        ensures honest { S.honest self.new.store ↔ S.honest self.old.store }
-        ensures true_to_digests { S.true_to_digests self.new.store ↔ S.true_to_digests self.old.store }
+        ensures around { AroundStays S.slots S.honest S.true_to_digests self.old self.new }
     {
         if !is_wanted(access, self.guest(g).kind(p)) {
             return Ok(());
@@ -126,12 +100,7 @@ impl<S: SwapStore> World<S> {
             (moment_of (R.stream rng.old) self.old) (moment_of (R.stream rng.new) self.new) }
         ensures err { IfErr result (WhyUnsupplied S.failed S.honest self.old self.new) }
         ensures no_failure { OnOk result (S.failed self.new.store ≡ S.failed self.old.store) }
-        ensures hints { self.new.shares.hints ≡ self.old.shares.hints }
-        ensures frames { self.new.frames ≡ self.old.frames }
-        ensures level { self.new.level ≡ self.old.level }
-        ensures slots { S.slots self.new.store ≡ S.slots self.old.store }
-        ensures honest { S.honest self.new.store ↔ S.honest self.old.store }
-        ensures true_to_digests { S.true_to_digests self.new.store ↔ S.true_to_digests self.old.store }
+        ensures around { AroundStays S.slots S.honest S.true_to_digests self.old self.new }
     {
         self.supply_one(alloc, g, reached.0, reached, access, tax, rng)?;
         self.supply_one(alloc, g, reached.1, reached, access, tax, rng)
@@ -168,12 +137,7 @@ impl<S: SwapStore> World<S> {
         ensures undrawn { IsErrOf result DebugError.NoPlace → R.stream rng.new ≡ R.stream rng.old }
         ensures stop { IfErr result (λ error. IfStopped error (WhyHalted S.failed S.honest self.old self.new)) }
         ensures never_full { IsErrOf result (DebugError.Stop RunStop.LogFull) → ⊥ }
-        ensures hints { self.new.shares.hints ≡ self.old.shares.hints }
-        ensures frames { self.new.frames ≡ self.old.frames }
-        ensures level { self.new.level ≡ self.old.level }
-        ensures slots { S.slots self.new.store ≡ S.slots self.old.store }
-        ensures honest { S.honest self.new.store ↔ S.honest self.old.store }
-        ensures true_to_digests { S.true_to_digests self.new.store ↔ S.true_to_digests self.old.store }
+        ensures around { AroundStays S.slots S.honest S.true_to_digests self.old self.new }
     {
         self.is_sound();
         self.guest(g).guest().is_sized();
@@ -225,12 +189,7 @@ impl<S: SwapStore> World<S> {
         ensures undrawn { IsErrOf result DebugError.NoPlace → R.stream rng.new ≡ R.stream rng.old }
         ensures stop { IfErr result (λ error. IfStopped error (WhyHalted S.failed S.honest self.old self.new)) }
         ensures never_full { IsErrOf result (DebugError.Stop RunStop.LogFull) → ⊥ }
-        ensures hints { self.new.shares.hints ≡ self.old.shares.hints }
-        ensures frames { self.new.frames ≡ self.old.frames }
-        ensures level { self.new.level ≡ self.old.level }
-        ensures slots { S.slots self.new.store ≡ S.slots self.old.store }
-        ensures honest { S.honest self.new.store ↔ S.honest self.old.store }
-        ensures true_to_digests { S.true_to_digests self.new.store ↔ S.true_to_digests self.old.store }
+        ensures around { AroundStays S.slots S.honest S.true_to_digests self.old self.new }
     {
         let count = bytes.len() as u32;
         self.reach(alloc, g, address, count, Access::Read, tax, rng)?;
@@ -263,9 +222,7 @@ impl<S: SwapStore> World<S> {
         requires some { 0 < length bytes.items }
         requires few { length bytes.items ≤ 1024 }
         ensures logs { (h : ℕ) → log_at self.new.tenants h ≡ log_at self.old.tenants h ++ written_items h g address bytes.items result }
-        ensures boots { map boot_of self.new.tenants ≡ map boot_of self.old.tenants }
-        ensures limits { LimitsStay self.old.tenants self.new.tenants }
-        ensures blocked { BlockedStay self.old.tenants self.new.tenants }
+        ensures guests { GuestsStay self.old.tenants self.new.tenants }
         ensures accepted { OnOk result (S.true_to_digests self.old.store → (t : TenantIs) →
             accepts (What.Write address bytes.items) (view_at self.old g t) ≡ true) }
         ensures no_place { S.true_to_digests self.old.store → (t : TenantIs) → (IsErrOf result DebugError.NoPlace
@@ -278,12 +235,7 @@ impl<S: SwapStore> World<S> {
         ensures stop { IfErr result (λ error. IfStopped error (WhyHalted S.failed S.honest self.old self.new)) }
         ensures full { IsErrOf result (DebugError.Stop RunStop.LogFull) → (t : TenantIs) → IsFull (guest_at self.old g t).guest.log }
         ensures room { OnOk result ((t : TenantIs) → IsFull (guest_at self.old g t).guest.log → ⊥) }
-        ensures hints { self.new.shares.hints ≡ self.old.shares.hints }
-        ensures frames { self.new.frames ≡ self.old.frames }
-        ensures level { self.new.level ≡ self.old.level }
-        ensures slots { S.slots self.new.store ≡ S.slots self.old.store }
-        ensures honest { S.honest self.new.store ↔ S.honest self.old.store }
-        ensures true_to_digests { S.true_to_digests self.new.store ↔ S.true_to_digests self.old.store }
+        ensures around { AroundStays S.slots S.honest S.true_to_digests self.old self.new }
     {
         let count = bytes.len() as u32;
         match self.reach(alloc, g, address, count, Access::Write, tax, rng) {
@@ -300,9 +252,7 @@ impl<S: SwapStore> World<S> {
         requires there { (t : TenantIs) (q : ℕ) → SomePlaceIn (standing (guest_at self.old g t).guest) address (length bytes.items) q →
             is_wanted Access.Write (kind_at (pages_at self.old g t) q) ≡ false }
         ensures logs { (h : ℕ) → log_at self.new.tenants h ≡ log_at self.old.tenants h ++ written_items h g address bytes.items result }
-        ensures boots { map boot_of self.new.tenants ≡ map boot_of self.old.tenants }
-        ensures limits { LimitsStay self.old.tenants self.new.tenants }
-        ensures blocked { BlockedStay self.old.tenants self.new.tenants }
+        ensures guests { GuestsStay self.old.tenants self.new.tenants }
         ensures accepted { OnOk result (S.true_to_digests self.old.store → (t : TenantIs) →
             accepts (What.Write address bytes.items) (view_at self.old g t) ≡ true) }
         ensures placed { IsErrOf result DebugError.NoPlace → ⊥ }

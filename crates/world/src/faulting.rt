@@ -54,7 +54,7 @@ pub(crate) fn stats_of(alloc: Global, tenants: &[Tenant]) -> Result<Vec<Stat>, A
 }
 
 impl<S: SwapStore> World<S> {
-    ghost use Rattle.std.specs.Prelude.{◌≡◌, ◌+◌, ◌<◌, ◌↔◌, ℕ, [], Some, None, OnOk, IfErr, OnErr, length, map};
+    ghost use Rattle.std.specs.Prelude.{◌≡◌, ◌+◌, ◌<◌, ℕ, [], Some, None, OnOk, IfErr, OnErr, length, map};
     ghost use Rattle.mips_step.specs.declared.access.Why.{Why};
     ghost use Rattle.physmap.specs.declared.page.PageKind.{PageKind};
     ghost use Rattle.physmap.specs.Pages.{kind_at};
@@ -63,7 +63,7 @@ impl<S: SwapStore> World<S> {
     ghost use Rattle.world.specs.Choices.{moment_of, NoneLeaves, MakesRoom, IsSuppliedFor, IsFault, IsMet};
     ghost use Rattle.world.specs.Victims.{IsPolicys, OnlyPagesMove, SparedStay, OtherSparedStay, WhyLacking, WhyUnsupplied, all_resident};
     ghost use Rattle.tenant.specs.Tenants.{stat_of};
-    ghost use Rattle.world.specs.Worlds.{guest_at, pages_at, needed_by, FailsOnce};
+    ghost use Rattle.world.specs.Worlds.{AroundStays, guest_at, pages_at, needed_by, FailsOnce};
 
     /// A page of the policy's victim leaves its frame for a slot: of the guests with more resident pages than their minimum the victim
     /// is the one of the least ratio of shares to pages, taxed for idle ones, and its page is the first resident one at or after the
@@ -87,12 +87,7 @@ impl<S: SwapStore> World<S> {
         ensures err { IfErr result
             (WhyLacking self.new.pool self.new.slots (map stat_of self.new.tenants) (FailsOnce S.failed self.old self.new) ⊥) }
         ensures no_failure { OnOk result (S.failed self.new.store ≡ S.failed self.old.store) }
-        ensures hints { self.new.shares.hints ≡ self.old.shares.hints }
-        ensures frames { self.new.frames ≡ self.old.frames }
-        ensures level { self.new.level ≡ self.old.level }
-        ensures slots { S.slots self.new.store ≡ S.slots self.old.store }
-        ensures honest { S.honest self.new.store ↔ S.honest self.old.store }
-        ensures true_to_digests { S.true_to_digests self.new.store ↔ S.true_to_digests self.old.store }
+        ensures around { AroundStays S.slots S.honest S.true_to_digests self.old self.new }
     {
         self.evict_sparing(alloc, &None, Cause::Order, tax, rng)
     }
@@ -116,12 +111,7 @@ impl<S: SwapStore> World<S> {
         ensures err { IfErr result
             (WhyLacking self.new.pool self.new.slots (map stat_of self.new.tenants) (FailsOnce S.failed self.old self.new) ⊥) }
         ensures no_failure { OnOk result (S.failed self.new.store ≡ S.failed self.old.store) }
-        ensures hints { self.new.shares.hints ≡ self.old.shares.hints }
-        ensures frames { self.new.frames ≡ self.old.frames }
-        ensures level { self.new.level ≡ self.old.level }
-        ensures slots { S.slots self.new.store ≡ S.slots self.old.store }
-        ensures honest { S.honest self.new.store ↔ S.honest self.old.store }
-        ensures true_to_digests { S.true_to_digests self.new.store ↔ S.true_to_digests self.old.store }
+        ensures around { AroundStays S.slots S.honest S.true_to_digests self.old self.new }
     {
         let Ok(stats) = stats_of(alloc, self.tenants()) else {
             return Err(FaultError::Memory);
@@ -154,12 +144,7 @@ impl<S: SwapStore> World<S> {
         ensures err { IfErr result
             (WhyLacking self.new.pool self.new.slots (map stat_of self.new.tenants) (FailsOnce S.failed self.old self.new) ⊥) }
         ensures no_failure { OnOk result (S.failed self.new.store ≡ S.failed self.old.store) }
-        ensures hints { self.new.shares.hints ≡ self.old.shares.hints }
-        ensures frames { self.new.frames ≡ self.old.frames }
-        ensures level { self.new.level ≡ self.old.level }
-        ensures slots { S.slots self.new.store ≡ S.slots self.old.store }
-        ensures honest { S.honest self.new.store ↔ S.honest self.old.store }
-        ensures true_to_digests { S.true_to_digests self.new.store ↔ S.true_to_digests self.old.store }
+        ensures around { AroundStays S.slots S.honest S.true_to_digests self.old self.new }
     {
         while self.free() == 0 {
             self.evict_sparing(alloc, spared, cause, tax, rng)?;
@@ -189,12 +174,7 @@ impl<S: SwapStore> World<S> {
         ensures others { OtherSparedStay g p spared.now self.old.tenants self.new.tenants }
         ensures err { IfErr result (WhyUnsupplied S.failed S.honest self.old self.new) }
         ensures no_failure { OnOk result (S.failed self.new.store ≡ S.failed self.old.store) }
-        ensures hints { self.new.shares.hints ≡ self.old.shares.hints }
-        ensures frames { self.new.frames ≡ self.old.frames }
-        ensures level { self.new.level ≡ self.old.level }
-        ensures slots { S.slots self.new.store ≡ S.slots self.old.store }
-        ensures honest { S.honest self.new.store ↔ S.honest self.old.store }
-        ensures true_to_digests { S.true_to_digests self.new.store ↔ S.true_to_digests self.old.store }
+        ensures around { AroundStays S.slots S.honest S.true_to_digests self.old self.new }
     {
         self.make_room(alloc, spared, cause, tax, rng)?;
         let supplied = self.supply(alloc, g, p);
@@ -241,12 +221,7 @@ impl<S: SwapStore> World<S> {
         ensures no_failure { OnOk result (S.failed self.new.store ≡ S.failed self.old.store) }
         ensures room { IsAdmitted self.old.frames (S.slots self.old.store) self.old.tenants →
             IfErr result (IsNoRoom (FailsOnce S.failed self.old self.new)) }
-        ensures hints { self.new.shares.hints ≡ self.old.shares.hints }
-        ensures frames { self.new.frames ≡ self.old.frames }
-        ensures level { self.new.level ≡ self.old.level }
-        ensures slots { S.slots self.new.store ≡ S.slots self.old.store }
-        ensures honest { S.honest self.new.store ↔ S.honest self.old.store }
-        ensures true_to_digests { S.true_to_digests self.new.store ↔ S.true_to_digests self.old.store }
+        ensures around { AroundStays S.slots S.honest S.true_to_digests self.old self.new }
     {
         self.is_sound();
         let Some(needed) = self.guest(g).need() else {

@@ -4,7 +4,8 @@
 //! world keeps is `Sound`: the books are exact, so that each frame is free, one page's, or an entry's whose count is how many pages
 //! name it; and while the store is true to digests each guest is its run (`IsKept`). `World::is_sound` hands it out. What happens
 //! is an `Event`, and `World::run` does events one after another: after them the log of each guest has just its own items more
-//! (`own`, `specs/Events.antt`), whatever the others did and wherever pages went.
+//! (`own`, `specs/Events.antt`), whatever the others did and wherever pages went. What a call leaves as it was around the guests is
+//! said by one relation, `AroundStays`, or by a stronger one, `OnlyBooksChange` or `SameAround` (`specs/Worlds.antt`).
 //!
 //! What is answered to an event is said by one definition, `IsAnswered` (`specs/Answers.antt`), a row for each kind of event; what a turn of
 //! the policy does by `IsTurn` (`specs/Turns.antt`); and that guests that are admitted by their minimums get a frame for each page that

@@ -87,8 +87,8 @@ impl<S: SwapStore> World<S> {
     ghost use Rattle.world.specs.Events.{steps_for, IfStop, IsForRoom, IsSupplied, WhyHalted};
     ghost use Rattle.guest_log.specs.declared.stop.Stop.{Stop};
     ghost use Rattle.tenant.specs.Tenants.{TenantIs, Stays, AddsSteps, NothingHappens};
-    ghost use Rattle.world.specs.Admission.{LimitsStay, BlockedStay};
-    ghost use Rattle.world.specs.Worlds.{Changes, SameAround, boot_of, log_at, guest_at, pages_at, view_at, needed_by};
+    ghost use Rattle.world.specs.Admission.{GuestsStay};
+    ghost use Rattle.world.specs.Worlds.{Changes, SameAround, OnlyBooksChange, AroundStays, boot_of, log_at, guest_at, pages_at, view_at, needed_by};
 
     // At most `count` steps of a guest, up to one that needs a page or gave one to the balloon (`stepping::run_in`).
     #[inline]
@@ -108,10 +108,7 @@ impl<S: SwapStore> World<S> {
         ensures nothing { IfOk result (λ made. made.0 ≡ 0 → Changes NothingHappens g self.old.tenants self.new.tenants × SameAround self.old self.new) }
         ensures unchanged { OnErr result (Changes NothingHappens g self.old.tenants self.new.tenants × SameAround self.old self.new) }
         ensures stays { Changes Stays g self.old.tenants self.new.tenants }
-        ensures hints { self.new.shares.hints ≡ self.old.shares.hints }
-        ensures store { self.new.store ≡ self.old.store }
-        ensures frames { self.new.frames ≡ self.old.frames }
-        ensures level { self.new.level ≡ self.old.level }
+        ensures around { OnlyBooksChange self.old self.new }
     {
         run_in(
             &mut self.tenants[g],
@@ -139,17 +136,13 @@ impl<S: SwapStore> World<S> {
             (moment_of words self.old) (moment_of words self.new)) }
         ensures nothing { OnErr result (Changes NothingHappens g self.old.tenants self.new.tenants × SameAround self.old self.new) }
         ensures stays { Changes Stays g self.old.tenants self.new.tenants }
-        ensures boots { map boot_of self.new.tenants ≡ map boot_of self.old.tenants }
         ensures early { IsErrOf result End.Done → ⊥ }
         ensures need { S.true_to_digests self.old.store → (p : ℕ) (why : Why) → IsErrOf result (End.Need p why) → (t : TenantIs) →
             needed_by (guest_at self.new g t) ≡ Some (p, why) }
         ensures full { IsErrOf result (End.Stop RunStop.LogFull) → (t : TenantIs) → IsFull (guest_at self.new g t).guest.log }
         ensures room { IfErr result (λ end. end ≢ End.Stop RunStop.LogFull → (t : TenantIs) → IsFull (guest_at self.new g t).guest.log → ⊥) }
         ensures stop { IfErr result (λ end. IfStop end IsForRoom) }
-        ensures hints { self.new.shares.hints ≡ self.old.shares.hints }
-        ensures store { self.new.store ≡ self.old.store }
-        ensures frames { self.new.frames ≡ self.old.frames }
-        ensures level { self.new.level ≡ self.old.level }
+        ensures around { OnlyBooksChange self.old self.new }
     {
         let ran = self.run_once(g, count);
         self.is_sound();
@@ -186,10 +179,7 @@ impl<S: SwapStore> World<S> {
         ensures stop { IfStop result.end IsForRoom }
         ensures nothing { result.steps ≡ 0 → Changes NothingHappens g self.old.tenants self.new.tenants × SameAround self.old self.new }
         ensures stays { Changes Stays g self.old.tenants self.new.tenants }
-        ensures hints { self.new.shares.hints ≡ self.old.shares.hints }
-        ensures store { self.new.store ≡ self.old.store }
-        ensures frames { self.new.frames ≡ self.old.frames }
-        ensures level { self.new.level ≡ self.old.level }
+        ensures around { OnlyBooksChange self.old self.new }
     {
         let mut made = 0;
         while made < count {
@@ -224,9 +214,7 @@ impl<S: SwapStore> World<S> {
             (moment_of (R.stream rng.old) self.old) (moment_of (R.stream rng.new) self.new)) }
         ensures none { IfErr result (λ end. MakesNone self.old.frames (S.slots self.old.store) (S.true_to_digests self.old.store) tax.percent g end
             (moment_of (R.stream rng.old) self.old) (moment_of (R.stream rng.new) self.new)) }
-        ensures boots { map boot_of self.new.tenants ≡ map boot_of self.old.tenants }
-        ensures limits { LimitsStay self.old.tenants self.new.tenants }
-        ensures blocked { BlockedStay self.old.tenants self.new.tenants }
+        ensures guests { GuestsStay self.old.tenants self.new.tenants }
         ensures early { IsErrOf result End.Done → ⊥ }
         ensures need { S.true_to_digests self.old.store → (p : ℕ) (why : Why) → IsErrOf result (End.Need p why) → (t : TenantIs) →
             needed_by (guest_at self.new g t) ≡ Some (p, why) }
@@ -236,12 +224,7 @@ impl<S: SwapStore> World<S> {
         ensures room { IfErr result (λ end. end ≢ End.Stop RunStop.LogFull → (t : TenantIs) → IsFull (guest_at self.new g t).guest.log → ⊥) }
         ensures stop { IfErr result (λ end. IfStop end (WhyHalted S.failed S.honest self.old self.new)) }
         ensures no_failure { OnOk result (S.failed self.new.store ≡ S.failed self.old.store) }
-        ensures hints { self.new.shares.hints ≡ self.old.shares.hints }
-        ensures frames { self.new.frames ≡ self.old.frames }
-        ensures level { self.new.level ≡ self.old.level }
-        ensures slots { S.slots self.new.store ≡ S.slots self.old.store }
-        ensures honest { S.honest self.new.store ↔ S.honest self.old.store }
-        ensures true_to_digests { S.true_to_digests self.new.store ↔ S.true_to_digests self.old.store }
+        ensures around { AroundStays S.slots S.honest S.true_to_digests self.old self.new }
     {
         for _ in 0..SUPPLIES_IN_A_ROW {
             match self.some_steps(g, count) {
@@ -273,9 +256,7 @@ impl<S: SwapStore> World<S> {
         ensures logs { (h : ℕ) → log_at self.new.tenants h ≡ log_at self.old.tenants h ++ steps_for h g result.steps }
         ensures chosen { IsRun self.old.frames (S.slots self.old.store) (S.true_to_digests self.old.store) tax.percent g result.end
             (moment_of (R.stream rng.old) self.old) (moment_of (R.stream rng.new) self.new) }
-        ensures boots { map boot_of self.new.tenants ≡ map boot_of self.old.tenants }
-        ensures limits { LimitsStay self.old.tenants self.new.tenants }
-        ensures blocked { BlockedStay self.old.tenants self.new.tenants }
+        ensures guests { GuestsStay self.old.tenants self.new.tenants }
         ensures most { result.steps ≤ count }
         ensures done { result.end ≡ End.Done ↔ result.steps ≡ count }
         ensures need { S.true_to_digests self.old.store → (p : ℕ) (why : Why) → result.end ≡ End.Need p why → (t : TenantIs) →
@@ -286,12 +267,7 @@ impl<S: SwapStore> World<S> {
         ensures room { result.end ≢ End.Done → result.end ≢ End.Stop RunStop.LogFull → (t : TenantIs) →
             IsFull (guest_at self.new g t).guest.log → ⊥ }
         ensures stop { IfStop result.end (WhyHalted S.failed S.honest self.old self.new) }
-        ensures hints { self.new.shares.hints ≡ self.old.shares.hints }
-        ensures frames { self.new.frames ≡ self.old.frames }
-        ensures level { self.new.level ≡ self.old.level }
-        ensures slots { S.slots self.new.store ≡ S.slots self.old.store }
-        ensures honest { S.honest self.new.store ↔ S.honest self.old.store }
-        ensures true_to_digests { S.true_to_digests self.new.store ↔ S.true_to_digests self.old.store }
+        ensures around { AroundStays S.slots S.honest S.true_to_digests self.old self.new }
     {
         let mut steps = 0;
         while steps < count {

@@ -32,7 +32,7 @@ impl Turn {
 }
 
 impl<S: SwapStore> World<S> {
-    ghost use Rattle.std.specs.Prelude.{◌≡◌, ◌<◌, ◌↔◌, ℕ, None, IfOk, IfErr, OnOk, OnErr, length, slice_index_or};
+    ghost use Rattle.std.specs.Prelude.{◌≡◌, ◌<◌, ℕ, None, IfOk, IfErr, OnOk, OnErr, length, slice_index_or};
     ghost use Rattle.rand_core.specs.Stream.{next_u32};
     ghost use Rattle.physmap.specs.Holdings.{resident_pages};
     ghost use Rattle.reclaim.specs.declared.turn.Action.{Action};
@@ -41,7 +41,7 @@ impl<S: SwapStore> World<S> {
     ghost use Rattle.world.specs.Turns.{IsTurned, AreTurned, LosesPages, MayLose, AreFewer, AreCutShort, IsTurn};
     ghost use Rattle.world.specs.Choices.{moment_of, IsSwapOut, IsStay, SwapOuts, SwapOutsEnd, TurnsBy};
     ghost use Rattle.world.specs.Victims.{OnlyPagesMove};
-    ghost use Rattle.world.specs.Worlds.{Changes, SameAround, guest_at, pages_at, FailsOnce};
+    ghost use Rattle.world.specs.Worlds.{Changes, SameAround, AroundStays, guest_at, pages_at, FailsOnce};
 
     // What a turn does to a guest beside swapping out.
     fn turn_guest(&mut self, g: usize, action: Action) -> Aim
@@ -78,12 +78,7 @@ impl<S: SwapStore> World<S> {
         ensures out { OnOk result (IsSwapOut self.old.frames (S.slots self.old.store) g (moment_of (R.stream rng.old) self.old) (moment_of (R.stream rng.new) self.new)) }
         ensures stays { OnErr result (IsStay (moment_of (R.stream rng.old) self.old) (moment_of (R.stream rng.new) self.new)) }
         ensures rest { R.stream rng.new ≡ (next_u32 (R.stream rng.old)).1 }
-        ensures hints { self.new.shares.hints ≡ self.old.shares.hints }
-        ensures frames { self.new.frames ≡ self.old.frames }
-        ensures level { self.new.level ≡ self.old.level }
-        ensures slots { S.slots self.new.store ≡ S.slots self.old.store }
-        ensures honest { S.honest self.new.store ↔ S.honest self.old.store }
-        ensures true_to_digests { S.true_to_digests self.new.store ↔ S.true_to_digests self.old.store }
+        ensures around { AroundStays S.slots S.honest S.true_to_digests self.old self.new }
     {
         let p = drawn_page(self.guest(g), &None, rng);
         let swapped = self.evict_of(g, p, Cause::Level);
@@ -106,12 +101,7 @@ impl<S: SwapStore> World<S> {
         ensures end { OnErr result (SwapOutsEnd self.old.frames (S.slots self.old.store) g g (moment_of (R.stream rng.old) self.old) (moment_of (R.stream rng.new) self.new)) }
         ensures err { IfErr result (WhyStays self.new.slots (FailsOnce S.failed self.old self.new)) }
         ensures no_failure { OnOk result (S.failed self.new.store ≡ S.failed self.old.store) }
-        ensures hints { self.new.shares.hints ≡ self.old.shares.hints }
-        ensures frames { self.new.frames ≡ self.old.frames }
-        ensures level { self.new.level ≡ self.old.level }
-        ensures slots { S.slots self.new.store ≡ S.slots self.old.store }
-        ensures honest { S.honest self.new.store ↔ S.honest self.old.store }
-        ensures true_to_digests { S.true_to_digests self.new.store ↔ S.true_to_digests self.old.store }
+        ensures around { AroundStays S.slots S.honest S.true_to_digests self.old self.new }
     {
         for _ in 0..count {
             self.swap_out(g, rng)?;
@@ -130,12 +120,7 @@ impl<S: SwapStore> World<S> {
         ensures outs { OnOk result (SwapOuts self.old.frames (S.slots self.old.store) 0 (length self.old.tenants) (moment_of (R.stream rng.old) self.old) (moment_of (R.stream rng.new) self.new)) }
         ensures end { OnErr result (SwapOutsEnd self.old.frames (S.slots self.old.store) 0 (length self.old.tenants) (moment_of (R.stream rng.old) self.old) (moment_of (R.stream rng.new) self.new)) }
         ensures err { IfErr result (WhyStays self.new.slots (FailsOnce S.failed self.old self.new)) }
-        ensures hints { self.new.shares.hints ≡ self.old.shares.hints }
-        ensures frames { self.new.frames ≡ self.old.frames }
-        ensures level { self.new.level ≡ self.old.level }
-        ensures slots { S.slots self.new.store ≡ S.slots self.old.store }
-        ensures honest { S.honest self.new.store ↔ S.honest self.old.store }
-        ensures true_to_digests { S.true_to_digests self.new.store ↔ S.true_to_digests self.old.store }
+        ensures around { AroundStays S.slots S.honest S.true_to_digests self.old self.new }
     {
         for g in 0..actions.len() {
             self.swap_out_pages(g, actions[g].swap_out, rng)?;
@@ -168,11 +153,7 @@ impl<S: SwapStore> World<S> {
         ensures unchanged { OnErr result (self.new ≡ self.old) }
         ensures by_words { OnOk result (TurnsBy self.old.frames (S.slots self.old.store) (moment_of (R.stream rng.old) self.old) (moment_of (R.stream rng.new) self.new)) }
         ensures undrawn { OnErr result (R.stream rng.new ≡ R.stream rng.old) }
-        ensures hints { self.new.shares.hints ≡ self.old.shares.hints }
-        ensures frames { self.new.frames ≡ self.old.frames }
-        ensures slots { S.slots self.new.store ≡ S.slots self.old.store }
-        ensures honest { S.honest self.new.store ↔ S.honest self.old.store }
-        ensures true_to_digests { S.true_to_digests self.new.store ↔ S.true_to_digests self.old.store }
+        ensures around { AroundStays S.slots S.honest S.true_to_digests (record self.old { level = self.new.level }) self.new }
     {
         let stats = stats_of(alloc, self.tenants())?;
         let plan = plan(alloc, self.level, &stats, self.free(), self.frames, tax)?;

@@ -89,11 +89,13 @@ impl<S: SwapStore> World<S> {
     ghost use Rattle.world.specs.Evictions.{Became};
     ghost use Rattle.tenant.specs.Lent.{WhyStays};
     ghost use Rattle.swapstore.specs.Failures.{one_more};
-    ghost use Rattle.tenant.specs.Loading.{FramesFirst, NonePrivate, WhyNotLoaded};
+    ghost use Rattle.tenant.specs.Loading.{FramesFirst, NonePrivate, SlotsRise, WhyNotLoaded};
+    ghost use Rattle.frames.specs.Counts.{count_of};
+    ghost use Rattle.physmap.specs.Holdings.{slots_held};
     ghost use Rattle.tenant.specs.declared.loading.BootError.{BootError};
     ghost use Rattle.tenant.specs.Tenants.{TenantIs, pages_in, IsBooted, Stays, Adds, NothingHappens};
     ghost use Rattle.reclaim.specs.declared.level.Level.{Level};
-    ghost use Rattle.world.specs.Worlds.{WorldIs, Sound, Changes, PagesMove, SameAround, guest_at, pages_at, view_at, needed_by, FailsOnce};
+    ghost use Rattle.world.specs.Worlds.{WorldIs, Sound, Changes, PagesMove, SameAround, OnlyBooksChange, StoreStays, AroundStays, guest_at, pages_at, view_at, needed_by, FailsOnce};
 
     /// A world of no guest, with this many frames, all free, and the slots of a store, all free, at the level high. The store comes back where a
     /// request for memory was refused.
@@ -156,12 +158,11 @@ impl<S: SwapStore> World<S> {
         ensures booted { IfOk result (λ w. (t : TenantIs) →
             IsBooted image.value pages shares minimum log_runs (slice_index_or w.tenants (length self.tenants) t)) }
         ensures frames_first { IfOk result (λ w. (t : TenantIs) → FramesFirst w.pool (pages_in (slice_index_or w.tenants (length self.tenants) t))) }
+        ensures slots_rise { IfOk result (λ w. (t : TenantIs) → SlotsRise w.slots (pages_in (slice_index_or w.tenants (length self.tenants) t))) }
+        ensures slots_taken { IfOk result (λ w. (t : TenantIs) (k : ℕ) →
+            count_of k w.slots.free + slots_held k (pages_in (slice_index_or w.tenants (length self.tenants) t)) ≡ count_of k self.slots.free) }
         ensures shares { IfOk result (λ w. w.shares ≡ self.shares) }
-        ensures frames { IfOk result (λ w. w.frames ≡ self.frames) }
-        ensures level { IfOk result (λ w. w.level ≡ self.level) }
-        ensures slots { IfOk result (λ w. S.slots w.store ≡ S.slots self.store) }
-        ensures honest { IfOk result (λ w. S.honest w.store ↔ S.honest self.store) }
-        ensures true_to_digests { IfOk result (λ w. S.true_to_digests w.store ↔ S.true_to_digests self.store) }
+        ensures around { IfOk result (λ w. AroundStays S.slots S.honest S.true_to_digests self w) }
         ensures no_frames { IfOk result (λ w. self.pool.free ≡ [] → w.pool.free ≡ []) }
         ensures none_private { IfOk result (λ w. (t : TenantIs) → self.pool.free ≡ [] →
             NonePrivate (pages_in (slice_index_or w.tenants (length self.tenants) t))) }
@@ -169,8 +170,7 @@ impl<S: SwapStore> World<S> {
         ensures no_failure { IfOk result (λ w. S.failed w.store ≡ S.failed self.store) }
         ensures room { IfErr result (λ refused. refused.0 ≡ BootError.Room → length self.pool.free + length self.slots.free < pages) }
         ensures err { IfErr result (λ refused. WhyNotLoaded (S.failed refused.1 ≡ one_more (S.failed self.store)) refused.0) }
-        ensures back { IfErr result (λ refused. (S.slots refused.1 ≡ S.slots self.store) × (S.honest refused.1 ↔ S.honest self.store) ×
-            (S.true_to_digests refused.1 ↔ S.true_to_digests self.store)) }
+        ensures back { IfErr result (λ refused. StoreStays S.slots S.honest S.true_to_digests self.store refused.1) }
     {
         let World {
             mut tenants,
@@ -322,10 +322,7 @@ impl<S: SwapStore> World<S> {
         ensures full { (t : TenantIs) → (IsErrOf result Stop.LogFull ↔ IsFull (guest_at self.old g t).guest.log) }
         ensures unchanged { OnErr result (Changes NothingHappens g self.old.tenants self.new.tenants × SameAround self.old self.new) }
         ensures stays { Changes Stays g self.old.tenants self.new.tenants }
-        ensures hints { self.new.shares.hints ≡ self.old.shares.hints }
-        ensures store { self.new.store ≡ self.old.store }
-        ensures frames { self.new.frames ≡ self.old.frames }
-        ensures level { self.new.level ≡ self.old.level }
+        ensures around { OnlyBooksChange self.old self.new }
     {
         step_in(
             &mut self.tenants[g],
@@ -380,12 +377,7 @@ impl<S: SwapStore> World<S> {
         ensures pool_unchanged { OnErr result (SameNumbers self.old.pool self.new.pool) }
         ensures slots_unchanged { OnErr result (self.new.slots ≡ self.old.slots) }
         ensures shares_unchanged { OnErr result (self.new.shares ≡ self.old.shares) }
-        ensures hints { self.new.shares.hints ≡ self.old.shares.hints }
-        ensures frames { self.new.frames ≡ self.old.frames }
-        ensures level { self.new.level ≡ self.old.level }
-        ensures slots { S.slots self.new.store ≡ S.slots self.old.store }
-        ensures honest { S.honest self.new.store ↔ S.honest self.old.store }
-        ensures true_to_digests { S.true_to_digests self.new.store ↔ S.true_to_digests self.old.store }
+        ensures around { AroundStays S.slots S.honest S.true_to_digests self.old self.new }
     {
         supply_page(
             alloc,
@@ -412,56 +404,19 @@ impl<S: SwapStore> World<S> {
         ensures pool_unchanged { OnErr result (self.new.pool ≡ self.old.pool) }
         ensures slots_unchanged { OnErr result (SameNumbers self.old.slots self.new.slots) }
         ensures shares_unchanged { OnErr result (self.new.shares ≡ self.old.shares) }
-        ensures hints { self.new.shares.hints ≡ self.old.shares.hints }
-        ensures frames { self.new.frames ≡ self.old.frames }
-        ensures level { self.new.level ≡ self.old.level }
-        ensures slots { S.slots self.new.store ≡ S.slots self.old.store }
-        ensures honest { S.honest self.new.store ↔ S.honest self.old.store }
-        ensures true_to_digests { S.true_to_digests self.new.store ↔ S.true_to_digests self.old.store }
+        ensures around { AroundStays S.slots S.honest S.true_to_digests self.old self.new }
     {
-        self.move_out(g, p)?;
-        self.count_eviction(g, cause);
-        Ok(())
-    }
-
-    // Counts a page of a guest that has left its frame.
-    fn count_eviction(&mut self, g: usize, cause: Cause)
-        ensures { self.new ≡ self.old }
-    {
-        if let Some(tenant) = self.tenants.get_mut(g) {
-            tenant.count_eviction(cause);
-        }
-    }
-
-    // A resident page leaves its frame.
-    fn move_out(&mut self, g: usize, p: Ppn) -> Result<(), EvictError>
-        requires guest { g < length self.old.tenants }
-        requires page { (t : TenantIs) → p < length (pages_at self.old g t) }
-        requires resident { (t : TenantIs) → IsTrue (is_resident (kind_at (pages_at self.old g t) p)) }
-        ensures moves { Changes PagesMove g self.old.tenants self.new.tenants }
-        ensures page { OnOk result ((t : TenantIs) →
-            Became p Evicted.Done (pages_at self.old g t) (pages_at self.new g t) self.old.slots) }
-        ensures err { IfErr result (WhyStays self.old.slots (FailsOnce S.failed self.old self.new)) }
-        ensures no_failure { OnOk result (S.failed self.new.store ≡ S.failed self.old.store) }
-        ensures unchanged { OnErr result (self.new.tenants ≡ self.old.tenants) }
-        ensures pool_unchanged { OnErr result (self.new.pool ≡ self.old.pool) }
-        ensures slots_unchanged { OnErr result (SameNumbers self.old.slots self.new.slots) }
-        ensures shares_unchanged { OnErr result (self.new.shares ≡ self.old.shares) }
-        ensures hints { self.new.shares.hints ≡ self.old.shares.hints }
-        ensures frames { self.new.frames ≡ self.old.frames }
-        ensures level { self.new.level ≡ self.old.level }
-        ensures slots { S.slots self.new.store ≡ S.slots self.old.store }
-        ensures honest { S.honest self.new.store ↔ S.honest self.old.store }
-        ensures true_to_digests { S.true_to_digests self.new.store ↔ S.true_to_digests self.old.store }
-    {
+        let tenant = &mut self.tenants[g];
         evict_page(
-            &mut self.tenants[g],
+            tenant,
             p,
             &mut self.pool,
             &mut self.slots,
             &mut self.store,
             &mut self.shares,
-        )
+        )?;
+        tenant.count_eviction(cause);
+        Ok(())
     }
 
     /// A page of a guest is written to the free slot of the lowest number, and leaves its frame, which is free then but where other
@@ -479,12 +434,7 @@ impl<S: SwapStore> World<S> {
         ensures pool_unchanged { OnErr result (self.new.pool ≡ self.old.pool) }
         ensures slots_unchanged { OnErr result (SameNumbers self.old.slots self.new.slots) }
         ensures shares_unchanged { OnErr result (self.new.shares ≡ self.old.shares) }
-        ensures hints { self.new.shares.hints ≡ self.old.shares.hints }
-        ensures frames { self.new.frames ≡ self.old.frames }
-        ensures level { self.new.level ≡ self.old.level }
-        ensures slots { S.slots self.new.store ≡ S.slots self.old.store }
-        ensures honest { S.honest self.new.store ↔ S.honest self.old.store }
-        ensures true_to_digests { S.true_to_digests self.new.store ↔ S.true_to_digests self.old.store }
+        ensures around { AroundStays S.slots S.honest S.true_to_digests self.old self.new }
     {
         let Some(kind) = self.kind(g, p) else {
             return Ok(Evicted::Skipped);

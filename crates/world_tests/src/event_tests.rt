@@ -449,7 +449,9 @@ fn damage(rt: &impl Abort, world: &mut World<MemStore>) {
     if world.books().slots == 0 {
         panic!(rt; "no slot");
     }
-    world.damage(0, 4095);
+    if world.damage(0, 4095).is_err() {
+        panic!(rt; "no memory to damage slot 0");
+    }
 }
 
 #[test]

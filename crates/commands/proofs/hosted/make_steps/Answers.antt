@@ -1,5 +1,5 @@
 use Rattle.std.proofs.Common.{◌∙◌, ◌+◌, ap, arith}
-use Rattle.swapstore.specs.Memories.{MemoryIs}
+use Rattle.swapstore.specs.Memories.{MemoryIs, sound_are_told}
 use Rattle.commands.specs.Hosted.{hosted_of}
 use Rattle.commands.proofs.Hosting.{alone_stepped, ended_full, lacking, need_is_early, need_room, not_all, one_step_more, stepped, steps_so_far, still_one}
 use Rattle.commands.proofs.hosted.make_steps.Goals as goal
@@ -7,14 +7,15 @@ use Rattle.commands.proofs.hosted.make_steps.Goals as goal
 pub step_supplied-requires-clause-alone : goal.step_supplied-requires-clause-alone
 step_supplied-requires-clause-alone c =
     let s = c.steps-steps in
-    alone_stepped c.loop-made.world s.new.self s.result.steps c.loop-made.invariant.alone (s.ensures.logs 0) s.ensures.boots s.ensures.store s.ensures.frames
+    alone_stepped c.loop-made.world s.new.self s.result.steps c.loop-made.invariant.alone (s.ensures.logs 0) s.ensures.boots s.ensures.around.store s.ensures.around.frames
 
 pub step_supplied-requires-clause-lacking : goal.step_supplied-requires-clause-lacking
 step_supplied-requires-clause-lacking c =
     let s = c.steps-steps in
     let alone = c.loop-made.invariant.alone in
     lacking _ _ _ _ _ _ _ s.new.self.tenants c.in-Need.page _ (still_one c.loop-made.world.tenants s.new.self.tenants alone.one s.ensures.boots)
-    (ap (λ (m : MemoryIs). m.damaged) s.ensures.store ∙ alone.sound) c.is_sound.ensures (s.ensures.need alone.sound c.in-Need.page _ c.in-Need.is)
+    (sound_are_told s.new.self.store (ap (λ (m : MemoryIs). m.damaged) s.ensures.around.store ∙ alone.sound)) c.is_sound.ensures
+    (s.ensures.need (sound_are_told c.loop-made.world.store alone.sound) c.in-Need.page _ c.in-Need.is)
 
 pub step_supplied-requires-clause-room : goal.step_supplied-requires-clause-room
 step_supplied-requires-clause-room c =
@@ -25,7 +26,7 @@ step_supplied-requires-clause-room c =
 pub returns-in-Done-clause-alone : goal.returns-in-Done-clause-alone
 returns-in-Done-clause-alone c =
     let s = c.steps-steps in
-    alone_stepped c.loop-made.world s.new.self s.result.steps c.loop-made.invariant.alone (s.ensures.logs 0) s.ensures.boots s.ensures.store s.ensures.frames
+    alone_stepped c.loop-made.world s.new.self s.result.steps c.loop-made.invariant.alone (s.ensures.logs 0) s.ensures.boots s.ensures.around.store s.ensures.around.frames
 
 pub returns-in-Done-clause-state : goal.returns-in-Done-clause-state
 returns-in-Done-clause-state c =
@@ -36,7 +37,7 @@ returns-in-Done-clause-state c =
 pub returns-in-Stop-clause-alone : goal.returns-in-Stop-clause-alone
 returns-in-Stop-clause-alone c =
     let s = c.steps-steps in
-    alone_stepped c.loop-made.world s.new.self s.result.steps c.loop-made.invariant.alone (s.ensures.logs 0) s.ensures.boots s.ensures.store s.ensures.frames
+    alone_stepped c.loop-made.world s.new.self s.result.steps c.loop-made.invariant.alone (s.ensures.logs 0) s.ensures.boots s.ensures.around.store s.ensures.around.frames
 
 pub returns-in-Stop-clause-state : goal.returns-in-Stop-clause-state
 returns-in-Stop-clause-state c =

@@ -2,7 +2,7 @@ use Rattle.std.proofs.Common.{List, ◌∙◌, ap, length, arith}
 use Rattle.std.proofs.lemmas.Result.{err_from_is_err_and}
 use Rattle.mips_step.proofs.OtherPages.{step_stays}
 use Rattle.mips_step.specs.Step.{Machine, step}
-use Rattle.swapstore.specs.Memories.{MemoryIs}
+use Rattle.swapstore.specs.Memories.{MemoryIs, sound_are_told}
 use Rattle.physmap.specs.Holdings.{private_pages}
 use Rattle.physmap.specs.declared.page.Page.{Page}
 use Rattle.tenant.specs.Tenants.{Stays}
@@ -19,9 +19,10 @@ loop-world-preserved c =
     let same = unmoved ts ts' alone.one nothing c.step.ensures.stays in
     record {
       alone = alone_after c.supply.new.world c.step.new.self alone (one_left Stays ts ts' alone.one c.step.ensures.stays)
-          (ap (λ (m : Machine). length m.world.memory) same) c.step.ensures.frames (ap (λ (s : MemoryIs). s.damaged) c.step.ensures.store ∙ alone.sound);
+          (ap (λ (m : Machine). length m.world.memory) same) c.step.ensures.around.frames (ap (λ (s : MemoryIs). s.damaged) c.step.ensures.around.store ∙ alone.sound);
       lacking = lacking_still ts ts' c.in-Need.next alone.one nothing
-          (lacking _ _ _ _ _ _ _ ts c.in-Need.next _ alone.one alone.sound c.is_sound.ensures (λ t. its_need _ _ _ _ c.in-Need.is (c.in_ok-step.ensures.need alone.sound t)));
+          (lacking _ _ _ _ _ _ _ ts c.in-Need.next _ alone.one (sound_are_told c.supply.new.world.store alone.sound) c.is_sound.ensures
+          (λ t. its_need _ _ _ _ c.in-Need.is (c.in_ok-step.ensures.need (sound_are_told c.supply.new.world.store alone.sound) t)));
       room = not_full ts ts' c.step.result _ _ alone.one c.in_ok-step.was nothing c.step.ensures.stays c.step.ensures.full;
       same = same ∙ ap (λ (h : HostedIs). h.machine) c.supply.ensures.same ∙ c.loop-world.invariant.same;
     }
@@ -48,8 +49,8 @@ returns-in-Done-clause-alone c =
     let alone = c.supply.ensures.alone in
     let made = step_added ts ts' alone.one (done_then _ c.in-Done.is c.in_ok-step.ensures.adds) c.step.ensures.stays in
     alone_after c.supply.new.world c.step.new.self alone (one_left Stays ts ts' alone.one c.step.ensures.stays)
-    (ap (λ (m : Machine). length m.world.memory) made ∙ (step_stays (hosted_of ts).machine 0).size) c.step.ensures.frames
-    (ap (λ (s : MemoryIs). s.damaged) c.step.ensures.store ∙ alone.sound)
+    (ap (λ (m : Machine). length m.world.memory) made ∙ (step_stays (hosted_of ts).machine 0).size) c.step.ensures.around.frames
+    (ap (λ (s : MemoryIs). s.damaged) c.step.ensures.around.store ∙ alone.sound)
 
 pub returns-in-Done-clause-made : goal.returns-in-Done-clause-made
 returns-in-Done-clause-made c =
@@ -65,7 +66,7 @@ returns-in_err-step-clause-alone c =
     let alone = c.supply.ensures.alone in
     let same = unmoved ts ts' alone.one c.in_err-step.ensures.unchanged.0 c.step.ensures.stays in
     alone_after c.supply.new.world c.step.new.self alone (one_left Stays ts ts' alone.one c.step.ensures.stays)
-    (ap (λ (m : Machine). length m.world.memory) same) c.step.ensures.frames (ap (λ (s : MemoryIs). s.damaged) c.step.ensures.store ∙ alone.sound)
+    (ap (λ (m : Machine). length m.world.memory) same) c.step.ensures.around.frames (ap (λ (s : MemoryIs). s.damaged) c.step.ensures.around.store ∙ alone.sound)
 
 pub returns-in_err-step-clause-stopped : goal.returns-in_err-step-clause-stopped
 returns-in_err-step-clause-stopped c =

@@ -1,4 +1,5 @@
 use Rattle.std.proofs.Common.{length, ap, arith}
+use Rattle.swapstore.specs.Memories.{sound_are_told}
 use Rattle.world.specs.Worlds.{PagesMove}
 use Rattle.commands.specs.Hosted.{HostedIs}
 use Rattle.commands.proofs.Hosting.{alone_after, frame_free, moved, moved_count, one_left, supplied}
@@ -7,7 +8,7 @@ use Rattle.commands.proofs.hosted.supply.Goals as goal
 pub unreachable-requires : goal.unreachable-requires
 unreachable-requires c =
     let alone = c.requires.alone in
-    frame_free _ _ _ _ _ _ _ _ alone.one alone.sound alone.room c.is_sound.ensures c.shared_frames_are_named.ensures
+    frame_free _ _ _ _ _ _ _ _ alone.one (sound_are_told c.args.world.now.store alone.sound) alone.room c.is_sound.ensures c.shared_frames_are_named.ensures
     (rw c.in-Err-NoFrame.field-0-is at c.in-Err-NoFrame.ensures.err)
 
 pub unreachable-requires-in-Err-SwapRead : goal.unreachable-requires-in-Err-SwapRead
@@ -22,7 +23,7 @@ returns-in-Ok-clause-alone c =
     let ts' = c.supply.new.self.tenants in
     let alone = c.requires.alone in
     alone_after c.args.world.now c.supply.new.self alone (one_left PagesMove ts ts' alone.one c.supply.ensures.moves)
-    (ap (λ (h : HostedIs). length h.machine.world.memory) (moved ts ts' alone.one c.supply.ensures.moves)) c.supply.ensures.frames (c.supply.ensures.honest.1 alone.sound)
+    (ap (λ (h : HostedIs). length h.machine.world.memory) (moved ts ts' alone.one c.supply.ensures.moves)) c.supply.ensures.around.frames (c.supply.ensures.around.store.honest.1 alone.sound)
 
 pub returns-in-Ok-clause-same : goal.returns-in-Ok-clause-same
 returns-in-Ok-clause-same c = moved c.args.world.now.tenants c.supply.new.self.tenants c.requires.alone.one c.supply.ensures.moves

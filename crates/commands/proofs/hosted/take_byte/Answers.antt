@@ -1,6 +1,6 @@
 use Rattle.std.proofs.Common.{Err, refl, length, ap, ◌∙◌}
 use Rattle.mips_step.specs.Step.{Machine}
-use Rattle.swapstore.specs.Memories.{MemoryIs}
+use Rattle.swapstore.specs.Memories.{MemoryIs, sound_are_told}
 use Rattle.guest.specs.declared.refused.Refused.TheVariants as refused
 use Rattle.tenant.specs.Tenants.{Stays}
 use Rattle.commands.specs.Hosted.{hosted_of}
@@ -11,7 +11,7 @@ pub unreachable-requires : goal.unreachable-requires
 unreachable-requires c =
     let alone = c.requires.alone in
     accepted c.args.world.now.tenants c.args.byte alone.one c.requires.room
-    (c.input.ensures.refused (c.in-Err-Machine.is ∙ ap Err c.in-Err-Machine.field-0-is) alone.sound)
+    (c.input.ensures.refused (c.in-Err-Machine.is ∙ ap Err c.in-Err-Machine.field-0-is) (sound_are_told c.args.world.now.store alone.sound))
 
 pub unreachable-requires-in-Err-Away : goal.unreachable-requires-in-Err-Away
 unreachable-requires-in-Err-Away c =

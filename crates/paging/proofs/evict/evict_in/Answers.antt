@@ -1,6 +1,6 @@
-use Rattle.std.proofs.Common.{ℕ, ◌≡◌, Some, subst}
+use Rattle.std.proofs.Common.{ℕ, subst}
 use Rattle.std.specs.Option.{option_to_list}
-use Rattle.swapstore.specs.Holding.{OthersStay}
+use Rattle.swapstore.specs.Holding.{AreHeld, OthersStay}
 use Rattle.physmap.specs.declared.page.Returned.{Returned}
 use Rattle.physmap.specs.Pages.{page_at, shown}
 use Rattle.paging.specs.Returns.{Frees}
@@ -15,14 +15,14 @@ returns-in-Ok-clause-frames g c = λ pool.
     (subst (λ (r : Returned). Frees r c.args.shares.now.entries c.freed.new.shares.entries came) c.swap_out.ensures.returned c.freed.ensures.frees)
 
 pub returns-in-Ok-clause-kept : goal.returns-in-Ok-clause-kept
-returns-in-Ok-clause-kept g c = λ trusted view none k.
+returns-in-Ok-clause-kept g c = λ view none k.
     let ps = g.P.Pages.pages c.args.pages.now in
     let held = g.S.SwapStore.held c.args.store.now in
     let held' = g.S.SwapStore.held c.write_page.new.store in
     evicted_kept held held' view ps (g.P.Pages.pages c.swap_out.new.self) c.args.p c.args.slot c.in-Ok.digest
     c.requires.there c.requires.resident c.swap_out.ensures.pages c.in-Ok.ensures.digest
-    (subst (λ (n : ℕ). held' n ≡ Some (shown (page_at ps c.args.p))) c.number.ensures (c.in-Ok.ensures.written trusted))
-    (subst (λ (n : ℕ). OthersStay n held held') c.number.ensures (c.write_page.ensures.others trusted))
+    (subst (λ (n : ℕ). AreHeld (held' n) (shown (page_at ps c.args.p))) c.number.ensures c.in-Ok.ensures.written)
+    (subst (λ (n : ℕ). OthersStay n held held') c.number.ensures c.write_page.ensures.others)
     none k
 
 pub returns-in-Ok-clause-reads : goal.returns-in-Ok-clause-reads

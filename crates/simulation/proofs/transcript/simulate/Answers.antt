@@ -16,13 +16,13 @@ returns-clause-transcript g c =
     let rest = stream_of (steps_u32 pcg32) c.play-text.new.rng in
     let words : stream_of (steps_u32 pcg32) c.seed_from_u64-rng.result ≡ words_of c.args.seed =
     ap (λ (x : Lcg). stream_of (steps_u32 pcg32) x) (c.seed_from_u64-rng.ensures ∙ ap (λ (n : ℕ). pcg32_of_seed (pcg32_seed 16 n)) c.from.ensures) in
-    let played : IsPlayed s.true_to_digests s.failed s.honest s.slots s.held (words_of c.args.seed) c.in-Ok.world c.args.events.items rest c.play-text.new.world (string_bytes c.in_ok-text.field-0) =
-    subst (λ (from : Stream). IsPlayed s.true_to_digests s.failed s.honest s.slots s.held from c.in-Ok.world c.args.events.items rest c.play-text.new.world (string_bytes c.in_ok-text.field-0)) words
+    let played : IsPlayed s.true_to_digests s.failed s.honest s.slots s.held s.gives (words_of c.args.seed) c.in-Ok.world c.args.events.items rest c.play-text.new.world (string_bytes c.in_ok-text.field-0) =
+    subst (λ (from : Stream). IsPlayed s.true_to_digests s.failed s.honest s.slots s.held s.gives from c.in-Ok.world c.args.events.items rest c.play-text.new.world (string_bytes c.in_ok-text.field-0)) words
     c.in_ok-text.ensures in
     let events = c.args.events.items in
     let each : All (IsFor (length c.in-Ok.world.tenants) (s.slots c.in-Ok.world.store)) events =
     subst (λ (n : ℕ). All (IsFor n (s.slots c.in-Ok.world.store)) events) (sym ok.booted.count)
-    (subst (λ (n : ℕ). All (IsFor (length c.args.guests.items) n) events) (sym ok.slots) c.requires) in
+    (subst (λ (n : ℕ). All (IsFor (length c.args.guests.items) n) events) (sym ok.store.slots) c.requires) in
     record {
       first = c.in-Ok.world;
       last = c.play-text.new.world;
@@ -32,13 +32,11 @@ returns-clause-transcript g c =
         frames = ok.frames;
         level = ok.level;
         hints = ok.hints;
-        slots_are = ok.slots;
-        honesty = ok.honest;
-        trust = ok.true_to_digests;
+        store_stays = ok.store;
         admitted = ok.admitted;
         sound = c.is_sound.ensures;
       };
       played = played;
       shows = λ trust any. from_boot any c.args.config.log_runs c.args.guests.items c.in-Ok.world.tenants events played.said ok.booted
-          (all_shown s.true_to_digests s.failed s.honest s.slots s.held any (words_of c.args.seed) rest c.in-Ok.world c.play-text.new.world events played.said played.done (ok.true_to_digests.1 trust) each);
+          (all_shown s.true_to_digests s.failed s.honest s.slots s.held s.gives any (words_of c.args.seed) rest c.in-Ok.world c.play-text.new.world events played.said played.done trust each);
     }

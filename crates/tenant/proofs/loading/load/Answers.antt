@@ -15,10 +15,10 @@ returns-in_err-load_next-clause-conserves g c = λ es.
     (c.loop-p.invariant.conserves es) (c.load_next.ensures.conserves es)
 
 pub returns-in_err-load_next-clause-used : goal.returns-in_err-load_next-clause-used
-returns-in_err-load_next-clause-used g c = λ trust.
+returns-in_err-load_next-clause-used g c =
     loading_used c.args.guest.now.bus.pages c.loop-p.guest.bus.pages c.args.pool.now c.loop-p.pool c.args.slots.now c.loop-p.slots (length c.args.guest.now.bus.pages)
     (g.S.SwapStore.held c.args.store.now) (g.S.SwapStore.held c.loop-p.store) (g.S.SwapStore.held c.load_next.new.store) c.requires.untouched (c.loop-p.invariant.conserves [])
-    (c.loop-p.invariant.used trust) (c.load_next.ensures.used (c.loop-p.invariant.true_to_digests.1 trust))
+    c.loop-p.invariant.used c.load_next.ensures.used
 
 pub loop-p-preserved : goal.loop-p-preserved
 loop-p-preserved g c =
@@ -31,22 +31,23 @@ loop-p-preserved g c =
     record {
       conserves = λ es. then_moves first mid new c.args.pool.now c.loop-p.pool c.load_next.new.pool c.args.slots.now c.loop-p.slots c.load_next.new.slots es es (inv.conserves es) (e.conserves es);
       reads = λ es r. e.reads es (inv.reads es r);
-      used = λ trust. loading_used first mid c.args.pool.now c.loop-p.pool c.args.slots.now c.loop-p.slots (length first) (g.S.SwapStore.held c.args.store.now) (g.S.SwapStore.held c.loop-p.store) held
-          c.requires.untouched (inv.conserves []) (inv.used trust) (e.used (inv.true_to_digests.1 trust));
+      used = loading_used first mid c.args.pool.now c.loop-p.pool c.args.slots.now c.loop-p.slots (length first) (g.S.SwapStore.held c.args.store.now) (g.S.SwapStore.held c.loop-p.store) held
+          c.requires.untouched (inv.conserves []) inv.used e.used;
       rest = e.rest ∙ inv.rest;
       count = e.count ∙ inv.count;
       untouched = subst (λ (q : ℕ). AreUntouched c.args.image.now (q + 1) new) c.new.ensures c.in_ok-load_next.ensures.untouched;
-      loaded = λ trust.
+      loaded =
           subst (λ (n : ℕ). AreLoaded held c.args.image.now n (c.loop-p.p + 1) new) inv.count
           (subst (λ (q : ℕ). AreLoaded held c.args.image.now (length mid) (q + 1) new) c.new.ensures
-          (c.in_ok-load_next.ensures.loaded (inv.true_to_digests.1 trust)
+          (c.in_ok-load_next.ensures.loaded
           (subst (λ (q : ℕ). AreLoaded (g.S.SwapStore.held c.loop-p.store) c.args.image.now (length mid) q mid) (sym c.new.ensures)
-          (subst (λ (n : ℕ). AreLoaded (g.S.SwapStore.held c.loop-p.store) c.args.image.now n c.loop-p.p mid) (sym inv.count) (inv.loaded trust)))));
+          (subst (λ (n : ℕ). AreLoaded (g.S.SwapStore.held c.loop-p.store) c.args.image.now n c.loop-p.p mid) (sym inv.count) inv.loaded))));
       no_frames = λ none. c.in_ok-load_next.ensures.no_frames (inv.no_frames none);
       none_private = λ none. c.in_ok-load_next.ensures.none_private (inv.no_frames none) (inv.none_private none);
       taken = omega (arith, inv.taken, c.in_ok-load_next.ensures.taken, c.new.ensures);
       no_failure = c.in_ok-load_next.ensures.no_failure ∙ inv.no_failure;
       frames_first = c.in_ok-load_next.ensures.frames_first;
+      slots_rise = c.in_ok-load_next.ensures.slots_rise;
       slots = e.slots ∙ inv.slots;
       honest = (λ h. inv.honest.0 (e.honest.0 h), λ h. e.honest.1 (inv.honest.1 h));
       true_to_digests = (λ h. inv.true_to_digests.0 (e.true_to_digests.0 h), λ h. e.true_to_digests.1 (inv.true_to_digests.1 h));

@@ -1,4 +1,4 @@
-use Rattle.std.proofs.Common.{◌≡◌, List, length, replicate, sym, ap, subst, ◌∙◌}
+use Rattle.std.proofs.Common.{◌≡◌, List, [], length, replicate, sym, ap, subst, ◌∙◌, arith}
 use Rattle.std.proofs.lemmas.List.{length-replicate}
 use Rattle.elf32.specs.declared.image.Image.{Image}
 use Rattle.elf32.specs.Images.{FitsPages}
@@ -9,7 +9,7 @@ use Rattle.paging.specs.Moves.{Conserves, Reads}
 use Rattle.paged_bus.specs.Buses.{PagedBusIs}
 use Rattle.guest.specs.Guests.{GuestIs}
 use Rattle.guest.specs.Loading.{IsBeside}
-use Rattle.tenant.proofs.Booting.{untouched_reads, loaded_run}
+use Rattle.tenant.proofs.Booting.{untouched_reads, loaded_run, none_held}
 use Rattle.tenant.proofs.loading.loaded.Goals as goal
 
 pub load-requires-clause-fits : goal.load-requires-clause-fits
@@ -28,14 +28,14 @@ returns-in-Ok-load-clause-reads g c = λ es.
     c.load.ensures.reads es (subst (Reads es) (sym none) (untouched_reads es c.args.pages))
 
 pub returns-in-Ok-load-clause-intact : goal.returns-in-Ok-load-clause-intact
-returns-in-Ok-load-clause-intact g c = λ trust.
+returns-in-Ok-load-clause-intact g c =
     (loaded_run (g.S.SwapStore.held c.load.new.store) c.args.image.value c.in-Ok.its_image.value c.deref.result.now c.args.pages c.in-Ok-boot.guest c.load.new.guest c.requires.fits c.in-Ok.ensures c.deref.ensures
-    c.in-Ok-boot.ensures.cpu c.in-Ok-boot.ensures.bus c.in-Ok-boot.ensures.boot c.in-Ok-boot.ensures.log c.load.ensures.rest c.load.ensures.count (c.in-Ok-load.ensures.loaded trust)).0
+    c.in-Ok-boot.ensures.cpu c.in-Ok-boot.ensures.bus c.in-Ok-boot.ensures.boot c.in-Ok-boot.ensures.log c.load.ensures.rest c.load.ensures.count c.in-Ok-load.ensures.loaded).0
 
 pub returns-in-Ok-load-clause-kept : goal.returns-in-Ok-load-clause-kept
-returns-in-Ok-load-clause-kept g c = λ trust.
+returns-in-Ok-load-clause-kept g c =
     (loaded_run (g.S.SwapStore.held c.load.new.store) c.args.image.value c.in-Ok.its_image.value c.deref.result.now c.args.pages c.in-Ok-boot.guest c.load.new.guest c.requires.fits c.in-Ok.ensures c.deref.ensures
-    c.in-Ok-boot.ensures.cpu c.in-Ok-boot.ensures.bus c.in-Ok-boot.ensures.boot c.in-Ok-boot.ensures.log c.load.ensures.rest c.load.ensures.count (c.in-Ok-load.ensures.loaded trust)).1
+    c.in-Ok-boot.ensures.cpu c.in-Ok-boot.ensures.bus c.in-Ok-boot.ensures.boot c.in-Ok-boot.ensures.log c.load.ensures.rest c.load.ensures.count c.in-Ok-load.ensures.loaded).1
 
 pub returns-in-Ok-load-clause-booted : goal.returns-in-Ok-load-clause-booted
 returns-in-Ok-load-clause-booted g c =
@@ -49,3 +49,8 @@ returns-in-Ok-load-clause-booted g c =
       size = c.load.ensures.count ∙ ap (λ (u : PagedBusIs). length u.pages) b.bus ∙ length-replicate c.args.pages Zero;
       beside = λ p away. c.in-Ok-load.ensures.untouched.beside p (subst (λ (i : Image). IsBeside i p) (sym c.deref.ensures) away);
     }
+
+pub returns-in-Ok-load-clause-slots_taken : goal.returns-in-Ok-load-clause-slots_taken
+returns-in-Ok-load-clause-slots_taken g c = λ k.
+    let none : c.in-Ok-boot.guest.bus.pages ≡ replicate c.args.pages Zero = ap (λ (b : PagedBusIs). b.pages) c.in-Ok-boot.ensures.bus in
+    omega (arith, (c.load.ensures.conserves []).slots.numbers k, none_held c.args.pages c.in-Ok-boot.guest.bus.pages k none)

@@ -13,9 +13,9 @@ returns-in-Ok-clause-conserves g c =
     (record { numbers = c.in-Some.ensures.taken; out = c.in-Some.ensures.out }) (c.in-Ok.ensures.used c.take.new.self) c.evict_in.ensures.tickets
 
 pub returns-in-Ok-clause-kept : goal.returns-in-Ok-clause-kept
-returns-in-Ok-clause-kept g c = λ trusted view k.
-    c.evict_in.ensures.kept trusted view (c.requires.lent.slot_apart c.in-Some.slot (was_free c.args.slots.now.free c.take.new.self.free c.in-Some.slot c.in-Some.ensures.taken)) k
+returns-in-Ok-clause-kept g c = λ view k.
+    c.evict_in.ensures.kept view (c.requires.lent.slot_apart c.in-Some.slot (was_free c.args.slots.now.free c.take.new.self.free c.in-Some.slot c.in-Some.ensures.taken)) k
 
 pub returns-in-Err-clause-kept : goal.returns-in-Err-clause-kept
-returns-in-Err-clause-kept g c = λ trusted view k.
-    c.evict_in.ensures.kept trusted view (c.requires.lent.slot_apart c.in-Some.slot (was_free c.args.slots.now.free c.take.new.self.free c.in-Some.slot c.in-Some.ensures.taken)) k
+returns-in-Err-clause-kept g c = λ view k.
+    c.evict_in.ensures.kept view (c.requires.lent.slot_apart c.in-Some.slot (was_free c.args.slots.now.free c.take.new.self.free c.in-Some.slot c.in-Some.ensures.taken)) k

@@ -25,7 +25,7 @@ invariant_of-result g c =
     subst (λ (n : ℕ). Sound w.frames n trusted' held' c.push.new.self.items new.pool new.slots es) (sym e.slots)
     (subst (λ (ts : List TenantIs). Sound w.frames slots trusted' held' ts new.pool new.slots es) (sym c.in-Ok-push.ensures.items)
     (sound_add_new w.frames slots c.args.pages trusted trusted' held held' w.tenants.items c.in-Ok.guest c.new.result w.pool new.pool w.slots new.slots es c.new.ensures.guest
-    (c.in-Ok.ensures.conserves es) (c.in-Ok.ensures.reads es) e.true_to_digests.0 c.in-Ok.ensures.intact c.in-Ok.ensures.kept e.used c.self.invariant))
+    (c.in-Ok.ensures.conserves es) (c.in-Ok.ensures.reads es) e.true_to_digests.0 (λ trust. c.in-Ok.ensures.intact) (λ trust. c.in-Ok.ensures.kept) (λ trust. e.used) c.self.invariant))
 
 pub returns-in-Ok-push-clause-booted : goal.returns-in-Ok-push-clause-booted
 returns-in-Ok-push-clause-booted g c = λ t.
@@ -42,4 +42,4 @@ returns-in-Ok-push-clause-booted g c = λ t.
       size = ap (λ (h : GuestIs). length h.bus.pages) guest ∙ at.size;
       beside = λ p away. ap (λ (h : GuestIs). page_at h.bus.pages p) guest ∙ at.beside p away;
     } in
-    subst (λ (u : TenantIs). IsBooted c.args.image.value c.args.pages c.args.shares c.args.minimum c.args.log_runs u) (sym (ap (λ (l : List TenantIs). get_or l (length c.args.self.tenants) t) c.in-Ok-push.ensures.items ∙ last_tenant c.args.self.tenants c.self.inside.tenants.items c.new.result t (tenants_of (record { tenants = c.self.inside.tenants.items; pool = c.self.inside.pool; slots = c.self.inside.slots; shares = c.self.inside.shares; store = c.self.inside.store; frames = c.self.inside.frames; level = c.self.inside.level }) c.args.self c.self.view_is))) booted
+    subst (λ (u : TenantIs). IsBooted c.args.image.value c.args.pages c.args.shares c.args.minimum c.args.log_runs u) (sym (ap (λ (l : List TenantIs). get_or l (length c.args.self.tenants) t) c.in-Ok-push.ensures.items ∙ last_tenant c.args.self.tenants c.self.inside.tenants.items c.new.result t (tenants_of c.self.view_is))) booted

@@ -1,16 +1,10 @@
-use Rattle.world.proofs.Admitting.{limits_stay, blocked_stay}
 use Rattle.std.proofs.Common.{arith}
-use Rattle.world.proofs.Worlds.{input_logs, same_boots}
+use Rattle.world.proofs.Admitting.{guests_stay}
+use Rattle.world.proofs.Worlds.{input_logs}
 use Rattle.world.proofs.world.World.apply_input.Goals as goal
 
 pub returns-then-g-count-clause-logs : goal.returns-then-g-count-clause-logs
 returns-then-g-count-clause-logs g c = input_logs c.args.g c.args.self.now.tenants c.input.new.self.tenants c.args.item c.input.result (omega (arith, c.if-g-count.true, c.count.ensures)) c.input.ensures.adds c.input.ensures.unchanged
 
-pub returns-then-g-count-clause-boots : goal.returns-then-g-count-clause-boots
-returns-then-g-count-clause-boots g c = same_boots c.args.g c.args.self.now.tenants c.input.new.self.tenants (omega (arith, c.if-g-count.true, c.count.ensures)) c.input.ensures.stays
-
-pub returns-then-g-count-clause-limits : goal.returns-then-g-count-clause-limits
-returns-then-g-count-clause-limits g c = limits_stay c.args.g c.args.self.now.tenants c.input.new.self.tenants (omega (arith, c.if-g-count.true, c.count.ensures)) c.input.ensures.stays
-
-pub returns-then-g-count-clause-blocked : goal.returns-then-g-count-clause-blocked
-returns-then-g-count-clause-blocked g c = blocked_stay c.args.g c.args.self.now.tenants c.input.new.self.tenants (omega (arith, c.if-g-count.true, c.count.ensures)) c.input.ensures.stays
+pub returns-then-g-count-clause-guests : goal.returns-then-g-count-clause-guests
+returns-then-g-count-clause-guests g c = guests_stay c.input.ensures.stays (omega (arith, c.if-g-count.true, c.count.ensures))

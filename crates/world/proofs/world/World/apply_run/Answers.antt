@@ -5,7 +5,7 @@ use Rattle.world.proofs.world.World.apply_run.Goals as goal
 pub returns-clause-answered : goal.returns-clause-answered
 returns-clause-answered g c =
     let e = c.run_steps.ensures in
-    λ tax t. (
+    λ t. (
       record {
         most = e.most;
         done = e.done;

@@ -1,16 +1,10 @@
-use Rattle.world.proofs.Admitting.{limits_one, blocked_one}
 use Rattle.std.proofs.Common.{arith}
-use Rattle.world.proofs.Worlds.{moved_logs, moved_boots}
+use Rattle.world.proofs.Admitting.{guests_one}
+use Rattle.world.proofs.Victims.{moved_logs}
 use Rattle.world.proofs.world.World.apply_supply.Goals as goal
 
 pub returns-clause-logs : goal.returns-clause-logs
-returns-clause-logs g c = moved_logs c.args.g c.args.self.now.tenants c.supply.new.self.tenants (omega (arith, c.if-g-count.false, c.count.ensures)) c.supply.ensures.moves
+returns-clause-logs g c = moved_logs c.supply.ensures.moves (omega (arith, c.if-g-count.false, c.count.ensures))
 
-pub returns-clause-boots : goal.returns-clause-boots
-returns-clause-boots g c = moved_boots c.args.g c.args.self.now.tenants c.supply.new.self.tenants (omega (arith, c.if-g-count.false, c.count.ensures)) c.supply.ensures.moves
-
-pub returns-clause-limits : goal.returns-clause-limits
-returns-clause-limits g c = limits_one c.args.g c.args.self.now.tenants c.supply.new.self.tenants (omega (arith, c.if-g-count.false, c.count.ensures)) c.supply.ensures.moves
-
-pub returns-clause-blocked : goal.returns-clause-blocked
-returns-clause-blocked g c = blocked_one c.args.g c.args.self.now.tenants c.supply.new.self.tenants (omega (arith, c.if-g-count.false, c.count.ensures)) c.supply.ensures.moves
+pub returns-clause-guests : goal.returns-clause-guests
+returns-clause-guests g c = guests_one c.supply.ensures.moves (omega (arith, c.if-g-count.false, c.count.ensures))

@@ -1,4 +1,4 @@
-use Rattle.world.proofs.Admitting.{limits_then, limits_move, blocked_move}
+use Rattle.world.proofs.Admitting.{guests_then, guests_move}
 use Rattle.std.proofs.Common.{ℕ, true, ◌≡◌, ◌++◌, List, get_or, length, refl, sym, ap, subst, ◌∙◌, arith}
 use Rattle.std.proofs.lemmas.Result.{on_ok_weaker}
 use Rattle.items.specs.declared.item.Item.{Item}
@@ -14,14 +14,12 @@ use Rattle.world.specs.Debugging.{written_items}
 use Rattle.tenant.specs.Tenants.{TenantIs}
 use Rattle.world.proofs.Reached.{ok_not}
 use Rattle.world.proofs.Runs.{fault_stays, moved_room, moved_same}
-use Rattle.world.proofs.Victims.{fault_logs, fault_boots}
+use Rattle.world.proofs.Victims.{fault_logs}
+use Rattle.world.proofs.Worlds.{around_then, around_books, books_same}
 use Rattle.world.proofs.world.World.debug_write.Goals as goal
 
 pub returns-in-Err-clause-logs : goal.returns-in-Err-clause-logs
-returns-in-Err-clause-logs g c = fault_logs c.args.self.now.tenants c.reach.new.self.tenants c.reach.ensures.moves
-
-pub returns-in-Err-clause-boots : goal.returns-in-Err-clause-boots
-returns-in-Err-clause-boots g c = fault_boots c.args.self.now.tenants c.reach.new.self.tenants c.reach.ensures.moves
+returns-in-Err-clause-logs g c = fault_logs c.reach.ensures.moves
 
 pub write-requires-clause-there : goal.write-requires-clause-there
 write-requires-clause-there g c = λ t q some.
@@ -31,10 +29,7 @@ write-requires-clause-there g c = λ t q some.
 pub returns-in-Ok-clause-logs : goal.returns-in-Ok-clause-logs
 returns-in-Ok-clause-logs g c = λ h.
     let own = written_items h c.args.g c.args.address c.args.bytes.items c.write.result in
-    c.write.ensures.logs h ∙ ap (λ (xs : List Item). xs ++ own) (fault_stays c.args.self.now.tenants c.reach.new.self.tenants c.reach.ensures.moves h)
-
-pub returns-in-Ok-clause-boots : goal.returns-in-Ok-clause-boots
-returns-in-Ok-clause-boots g c = c.write.ensures.boots ∙ fault_boots c.args.self.now.tenants c.reach.new.self.tenants c.reach.ensures.moves
+    c.write.ensures.logs h ∙ ap (λ (xs : List Item). xs ++ own) (fault_stays c.reach.ensures.moves h)
 
 pub returns-in-Ok-clause-full : goal.returns-in-Ok-clause-full
 returns-in-Ok-clause-full g c = λ is t.
@@ -48,19 +43,6 @@ returns-in-Ok-clause-room g c =
     (c.write.ensures.full full.0).1 (subst IsFull (sym (moved_same (λ u. u.guest.log) (λ u. refl) ts mid c.args.g full.0 c.requires.guest c.reach.ensures.moves)) full.1)) in
     on_ok_weaker c.write.result (λ f t full. f (t, full)) none
 
-pub returns-in-Err-clause-limits : goal.returns-in-Err-clause-limits
-returns-in-Err-clause-limits g c = limits_move c.args.self.now.tenants c.reach.new.self.tenants c.reach.ensures.moves
-
-pub returns-in-Err-clause-blocked : goal.returns-in-Err-clause-blocked
-returns-in-Err-clause-blocked g c = blocked_move c.args.self.now.tenants c.reach.new.self.tenants c.reach.ensures.moves
-
-pub returns-in-Ok-clause-limits : goal.returns-in-Ok-clause-limits
-returns-in-Ok-clause-limits g c =
-    limits_then c.args.self.now.tenants c.reach.new.self.tenants c.write.new.self.tenants (limits_move c.args.self.now.tenants c.reach.new.self.tenants c.reach.ensures.moves) c.write.ensures.limits
-
-pub returns-in-Ok-clause-blocked : goal.returns-in-Ok-clause-blocked
-returns-in-Ok-clause-blocked g c = c.write.ensures.blocked ∙ blocked_move c.args.self.now.tenants c.reach.new.self.tenants c.reach.ensures.moves
-
 pub returns-in-Ok-clause-accepted : goal.returns-in-Ok-clause-accepted
 returns-in-Ok-clause-accepted g c =
     let ts = c.args.self.now.tenants in
@@ -68,4 +50,13 @@ returns-in-Ok-clause-accepted g c =
     on_ok_weaker c.write.result (λ accepted trust t.
     subst (λ (m : Machine). accepts (Write c.args.address c.args.bytes.items) m ≡ true)
     (moved_same (λ u. view_of u.guest) (λ u. refl) ts mid c.args.g t c.requires.guest c.reach.ensures.moves)
-    (accepted (c.reach.ensures.true_to_digests.1 trust) t)) c.write.ensures.accepted
+    (accepted (c.reach.ensures.around.store.true_to_digests.1 trust) t)) c.write.ensures.accepted
+
+pub returns-in-Err-clause-guests : goal.returns-in-Err-clause-guests
+returns-in-Err-clause-guests g c = guests_move c.reach.ensures.moves
+
+pub returns-in-Ok-clause-guests : goal.returns-in-Ok-clause-guests
+returns-in-Ok-clause-guests g c = guests_then (guests_move c.reach.ensures.moves) c.write.ensures.guests
+
+pub returns-in-Ok-clause-around : goal.returns-in-Ok-clause-around
+returns-in-Ok-clause-around g c = around_then c.reach.ensures.around (around_books (books_same c.write.ensures.around))

@@ -1,26 +1,26 @@
-use Rattle.world.proofs.Admitting.{still_admitted, limits_move, fault_room}
-use Rattle.std.proofs.Common.{ℕ, ◌≡◌, ◌<◌, inr, get_or, length, sym, subst, ◌∙◌}
+use Rattle.world.proofs.Admitting.{still_admitted, guests_move, fault_room}
+use Rattle.std.proofs.Common.{ℕ, ◌≡◌, ◌<◌, inr, Option, List, get_or, length, sym, subst, ◌∙◌}
 use Rattle.std.proofs.lemmas.Result.{on_ok_weaker}
-use Rattle.mips_step.specs.Accesses.{accesses, first_lack}
-use Rattle.paged_bus.specs.Lacking.{lacks_in}
-use Rattle.guest.specs.Guests.{view_of}
+use Rattle.frames.specs.FreeList.{FreeList}
+use Rattle.mips_step.specs.declared.access.Why.{Why}
+use Rattle.sharetab.specs.Entries.{EntriesAre}
 use Rattle.physmap.specs.declared.page.PageKind.TheVariants.{Private}
 use Rattle.physmap.specs.Pages.{kind_at}
-use Rattle.tenant.specs.Tenants.{TenantIs, pages_in}
+use Rattle.tenant.specs.Tenants.{TenantIs, pages_in, IsKept}
+use Rattle.world.specs.Worlds.{Sound, needed_by}
 use Rattle.world.proofs.Victims.{some_none, first_of}
 use Rattle.world.proofs.Worlds.{kept_of}
 use Rattle.world.proofs.world.World.fault.Goals as goal
 
+-- what a guest of a world needs, where the store is trusted
+its_need : {frames slots : ℕ} {trusted : Type 0} {held : ℕ → Option (List ℕ)} {ts : List TenantIs} {pool book : FreeList} {es : EntriesAre} {g : ℕ} {t : TenantIs} (needed : Option (ℕ × Why))
+    → Sound frames slots trusted held ts pool book es → g < length ts → ((d : TenantIs) → t ≡ get_or ts g d) → ((held : ℕ → Option (List ℕ)) → IsKept held t → needed ≡ needed_by t)
+    → trusted → (d : TenantIs) → needed ≡ needed_by (get_or ts g d)
+its_need {held = held} {t = t} needed s inside at need trust d = subst (λ (u : TenantIs). needed ≡ needed_by u) (at d) (need held (kept_of s inside (at t) trust))
+
 pub returns-in_default-clause-supplied : goal.returns-in_default-clause-supplied
 returns-in_default-clause-supplied g c = λ trust t p why some.
-    let w = c.args.self.now in
-    let ts = w.tenants in
-    let tenant = c.guest.result.now in
-    let kept = kept_of w.frames (g.S.SwapStore.slots w.store) (g.S.SwapStore.true_to_digests w.store) (g.S.SwapStore.held w.store) ts c.args.g tenant w.pool w.slots w.shares.entries
-    c.requires (c.guest.ensures tenant) trust c.is_sound.ensures in
-    let need : c.need.result ≡ first_lack (lacks_in (pages_in (get_or ts c.args.g t))) (accesses (view_of (get_or ts c.args.g t).guest)) =
-    subst (λ (u : TenantIs). c.need.result ≡ first_lack (lacks_in (pages_in u)) (accesses (view_of u.guest))) (c.guest.ensures t) (c.need.ensures.need (g.S.SwapStore.held w.store) kept) in
-    absurd (some_none (p, why) (sym some ∙ sym need ∙ c.in_default.is))
+    absurd (some_none (p, why) (sym some ∙ sym (its_need c.need.result c.is_sound.ensures c.requires c.guest.ensures c.need.ensures.need trust t) ∙ c.in_default.is))
 
 pub supply_sparing-answer-requires-clause-page : goal.supply_sparing-answer-requires-clause-page
 supply_sparing-answer-requires-clause-page g c = λ t. subst (λ (u : TenantIs). c.in-Some.needed.0 < length (pages_in u)) (c.guest.ensures t) c.in-Some.ensures.there
@@ -28,29 +28,15 @@ supply_sparing-answer-requires-clause-page g c = λ t. subst (λ (u : TenantIs).
 pub returns-clause-supplied : goal.returns-clause-supplied
 returns-clause-supplied g c =
     on_ok_weaker c.supply_sparing-answer.result (λ private trust t p why some.
-    let w = c.args.self.now in
-    let ts = w.tenants in
-    let tenant = c.guest.result.now in
-    let kept = kept_of w.frames (g.S.SwapStore.slots w.store) (g.S.SwapStore.true_to_digests w.store) (g.S.SwapStore.held w.store) ts c.args.g tenant w.pool w.slots w.shares.entries
-    c.requires (c.guest.ensures tenant) trust c.is_sound.ensures in
-    let need : c.need.result ≡ first_lack (lacks_in (pages_in (get_or ts c.args.g t))) (accesses (view_of (get_or ts c.args.g t).guest)) =
-    subst (λ (u : TenantIs). c.need.result ≡ first_lack (lacks_in (pages_in u)) (accesses (view_of u.guest))) (c.guest.ensures t) (c.need.ensures.need (g.S.SwapStore.held w.store) kept) in
     subst (λ (q : ℕ). kind_at (pages_in (get_or c.supply_sparing-answer.new.self.tenants c.args.g t)) q ≡ Private)
-    (first_of c.in-Some.needed p why (sym c.in-Some.is ∙ need ∙ some)) (private t)) c.supply_sparing-answer.ensures.private
+    (first_of c.in-Some.needed p why (sym c.in-Some.is ∙ its_need c.need.result c.is_sound.ensures c.requires c.guest.ensures c.need.ensures.need trust t ∙ some)) (private t))
+    c.supply_sparing-answer.ensures.private
 
 pub returns-clause-chosen : goal.returns-clause-chosen
 returns-clause-chosen g c =
     inr (record {
       p = c.in-Some.needed.0;
-      needed = λ trust t.
-          let w = c.args.self.now in
-          let ts = w.tenants in
-          let tenant = c.guest.result.now in
-          let kept = kept_of w.frames (g.S.SwapStore.slots w.store) (g.S.SwapStore.true_to_digests w.store) (g.S.SwapStore.held w.store) ts c.args.g tenant w.pool w.slots w.shares.entries
-          c.requires (c.guest.ensures tenant) trust c.is_sound.ensures in
-          let need : c.need.result ≡ first_lack (lacks_in (pages_in (get_or ts c.args.g t))) (accesses (view_of (get_or ts c.args.g t).guest)) =
-          subst (λ (u : TenantIs). c.need.result ≡ first_lack (lacks_in (pages_in u)) (accesses (view_of u.guest))) (c.guest.ensures t) (c.need.ensures.need (g.S.SwapStore.held w.store) kept) in
-          (c.in-Some.needed.1, sym need ∙ c.in-Some.is);
+      needed = λ trust t. (c.in-Some.needed.1, sym (its_need c.need.result c.is_sound.ensures c.requires c.guest.ensures c.need.ensures.need trust t) ∙ c.in-Some.is);
       supplied = c.supply_sparing-answer.ensures.chosen;
     })
 
@@ -59,15 +45,7 @@ returns-clause-met g c =
     on_ok_weaker c.supply_sparing-answer.result (λ private. inr (record {
       its = record {
         p = c.in-Some.needed.0;
-        needed = λ trust t.
-            let w = c.args.self.now in
-            let ts = w.tenants in
-            let tenant = c.guest.result.now in
-            let kept = kept_of w.frames (g.S.SwapStore.slots w.store) (g.S.SwapStore.true_to_digests w.store) (g.S.SwapStore.held w.store) ts c.args.g tenant w.pool w.slots w.shares.entries
-            c.requires (c.guest.ensures tenant) trust c.is_sound.ensures in
-            let need : c.need.result ≡ first_lack (lacks_in (pages_in (get_or ts c.args.g t))) (accesses (view_of (get_or ts c.args.g t).guest)) =
-            subst (λ (u : TenantIs). c.need.result ≡ first_lack (lacks_in (pages_in u)) (accesses (view_of u.guest))) (c.guest.ensures t) (c.need.ensures.need (g.S.SwapStore.held w.store) kept) in
-            (c.in-Some.needed.1, sym need ∙ c.in-Some.is);
+        needed = λ trust t. (c.in-Some.needed.1, sym (its_need c.need.result c.is_sound.ensures c.requires c.guest.ensures c.need.ensures.need trust t) ∙ c.in-Some.is);
         supplied = c.supply_sparing-answer.ensures.chosen;
       };
       private = private;
@@ -75,20 +53,11 @@ returns-clause-met g c =
 
 pub returns-clause-nothing : goal.returns-clause-nothing
 returns-clause-nothing g c = λ trust t none.
-    let w = c.args.self.now in
-    let ts = w.tenants in
-    let tenant = c.guest.result.now in
-    let kept = kept_of w.frames (g.S.SwapStore.slots w.store) (g.S.SwapStore.true_to_digests w.store) (g.S.SwapStore.held w.store) ts c.args.g tenant w.pool w.slots w.shares.entries
-    c.requires (c.guest.ensures tenant) trust c.is_sound.ensures in
-    let need : c.need.result ≡ first_lack (lacks_in (pages_in (get_or ts c.args.g t))) (accesses (view_of (get_or ts c.args.g t).guest)) =
-    subst (λ (u : TenantIs). c.need.result ≡ first_lack (lacks_in (pages_in u)) (accesses (view_of u.guest))) (c.guest.ensures t) (c.need.ensures.need (g.S.SwapStore.held w.store) kept) in
-    absurd (some_none c.in-Some.needed (sym c.in-Some.is ∙ need ∙ none))
+    absurd (some_none c.in-Some.needed (sym c.in-Some.is ∙ its_need c.need.result c.is_sound.ensures c.requires c.guest.ensures c.need.ensures.need trust t ∙ none))
 
 pub returns-clause-room : goal.returns-clause-room
 returns-clause-room g c = λ admitted.
     let s = g.S.SwapStore in
-    let w = c.args.self.now in
-    let w' = c.supply_sparing-answer.new.self in
     let e = c.supply_sparing-answer.ensures in
-    fault_room s.true_to_digests s.failed s.honest s.slots s.held w w' c.supply_sparing-answer.result e.err c.is_sound-2.ensures c.shared_frames_are_named.ensures
-    (still_admitted w.frames (s.slots w.store) w'.frames (s.slots w'.store) w.tenants w'.tenants e.frames e.slots (limits_move w.tenants w'.tenants e.moves) admitted)
+    fault_room s.true_to_digests s.failed s.honest s.slots s.held c.args.self.now c.supply_sparing-answer.new.self c.supply_sparing-answer.result e.err c.is_sound-2.ensures c.shared_frames_are_named.ensures
+    (still_admitted e.around.frames e.around.store.slots (guests_move e.moves).limits admitted)

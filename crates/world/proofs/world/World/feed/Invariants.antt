@@ -1,7 +1,7 @@
 use Rattle.std.proofs.Common.{◌≡◌, ℕ, ◌<◌, ◌++◌, length, take}
 use Rattle.tenant.specs.Tenants.{Stays}
 use Rattle.world.specs.Events.{inputs_for}
-use Rattle.world.specs.Worlds.{Changes, log_at}
+use Rattle.world.specs.Worlds.{Changes, SameAround, log_at}
 use Rattle.world.proofs.world.World.feed.Given as goal
 
 -- the log has the bytes so far
@@ -10,7 +10,5 @@ invariant-loop-count g l = record {
   inside : l.g < length l.self.tenants;
   logs : (h : ℕ) → log_at l.self.tenants h ≡ log_at l.fn.self.tenants h ++ inputs_for h l.g (take l.count l.bytes);
   stays : Changes Stays l.g l.fn.self.tenants l.self.tenants;
-  store : l.self.store ≡ l.fn.self.store;
-  frames : l.self.frames ≡ l.fn.self.frames;
-  level : l.self.level ≡ l.fn.self.level;
+  around : SameAround l.fn.self l.self;
 }

@@ -37,10 +37,8 @@ pub returns-clause-turn : goal.returns-clause-turn
 returns-clause-turn g c =
     let w = c.self.inside in
     let now = c.args.self.now in
-    let seen : WorldIs _ = record { tenants = w.tenants.items; pool = w.pool; slots = w.slots; shares = w.shares; store = w.store; frames = w.frames; level = w.level } in
-    let is : seen ≡ now = c.self.view_is in
-    let frames : w.frames ≡ now.frames = ap (λ (x : WorldIs _). x.frames) is in
-    let level : w.level ≡ now.level = ap (λ (x : WorldIs _). x.level) is in
+    let frames : w.frames ≡ now.frames = ap (λ (x : WorldIs _). x.frames) c.self.view_is in
+    let level : w.level ≡ now.level = ap (λ (x : WorldIs _). x.level) c.self.view_is in
     let plan = c.in_ok-plan.plan in
     let tax = c.args.tax.percent in
     let new = c.swap_out_each.new.self in
@@ -59,7 +57,7 @@ returns-clause-turn g c =
     turn_of tax (failed new.store ≡ one_more (failed now.store)) now new (record { level = plan.level; aims = c.in_ok-aims.aims; refused = c.err-refused.result }) mid c.swap_out_each.result
     (c.in_ok-plan.ensures.level ∙ ap (λ (n : ℕ). next_level_of n w.frames w.level) c.free.ensures ∙ ap (λ (n : ℕ). next_level_of (length now.pool.free) n w.level) frames
     ∙ ap (λ (l : Level). next_level_of (length now.pool.free) now.frames l) level)
-    (e.level ∙ ap (λ (x : WorldIs _). x.level) c.set_level.ensures)
+    (e.around.level ∙ ap (λ (x : WorldIs _). x.level) c.set_level.ensures)
     c.err-refused.ensures.value
     (each_target tax now.frames (map stat_of now.tenants) c.args.tax.below)
     turned

@@ -3,11 +3,11 @@ use Rattle.std.proofs.lemmas.List.{nil_from_length}
 use Rattle.world.specs.Choices.{moment_of}
 use Rattle.world.proofs.Choices.{booked_where, one_more_evicted}
 use Rattle.world.proofs.Victims.{pages_then, spared_then}
+use Rattle.world.proofs.Worlds.{around_then}
 use Rattle.world.proofs.world.World.make_room.Goals as goal
 
 pub loop-alloc-preserved : goal.loop-alloc-preserved
 loop-alloc-preserved g c =
-    let s = g.S.SwapStore in
     let w = c.args.self.now in
     let at = c.loop-alloc.invariant in
     let mid = c.loop-alloc.self in
@@ -17,20 +17,13 @@ loop-alloc-preserved g c =
     record {
       moves = pages_then w.tenants mid.tenants w'.tenants at.moves e.moves;
       spared = spared_then c.args.spared.now w.tenants mid.tenants w'.tenants at.spared e.spared;
-      evicted = one_more_evicted w.frames (s.slots w.store) c.args.tax.percent c.args.spared.now
-          (moment_of (g.R.Rng.stream c.args.rng.now) w) (moment_of (g.R.Rng.stream c.loop-alloc.rng) mid) (moment_of (g.R.Rng.stream c.evict_sparing.new.rng) w')
-          at.evicted
+      evicted = one_more_evicted at.evicted
           (record {
             full = nil_from_length mid.pool.free (omega (arith, c.free.ensures, c.loop-alloc-test.true));
             policy = ok.policy;
             rest = ok.rest;
-            booked = booked_where w.frames w'.frames (s.slots w.store) (s.slots w'.store) (moment_of (g.R.Rng.stream c.evict_sparing.new.rng) w') (e.frames ∙ at.frames) (e.slots ∙ at.slots) c.is_sound.ensures.books;
+            booked = booked_where (around_then at.around e.around) (moment_of (g.R.Rng.stream c.evict_sparing.new.rng) w') c.is_sound.ensures.books;
           });
       failed = ok.no_failure ∙ at.failed;
-      hints = e.hints ∙ at.hints;
-      frames = e.frames ∙ at.frames;
-      level = e.level ∙ at.level;
-      slots = e.slots ∙ at.slots;
-      honest = (λ now. at.honest.0 (e.honest.0 now), λ before. e.honest.1 (at.honest.1 before));
-      trust = (λ now. at.trust.0 (e.true_to_digests.0 now), λ before. e.true_to_digests.1 (at.trust.1 before));
+      around = around_then at.around e.around;
     }

@@ -1,13 +1,13 @@
-use Rattle.std.proofs.Common.{◌≡◌, ◌⊎◌, ◌↔◌, inr, true, false, None, get_or, refl, sym, ap, subst, ◌∙◌}
+use Rattle.std.proofs.Common.{◌≡◌, ◌⊎◌, ◌↔◌, inr, true, false, None, get_or, refl, sym, subst}
 use Rattle.flatvm.specs.Replies.{bytes_at, SomePlaceIn}
 use Rattle.guest.specs.Guests.{GuestIs, standing, without_pages, IsSized}
 use Rattle.guest.proofs.Placing.{view_none, moved_none, moved_places}
 use Rattle.physmap.specs.Pages.{page_at}
-use Rattle.tenant.specs.Tenants.{TenantIs, pages_in, IsKept}
+use Rattle.tenant.specs.Tenants.{pages_in}
 use Rattle.world.proofs.Reached.{ready_unwanted}
 use Rattle.world.proofs.Runs.{moved_same}
 use Rattle.world.proofs.Victims.{same_pages}
-use Rattle.world.proofs.Worlds.{kept_of}
+use Rattle.world.proofs.Worlds.{guest_of, kept_at}
 use Rattle.world.proofs.world.World.reach.Goals as goal
 
 no_true : true ≡ false → ⊥
@@ -15,90 +15,65 @@ no_true e = cc
 
 pub returns-in_default-clause-no_place : goal.returns-in_default-clause-no_place
 returns-in_default-clause-no_place g c = λ trust t.
-    let w = c.args.self.now in
-    let ts = w.tenants in
-    let tenant = c.guest.result.now in
-    let held = g.S.SwapStore.held w.store in
-    let kept : IsKept held (get_or ts c.args.g t) =
-    subst (IsKept held) (c.guest.ensures t)
-    (kept_of w.frames (g.S.SwapStore.slots w.store) (g.S.SwapStore.true_to_digests w.store) held ts c.args.g tenant w.pool w.slots w.shares.entries c.requires.guest (c.guest.ensures tenant) trust c.is_sound.ensures) in
-    let sized : IsSized (get_or ts c.args.g t).guest = subst IsSized (c.guest-2.ensures ∙ ap (λ (u : TenantIs). u.guest) (c.guest.ensures t)) c.is_sized.ensures in
-    let none = subst (λ (x : GuestIs). bytes_at (standing x) c.args.address c.args.count ≡ None) (c.guest-4.ensures ∙ ap (λ (u : TenantIs). u.guest) (c.guest-3.ensures t)) (c.in_default.ensures.none.0 refl) in (
-      λ e. (view_none (get_or ts c.args.g t).guest c.args.address c.args.count kept.intact sized).0 none,
-      λ e. refl,
-    )
+    let u = get_or c.args.self.now.tenants c.args.g t in
+    let seen = view_none u.guest c.args.address c.args.count (kept_at c.is_sound.ensures c.requires.guest c.guest.ensures trust t).intact
+    (subst IsSized (guest_of c.args.self.now.tenants c.args.g c.guest-2.ensures c.guest.ensures t) c.is_sized.ensures) in
+    (λ e. seen.0 (subst (λ (x : GuestIs). bytes_at (standing x) c.args.address c.args.count ≡ None) (guest_of c.args.self.now.tenants c.args.g c.guest-4.ensures c.guest-3.ensures t) (c.in_default.ensures.none.0 refl)), λ e. refl)
 
 pub returns-in-Ok-clause-no_place : goal.returns-in-Ok-clause-no_place
 returns-in-Ok-clause-no_place g c = λ trust t.
-    let w = c.args.self.now in
-    let ts = w.tenants in
-    let tenant = c.guest.result.now in
-    let held = g.S.SwapStore.held w.store in
-    let kept : IsKept held (get_or ts c.args.g t) =
-    subst (IsKept held) (c.guest.ensures t)
-    (kept_of w.frames (g.S.SwapStore.slots w.store) (g.S.SwapStore.true_to_digests w.store) held ts c.args.g tenant w.pool w.slots w.shares.entries c.requires.guest (c.guest.ensures tenant) trust c.is_sound.ensures) in
-    let sized : IsSized (get_or ts c.args.g t).guest = subst IsSized (c.guest-2.ensures ∙ ap (λ (u : TenantIs). u.guest) (c.guest.ensures t)) c.is_sized.ensures in (
+    let u = get_or c.args.self.now.tenants c.args.g t in
+    let seen = view_none u.guest c.args.address c.args.count (kept_at c.is_sound.ensures c.requires.guest c.guest.ensures trust t).intact
+    (subst IsSized (guest_of c.args.self.now.tenants c.args.g c.guest-2.ensures c.guest.ensures t) c.is_sized.ensures) in (
       λ e. absurd (cc),
-      λ none.
-          let stands = (view_none (get_or ts c.args.g t).guest c.args.address c.args.count kept.intact sized).1 none in
-          absurd
+      λ none. absurd
           (no_true
-          (c.in-Some.ensures.none.1
-          (subst (λ (x : GuestIs). bytes_at (standing x) c.args.address c.args.count ≡ None) (sym (c.guest-4.ensures ∙ ap (λ (u : TenantIs). u.guest) (c.guest-3.ensures t))) stands))),
+          (c.in-Some.ensures.none.1 (subst (λ (x : GuestIs). bytes_at (standing x) c.args.address c.args.count ≡ None) (sym (guest_of c.args.self.now.tenants c.args.g c.guest-4.ensures c.guest-3.ensures t)) (seen.1 none)))),
     )
 
 pub returns-in-Err-clause-no_place : goal.returns-in-Err-clause-no_place
 returns-in-Err-clause-no_place g c = λ trust t.
-    let w = c.args.self.now in
-    let ts = w.tenants in
-    let tenant = c.guest.result.now in
-    let held = g.S.SwapStore.held w.store in
-    let kept : IsKept held (get_or ts c.args.g t) =
-    subst (IsKept held) (c.guest.ensures t)
-    (kept_of w.frames (g.S.SwapStore.slots w.store) (g.S.SwapStore.true_to_digests w.store) held ts c.args.g tenant w.pool w.slots w.shares.entries c.requires.guest (c.guest.ensures tenant) trust c.is_sound.ensures) in
-    let sized : IsSized (get_or ts c.args.g t).guest = subst IsSized (c.guest-2.ensures ∙ ap (λ (u : TenantIs). u.guest) (c.guest.ensures t)) c.is_sized.ensures in (
+    let u = get_or c.args.self.now.tenants c.args.g t in
+    let seen = view_none u.guest c.args.address c.args.count (kept_at c.is_sound.ensures c.requires.guest c.guest.ensures trust t).intact
+    (subst IsSized (guest_of c.args.self.now.tenants c.args.g c.guest-2.ensures c.guest.ensures t) c.is_sized.ensures) in (
       λ e. absurd (cc),
-      λ none.
-          let stands = (view_none (get_or ts c.args.g t).guest c.args.address c.args.count kept.intact sized).1 none in
-          absurd
+      λ none. absurd
           (no_true
-          (c.in-Some.ensures.none.1
-          (subst (λ (x : GuestIs). bytes_at (standing x) c.args.address c.args.count ≡ None) (sym (c.guest-4.ensures ∙ ap (λ (u : TenantIs). u.guest) (c.guest-3.ensures t))) stands))),
+          (c.in-Some.ensures.none.1 (subst (λ (x : GuestIs). bytes_at (standing x) c.args.address c.args.count ≡ None) (sym (guest_of c.args.self.now.tenants c.args.g c.guest-4.ensures c.guest-3.ensures t)) (seen.1 none)))),
     )
 
 pub returns-in-Ok-clause-placed : goal.returns-in-Ok-clause-placed
 returns-in-Ok-clause-placed g c = λ t none.
     let ts = c.args.self.now.tenants in
     let new = c.supply_reached.new.self.tenants in
-    let sized : IsSized (get_or ts c.args.g t).guest = subst IsSized (c.guest-2.ensures ∙ ap (λ (u : TenantIs). u.guest) (c.guest.ensures t)) c.is_sized.ensures in
-    let sized' : IsSized (get_or new c.args.g t).guest = subst IsSized (c.guest-in-Ok-2.ensures ∙ ap (λ (u : TenantIs). u.guest) (c.guest-in-Ok.ensures t)) c.is_sized-in-Ok.ensures in
+    let sized = subst IsSized (guest_of c.args.self.now.tenants c.args.g c.guest-2.ensures c.guest.ensures t) c.is_sized.ensures in
+    let sized' = subst IsSized (guest_of c.supply_reached.new.self.tenants c.args.g c.guest-in-Ok-2.ensures c.guest-in-Ok.ensures t) c.is_sized-in-Ok.ensures in
     let rest = moved_same (λ u. without_pages u.guest) (λ u. refl) ts new c.args.g t c.requires.guest c.supply_reached.ensures.moves in
     let stands = moved_none (get_or ts c.args.g t).guest (get_or new c.args.g t).guest c.args.address c.args.count rest (same_pages ts new c.args.g t c.requires.guest c.supply_reached.ensures.moves) sized sized' none in
-    no_true
-    (c.in-Some.ensures.none.1 (subst (λ (x : GuestIs). bytes_at (standing x) c.args.address c.args.count ≡ None) (sym (c.guest-4.ensures ∙ ap (λ (u : TenantIs). u.guest) (c.guest-3.ensures t))) stands))
+    no_true (c.in-Some.ensures.none.1 (subst (λ (x : GuestIs). bytes_at (standing x) c.args.address c.args.count ≡ None) (sym (guest_of c.args.self.now.tenants c.args.g c.guest-4.ensures c.guest-3.ensures t)) stands))
 
 pub returns-in-Ok-clause-there : goal.returns-in-Ok-clause-there
 returns-in-Ok-clause-there g c = λ t q some.
     let ts = c.args.self.now.tenants in
     let new = c.supply_reached.new.self.tenants in
-    let sized : IsSized (get_or ts c.args.g t).guest = subst IsSized (c.guest-2.ensures ∙ ap (λ (u : TenantIs). u.guest) (c.guest.ensures t)) c.is_sized.ensures in
-    let sized' : IsSized (get_or new c.args.g t).guest = subst IsSized (c.guest-in-Ok-2.ensures ∙ ap (λ (u : TenantIs). u.guest) (c.guest-in-Ok.ensures t)) c.is_sized-in-Ok.ensures in
+    let sized = subst IsSized (guest_of c.args.self.now.tenants c.args.g c.guest-2.ensures c.guest.ensures t) c.is_sized.ensures in
+    let sized' = subst IsSized (guest_of c.supply_reached.new.self.tenants c.args.g c.guest-in-Ok-2.ensures c.guest-in-Ok.ensures t) c.is_sized-in-Ok.ensures in
     let rest = moved_same (λ u. without_pages u.guest) (λ u. refl) ts new c.args.g t c.requires.guest c.supply_reached.ensures.moves in
     let before = moved_places (get_or ts c.args.g t).guest (get_or new c.args.g t).guest c.args.address c.args.count q rest (same_pages ts new c.args.g t c.requires.guest c.supply_reached.ensures.moves) sized sized' some in
-    let which = (c.in-Some.ensures.reached q).0 (subst (λ (x : GuestIs). SomePlaceIn (standing x) c.args.address c.args.count q) (sym (c.guest-4.ensures ∙ ap (λ (u : TenantIs). u.guest) (c.guest-3.ensures t))) before) in
+    let which = (c.in-Some.ensures.reached q).0 (subst (λ (x : GuestIs). SomePlaceIn (standing x) c.args.address c.args.count q) (sym (guest_of c.args.self.now.tenants c.args.g c.guest-4.ensures c.guest-3.ensures t)) before) in
     ready_unwanted c.args.access (page_at (pages_in (get_or ts c.args.g t)) q) (page_at (pages_in (get_or new c.args.g t)) q) (c.in-Ok.ensures.ready t q which)
 
 pub returns-in-Ok-clause-ready : goal.returns-in-Ok-clause-ready
 returns-in-Ok-clause-ready g c = λ t q some.
-    c.in-Ok.ensures.ready t q ((c.in-Some.ensures.reached q).0 (subst (λ (x : GuestIs). SomePlaceIn (standing x) c.args.address c.args.count q) (sym (c.guest-4.ensures ∙ ap (λ (u : TenantIs). u.guest) (c.guest-3.ensures t))) some))
+    c.in-Ok.ensures.ready t q ((c.in-Some.ensures.reached q).0 (subst (λ (x : GuestIs). SomePlaceIn (standing x) c.args.address c.args.count q) (sym (guest_of c.args.self.now.tenants c.args.g c.guest-4.ensures c.guest-3.ensures t)) some))
 
 pub returns-in-Ok-clause-stays : goal.returns-in-Ok-clause-stays
 returns-in-Ok-clause-stays g c = λ t q some.
-    c.supply_reached.ensures.stays t q ((c.in-Some.ensures.reached q).0 (subst (λ (x : GuestIs). SomePlaceIn (standing x) c.args.address c.args.count q) (sym (c.guest-4.ensures ∙ ap (λ (u : TenantIs). u.guest) (c.guest-3.ensures t))) some))
+    c.supply_reached.ensures.stays t q ((c.in-Some.ensures.reached q).0 (subst (λ (x : GuestIs). SomePlaceIn (standing x) c.args.address c.args.count q) (sym (guest_of c.args.self.now.tenants c.args.g c.guest-4.ensures c.guest-3.ensures t)) some))
 
 pub returns-in-Err-clause-stays : goal.returns-in-Err-clause-stays
 returns-in-Err-clause-stays g c = λ t q some.
-    c.supply_reached.ensures.stays t q ((c.in-Some.ensures.reached q).0 (subst (λ (x : GuestIs). SomePlaceIn (standing x) c.args.address c.args.count q) (sym (c.guest-4.ensures ∙ ap (λ (u : TenantIs). u.guest) (c.guest-3.ensures t))) some))
+    c.supply_reached.ensures.stays t q ((c.in-Some.ensures.reached q).0 (subst (λ (x : GuestIs). SomePlaceIn (standing x) c.args.address c.args.count q) (sym (guest_of c.args.self.now.tenants c.args.g c.guest-4.ensures c.guest-3.ensures t)) some))
 
 pub returns-in-Ok-clause-chosen : goal.returns-in-Ok-clause-chosen
 returns-in-Ok-clause-chosen g c =
@@ -106,8 +81,7 @@ returns-in-Ok-clause-chosen g c =
     inr (record {
       pages = pages;
       these = λ t q.
-          subst (λ (x : GuestIs). SomePlaceIn (standing x) c.args.address c.args.count q ↔ ((q ≡ pages.0) ⊎ (q ≡ pages.1))) (c.guest-4.ensures ∙ ap (λ (u : TenantIs). u.guest) (c.guest-3.ensures t))
-          (c.in-Some.ensures.reached q);
+          subst (λ (x : GuestIs). SomePlaceIn (standing x) c.args.address c.args.count q ↔ ((q ≡ pages.0) ⊎ (q ≡ pages.1))) (guest_of c.args.self.now.tenants c.args.g c.guest-4.ensures c.guest-3.ensures t) (c.in-Some.ensures.reached q);
       reached = c.supply_reached.ensures.chosen;
     })
 
@@ -117,7 +91,6 @@ returns-in-Err-clause-chosen g c =
     inr (record {
       pages = pages;
       these = λ t q.
-          subst (λ (x : GuestIs). SomePlaceIn (standing x) c.args.address c.args.count q ↔ ((q ≡ pages.0) ⊎ (q ≡ pages.1))) (c.guest-4.ensures ∙ ap (λ (u : TenantIs). u.guest) (c.guest-3.ensures t))
-          (c.in-Some.ensures.reached q);
+          subst (λ (x : GuestIs). SomePlaceIn (standing x) c.args.address c.args.count q ↔ ((q ≡ pages.0) ⊎ (q ≡ pages.1))) (guest_of c.args.self.now.tenants c.args.g c.guest-4.ensures c.guest-3.ensures t) (c.in-Some.ensures.reached q);
       reached = c.supply_reached.ensures.chosen;
     })

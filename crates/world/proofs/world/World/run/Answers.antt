@@ -6,7 +6,7 @@ use Rattle.world.specs.Answers.{AllHappen}
 use Rattle.world.specs.Events.{IsProper, own}
 use Rattle.world.specs.Worlds.{log_at}
 use Rattle.world.proofs.Admitting.{limits_then}
-use Rattle.world.proofs.Worlds.{logs_more, all_more}
+use Rattle.world.proofs.Worlds.{logs_more, all_more, store_then}
 use Rattle.world.proofs.world.World.run.Goals as goal
 
 pub loop-event-preserved : goal.loop-event-preserved
@@ -30,14 +30,12 @@ loop-event-preserved g c =
           (sym at.invariant.count) (at.invariant.logs h) (c.apply-answer.ensures.logs h));
       happen = subst (λ (l : List Answer). AllHappen store.true_to_digests store.failed store.honest store.slots store.held c.args.tax.percent (g.R.Rng.stream c.args.rng.now) c.args.self.now (at.yielded ++ e ∷ []) l (g.R.Rng.stream c.apply-answer.new.rng) c.apply-answer.new.self) (sym items)
           (all_more store.true_to_digests store.failed store.honest store.slots store.held c.args.tax.percent (g.R.Rng.stream c.args.rng.now) (g.R.Rng.stream at.rng) (g.R.Rng.stream c.apply-answer.new.rng) c.args.self.now at.self c.apply-answer.new.self at.yielded at.answers.items e a at.invariant.happen
-          (record { answered = c.apply-answer.ensures.answered; by_words = c.apply-answer.ensures.by_words; logs = c.apply-answer.ensures.logs; boots = c.apply-answer.ensures.boots; limits = c.apply-answer.ensures.limits; blocked = c.apply-answer.ensures.blocked; frames = c.apply-answer.ensures.frames; slots_stay = c.apply-answer.ensures.slots; honesty = c.apply-answer.ensures.honest; trust = c.apply-answer.ensures.true_to_digests; room = c.apply-answer.ensures.room; sound = c.apply-answer.ensures.sound }));
+          (record { answered = c.apply-answer.ensures.answered; by_words = c.apply-answer.ensures.by_words; logs = c.apply-answer.ensures.logs; boots = c.apply-answer.ensures.boots; limits = c.apply-answer.ensures.limits; blocked = c.apply-answer.ensures.blocked; frames = c.apply-answer.ensures.frames; store = c.apply-answer.ensures.store; room = c.apply-answer.ensures.room; sound = c.apply-answer.ensures.sound }));
       count = omega (arith, ap length items, longer, length-append at.yielded (e ∷ []), at.invariant.count);
       len = omega (arith, c.push_reserved.ensures.len, ap length items, longer, at.invariant.len);
       room = omega (arith, c.push_reserved.ensures.len, c.push_reserved.ensures.capacity, gone, at.invariant.room);
       boots = c.apply-answer.ensures.boots ∙ at.invariant.boots;
-      limits = limits_then c.args.self.now.tenants at.self.tenants c.apply-answer.new.self.tenants at.invariant.limits c.apply-answer.ensures.limits;
+      limits = limits_then at.invariant.limits c.apply-answer.ensures.limits;
       frames = c.apply-answer.ensures.frames ∙ at.invariant.frames;
-      slots = c.apply-answer.ensures.slots ∙ at.invariant.slots;
-      honest = (λ now. at.invariant.honest.0 (c.apply-answer.ensures.honest.0 now), λ before. c.apply-answer.ensures.honest.1 (at.invariant.honest.1 before));
-      trust = (λ now. at.invariant.trust.0 (c.apply-answer.ensures.true_to_digests.0 now), λ before. c.apply-answer.ensures.true_to_digests.1 (at.invariant.trust.1 before));
+      store = store_then at.invariant.store c.apply-answer.ensures.store;
     }

@@ -1,9 +1,9 @@
-use Rattle.std.proofs.Common.{◌≡◌, ℕ, ◌+◌, ◌≤◌, ◌↔◌, ◌++◌, All, length, map, vec_len, vec_capacity}
+use Rattle.std.proofs.Common.{◌≡◌, ℕ, ◌+◌, ◌≤◌, ◌++◌, All, length, map, vec_len, vec_capacity}
 use Rattle.std.specs.Vec.Iter.{into_iter_items, into_iter_len}
 use Rattle.world.specs.Admission.{LimitsStay}
 use Rattle.world.specs.Answers.{AllHappen}
 use Rattle.world.specs.Events.{IsProper, own}
-use Rattle.world.specs.Worlds.{boot_of, log_at}
+use Rattle.world.specs.Worlds.{StoreStays, boot_of, log_at}
 use Rattle.world.proofs.world.World.run.Given as goal
 
 -- the logs have the items of the events so far
@@ -20,7 +20,5 @@ invariant-loop-event g l = record {
   boots : map boot_of l.self.tenants ≡ map boot_of l.fn.self.tenants;
   limits : LimitsStay l.fn.self.tenants l.self.tenants;
   frames : l.self.frames ≡ l.fn.self.frames;
-  slots : g.S.SwapStore.slots l.self.store ≡ g.S.SwapStore.slots l.fn.self.store;
-  honest : g.S.SwapStore.honest l.self.store ↔ g.S.SwapStore.honest l.fn.self.store;
-  trust : g.S.SwapStore.true_to_digests l.self.store ↔ g.S.SwapStore.true_to_digests l.fn.self.store;
+  store : StoreStays g.S.SwapStore.slots g.S.SwapStore.honest g.S.SwapStore.true_to_digests l.fn.self.store l.self.store;
 }

@@ -1,8 +1,8 @@
-use Rattle.std.proofs.Common.{◌≡◌, ℕ, ◌-◌, ◌<◌, ◌≤◌, ◌↔◌, ◌++◌, length, map}
+use Rattle.std.proofs.Common.{◌≡◌, ℕ, ◌-◌, ◌<◌, ◌≤◌, ◌++◌, length}
 use Rattle.world.specs.Events.{steps_for}
 use Rattle.world.specs.Choices.{moment_of}
-use Rattle.world.specs.Admission.{LimitsStay, BlockedStay}
-use Rattle.world.specs.Worlds.{boot_of, log_at}
+use Rattle.world.specs.Admission.{GuestsStay}
+use Rattle.world.specs.Worlds.{AroundStays, log_at}
 use Rattle.world.proofs.Choices.{Made}
 use Rattle.world.proofs.world.World.run_steps.Given as goal
 
@@ -13,16 +13,9 @@ invariant-loop-steps g l = record {
   few : l.steps ≤ l.count;
   logs : (h : ℕ) → log_at l.self.tenants h ≡ log_at l.fn.self.tenants h ++ steps_for h l.g l.steps;
   made : Made l.fn.self.frames (g.S.SwapStore.slots l.fn.self.store) (g.S.SwapStore.true_to_digests l.fn.self.store) l.tax.percent l.g (moment_of (g.R.Rng.stream l.fn.rng) l.fn.self) (moment_of (g.R.Rng.stream l.rng) l.self);
-  boots : map boot_of l.self.tenants ≡ map boot_of l.fn.self.tenants;
-  limits : LimitsStay l.fn.self.tenants l.self.tenants;
-  blocked : BlockedStay l.fn.self.tenants l.self.tenants;
+  guests : GuestsStay l.fn.self.tenants l.self.tenants;
   failed : g.S.SwapStore.failed l.self.store ≡ g.S.SwapStore.failed l.fn.self.store;
-  hints : l.self.shares.hints ≡ l.fn.self.shares.hints;
-  frames : l.self.frames ≡ l.fn.self.frames;
-  level : l.self.level ≡ l.fn.self.level;
-  slots : g.S.SwapStore.slots l.self.store ≡ g.S.SwapStore.slots l.fn.self.store;
-  honest : g.S.SwapStore.honest l.self.store ↔ g.S.SwapStore.honest l.fn.self.store;
-  trust : g.S.SwapStore.true_to_digests l.self.store ↔ g.S.SwapStore.true_to_digests l.fn.self.store;
+  around : AroundStays g.S.SwapStore.slots g.S.SwapStore.honest g.S.SwapStore.true_to_digests l.fn.self l.self;
 }
 
 -- each turn makes a step or is the last

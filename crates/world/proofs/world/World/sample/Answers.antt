@@ -15,8 +15,7 @@ returns-clause-beside g c =
     let all : AreSampled (g.R.Rng.stream c.args.rng.now) old new = subst (λ (ts : List TenantIs). AreSampled (g.R.Rng.stream c.args.rng.now) ts new) c.deref_mut.ensures.value c.sample_each.ensures.sampled in
     let same : w.tenants.len ≡ length new = omega (arith, all.count, c.deref_mut.ensures.len, ap length c.deref_mut.ensures.value) in
     let back : take w.tenants.len (new ++ drop (length new) old) ≡ new = ap (λ (n : ℕ). take n (new ++ drop (length new) old)) same ∙ take-append_seam new (drop (length new) old) in
-    let before = tenants_of (record { tenants = w.tenants.items; pool = w.pool; slots = w.slots; shares = w.shares; store = w.store; frames = w.frames; level = w.level }) c.args.self.now c.self.view_is in
-    subst (λ (ts : List TenantIs). OnlySamplesChange ts (take w.tenants.len (new ++ drop (length new) old))) before
+    subst (λ (ts : List TenantIs). OnlySamplesChange ts (take w.tenants.len (new ++ drop (length new) old))) (tenants_of c.self.view_is)
     (subst (OnlySamplesChange old) (sym back) (only_samples (g.R.Rng.stream c.args.rng.now) old new all))
 
 pub invariant_of-self : goal.invariant_of-self

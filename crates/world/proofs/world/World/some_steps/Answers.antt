@@ -7,21 +7,12 @@ use Rattle.world.specs.Worlds.{log_at, pages_at, view_at}
 use Rattle.world.proofs.Choices.{booked_where}
 use Rattle.world.proofs.Runs.{steps_none}
 use Rattle.world.proofs.Unsupplied.{view_moves, no_steps}
-use Rattle.world.proofs.Worlds.{same_boots, same_logs, steps_logs}
+use Rattle.world.proofs.Worlds.{same_logs, steps_logs, around_books}
 use Rattle.world.proofs.world.World.some_steps.Goals as goal
-
-pub returns-in-Err-clause-boots : goal.returns-in-Err-clause-boots
-returns-in-Err-clause-boots g c = same_boots c.args.g c.args.self.now.tenants c.run_once-ran.new.self.tenants c.requires.guest c.run_once-ran.ensures.stays
 
 pub returns-then-steps-gt0-clause-logs : goal.returns-then-steps-gt0-clause-logs
 returns-then-steps-gt0-clause-logs g c = λ h.
     steps_logs c.args.g c.args.self.now.tenants c.run_once-ran.new.self.tenants c.in-Ok.ran.0 c.requires.guest c.in-Ok.ensures.adds h
-
-pub returns-then-steps-gt0-clause-boots : goal.returns-then-steps-gt0-clause-boots
-returns-then-steps-gt0-clause-boots g c = same_boots c.args.g c.args.self.now.tenants c.run_once-ran.new.self.tenants c.requires.guest c.run_once-ran.ensures.stays
-
-pub returns-clause-boots : goal.returns-clause-boots
-returns-clause-boots g c = same_boots c.args.g c.args.self.now.tenants c.run_once-ran.new.self.tenants c.requires.guest c.run_once-ran.ensures.stays
 
 pub returns-then-steps-gt0-clause-view : goal.returns-then-steps-gt0-clause-view
 returns-then-steps-gt0-clause-view g c = λ t.
@@ -38,7 +29,7 @@ returns-in-Err-clause-none g c = λ words.
       logs = λ h. same_logs c.args.g w.tenants w'.tenants c.requires.guest c.in-Err.ensures.unchanged.0 h ∙ steps_none h c.args.g (log_at w.tenants h);
       stays = e.stays;
       needs_none = λ trust t. no_steps (view_at w c.args.g t) (pages_at w c.args.g t) (pages_at w' c.args.g t) (ap (λ (b : PagedBusIs). b.pages) (c.in-Err.ensures.unchanged.0.so t).bus);
-      booked = booked_where w.frames w'.frames (s.slots w.store) (s.slots w'.store) (moment_of words w') e.frames (ap s.slots e.store) c.is_sound.ensures.books;
+      booked = booked_where {slots_of = s.slots} {honest = s.honest} {trusted = s.true_to_digests} (around_books e.around) (moment_of words w') c.is_sound.ensures.books;
     }
 
 pub returns-then-steps-gt0-clause-made : goal.returns-then-steps-gt0-clause-made
@@ -52,7 +43,7 @@ returns-then-steps-gt0-clause-made g c = λ words.
       logs = λ h. steps_logs c.args.g w.tenants w'.tenants c.in-Ok.ran.0 c.requires.guest c.in-Ok.ensures.adds h;
       stays = e.stays;
       needs_none = λ trust t. c.in-Ok.ensures.needs_none trust t;
-      booked = booked_where w.frames w'.frames (s.slots w.store) (s.slots w'.store) (moment_of words w') e.frames (ap s.slots e.store) c.is_sound.ensures.books;
+      booked = booked_where {slots_of = s.slots} {honest = s.honest} {trusted = s.true_to_digests} (around_books e.around) (moment_of words w') c.is_sound.ensures.books;
     }
 
 pub returns-clause-none : goal.returns-clause-none
@@ -69,5 +60,5 @@ returns-clause-none g c = λ words.
       stays = e.stays;
       needs_none = λ trust t.
           subst (λ (n : ℕ). NoneNeeds n (view_at w c.args.g t) (pages_at w c.args.g t) (pages_at w' c.args.g t)) zero (c.in-Ok.ensures.needs_none trust t);
-      booked = booked_where w.frames w'.frames (s.slots w.store) (s.slots w'.store) (moment_of words w') e.frames (ap s.slots e.store) c.is_sound.ensures.books;
+      booked = booked_where {slots_of = s.slots} {honest = s.honest} {trusted = s.true_to_digests} (around_books e.around) (moment_of words w') c.is_sound.ensures.books;
     }

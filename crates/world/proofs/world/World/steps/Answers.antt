@@ -1,7 +1,7 @@
 use Rattle.std.proofs.Common.{◌∙◌, Err, ap, refl, sym, subst, arith}
 use Rattle.guest.proofs.Running.{no_step}
-use Rattle.world.proofs.Runs.{still_there, steps_join, steps_none, stays_none, stays_then}
-use Rattle.world.proofs.Worlds.{same_logs}
+use Rattle.world.proofs.Runs.{stays_there, steps_join, steps_none, stays_none, stays_then}
+use Rattle.world.proofs.Worlds.{same_boots, same_logs, books_then}
 use Rattle.mips_step.specs.Step.{Machine}
 use Rattle.paged_bus.specs.Buses.{PagedBusIs}
 use Rattle.world.specs.Steps.{NoneNeeds}
@@ -16,18 +16,19 @@ returns-in-Err-clause-logs g c = λ h.
 
 pub returns-in-Err-clause-need : goal.returns-in-Err-clause-need
 returns-in-Err-clause-need g c = λ trust p why is t.
-    c.some_steps.ensures.need (subst g.S.SwapStore.true_to_digests (sym c.loop-made.invariant.store) trust) p why (c.in-Err.is ∙ ap Err is) t
+    c.some_steps.ensures.need (subst g.S.SwapStore.true_to_digests (sym c.loop-made.invariant.around.store) trust) p why (c.in-Err.is ∙ ap Err is) t
+
+pub returns-in-Err-clause-boots : goal.returns-in-Err-clause-boots
+returns-in-Err-clause-boots g c = same_boots c.some_steps.ensures.stays c.loop-made.invariant.inside ∙ c.loop-made.invariant.boots
 
 pub returns-in-Err-clause-stays : goal.returns-in-Err-clause-stays
-returns-in-Err-clause-stays g c =
-    let at = c.loop-made in
-    stays_then c.args.g c.args.self.now.tenants at.self.tenants c.some_steps.new.self.tenants at.invariant.stays c.some_steps.ensures.stays
+returns-in-Err-clause-stays g c = stays_then c.loop-made.invariant.stays c.some_steps.ensures.stays
 
 pub loop-made-preserved : goal.loop-made-preserved
 loop-made-preserved g c =
     let at = c.loop-made in
     record {
-      inside = still_there c.args.g at.self.tenants c.some_steps.new.self.tenants at.invariant.inside c.some_steps.ensures.boots;
+      inside = stays_there c.some_steps.ensures.stays at.invariant.inside;
       few = omega (arith, at.invariant.few, c.in-Ok.ensures.few, c.loop-made-test.true);
       none = λ none. absurd (omega (arith, none, c.in-Ok.ensures.some));
       logs = λ h. steps_join h c.args.g at.made c.in-Ok.steps (log_at c.args.self.now.tenants h) (log_at at.self.tenants h) (log_at c.some_steps.new.self.tenants h) (at.invariant.logs h)
@@ -37,13 +38,10 @@ loop-made-preserved g c =
           then_more at.made c.in-Ok.steps (view_at c.args.self.now c.args.g t) (pages_at c.args.self.now c.args.g t) (pages_at at.self c.args.g t) (pages_at c.some_steps.new.self c.args.g t)
           (at.invariant.needs_none trust t)
           (subst (λ (m : Machine). NoneNeeds c.in-Ok.steps m (pages_at at.self c.args.g t) (pages_at c.some_steps.new.self c.args.g t)) (at.invariant.view t)
-          (c.in-Ok.ensures.needs_none (subst g.S.SwapStore.true_to_digests (sym at.invariant.store) trust) t));
-      boots = c.some_steps.ensures.boots ∙ at.invariant.boots;
-      stays = stays_then c.args.g c.args.self.now.tenants at.self.tenants c.some_steps.new.self.tenants at.invariant.stays c.some_steps.ensures.stays;
-      hints = c.some_steps.ensures.hints ∙ at.invariant.hints;
-      store = c.some_steps.ensures.store ∙ at.invariant.store;
-      frames = c.some_steps.ensures.frames ∙ at.invariant.frames;
-      level = c.some_steps.ensures.level ∙ at.invariant.level;
+          (c.in-Ok.ensures.needs_none (subst g.S.SwapStore.true_to_digests (sym at.invariant.around.store) trust) t));
+      boots = same_boots c.some_steps.ensures.stays at.invariant.inside ∙ at.invariant.boots;
+      stays = stays_then at.invariant.stays c.some_steps.ensures.stays;
+      around = books_then at.invariant.around c.some_steps.ensures.around;
     }
 
 pub returns-in-Err-clause-needs_none : goal.returns-in-Err-clause-needs_none
@@ -62,8 +60,5 @@ loop-made-init g c = record {
   needs_none = λ trust t. no_steps (view_at c.args.self.now c.args.g t) (pages_at c.args.self.now c.args.g t) (pages_at c.args.self.now c.args.g t) refl;
   boots = refl;
   stays = stays_none c.args.g c.args.self.now.tenants;
-  hints = refl;
-  store = refl;
-  frames = refl;
-  level = refl;
+  around = record { hints = refl; store = refl; frames = refl; level = refl };
 }

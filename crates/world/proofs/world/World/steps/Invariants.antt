@@ -4,7 +4,7 @@ use Rattle.flatvm.specs.Items.{run}
 use Rattle.tenant.specs.Tenants.{TenantIs, Stays}
 use Rattle.world.specs.Events.{steps_for}
 use Rattle.world.specs.Steps.{NoneNeeds}
-use Rattle.world.specs.Worlds.{Changes, boot_of, log_at, pages_at, view_at}
+use Rattle.world.specs.Worlds.{Changes, OnlyBooksChange, boot_of, log_at, pages_at, view_at}
 use Rattle.world.proofs.world.World.steps.Given as goal
 
 -- the log has the steps so far, and before the first nothing has happened
@@ -18,10 +18,7 @@ invariant-loop-made g l = record {
   needs_none : g.S.SwapStore.true_to_digests l.fn.self.store → (t : TenantIs) → NoneNeeds l.made (view_at l.fn.self l.g t) (pages_at l.fn.self l.g t) (pages_at l.self l.g t);
   boots : map boot_of l.self.tenants ≡ map boot_of l.fn.self.tenants;
   stays : Changes Stays l.g l.fn.self.tenants l.self.tenants;
-  hints : l.self.shares.hints ≡ l.fn.self.shares.hints;
-  store : l.self.store ≡ l.fn.self.store;
-  frames : l.self.frames ≡ l.fn.self.frames;
-  level : l.self.level ≡ l.fn.self.level;
+  around : OnlyBooksChange l.fn.self l.self;
 }
 
 -- each turn makes a step or is the last

@@ -1,4 +1,4 @@
-use Rattle.std.proofs.Common.{ℕ, ◌≡◌, set, Err, IfErr, sym, subst, ◌∙◌}
+use Rattle.std.proofs.Common.{◌≡◌, Err, IfErr, subst}
 use Rattle.std.proofs.lemmas.Result.{on_err_weaker}
 use Rattle.paging.specs.declared.supply.SupplyError.TheVariants.{SwapDamaged}
 use Rattle.paging.specs.Supplies.{WhyAway}
@@ -6,64 +6,33 @@ use Rattle.swapstore.specs.Failures.{one_more}
 use Rattle.guest.specs.Guests.{view_of}
 use Rattle.guest.specs.Views.{pages_seen}
 use Rattle.tenant.proofs.Keeping.{moved_kept}
-use Rattle.world.specs.Worlds.{WorldIs, Sound}
-use Rattle.world.proofs.Worlds.{guest_inside, tenants_of, lent_of, kept_of, sound_after, same_guests, why_away}
+use Rattle.world.specs.Worlds.{WorldIs}
+use Rattle.world.proofs.Worlds.{guest_inside, lent_of, kept_of, sound_after, same_guests, why_away}
 use Rattle.world.proofs.world.World.supply.Goals as goal
 
 pub supply_page-requires-clause-lent : goal.supply_page-requires-clause-lent
-supply_page-requires-clause-lent g c =
-    let w = c.self.inside in
-    let store = w.store in
-    let slots = g.S.SwapStore.slots store in
-    let trusted = g.S.SwapStore.true_to_digests store in
-    let held = g.S.SwapStore.held store in
-    let ts = w.tenants.items in
-    let t = c.index_mut.result.now in
-    let inside = guest_inside ts c.args.self.now.tenants c.args.g (tenants_of (record { tenants = c.self.inside.tenants.items; pool = c.self.inside.pool; slots = c.self.inside.slots; shares = c.self.inside.shares; store = c.self.inside.store; frames = c.self.inside.frames; level = c.self.inside.level }) c.args.self.now c.self.view_is) c.requires.guest in
-    lent_of w.frames slots trusted held ts c.args.g t w.pool w.slots w.shares.entries inside c.index_mut.ensures.value c.self.invariant
+supply_page-requires-clause-lent g c = lent_of c.self.invariant (guest_inside c.self.view_is c.requires.guest) c.index_mut.ensures.value
 
 pub invariant_of-self : goal.invariant_of-self
 invariant_of-self g c =
-    let w = c.self.inside in
-    let store = w.store in
-    let slots = g.S.SwapStore.slots store in
-    let trusted = g.S.SwapStore.true_to_digests store in
-    let held = g.S.SwapStore.held store in
-    let ts = w.tenants.items in
-    let t = c.index_mut.result.now in
-    let inside = guest_inside ts c.args.self.now.tenants c.args.g (tenants_of (record { tenants = c.self.inside.tenants.items; pool = c.self.inside.pool; slots = c.self.inside.slots; shares = c.self.inside.shares; store = c.self.inside.store; frames = c.self.inside.frames; level = c.self.inside.level }) c.args.self.now c.self.view_is) c.requires.guest in
+    let s = g.S.SwapStore in
     let new = c.supply_page.new in
     let e = c.supply_page.ensures in
-    let held' = g.S.SwapStore.held new.store in
-    subst (λ (n : ℕ). Sound w.frames n (g.S.SwapStore.true_to_digests new.store) held' (set ts c.args.g new.pages) new.pool new.slots new.shares.entries) (sym e.slots)
-    (sound_after w.frames slots trusted (g.S.SwapStore.true_to_digests new.store) held held' ts c.args.g t new.pages w.pool w.slots new.pool new.slots w.shares.entries new.shares.entries
-    inside c.index_mut.ensures.value e.conserves e.reads e.true_to_digests.0 (λ trust k. moved_kept held held' t new.pages e.rest e.count (e.kept trust) k) e.used c.self.invariant)
+    sound_after c.self.invariant c.args.g c.index_mut.result.now new.pages (s.slots new.store) (s.true_to_digests new.store) (s.held new.store) new.pool new.slots new.shares.entries
+    (guest_inside c.self.view_is c.requires.guest) c.index_mut.ensures.value e.slots e.conserves e.reads e.true_to_digests.0
+    (λ trust k. moved_kept _ _ _ _ e.rest e.count (e.kept trust) k) (λ trust. e.used)
 
 pub returns-clause-err : goal.returns-clause-err
 returns-clause-err g c =
+    let s = g.S.SwapStore in
     let w = c.self.inside in
-    let store = w.store in
-    let slots = g.S.SwapStore.slots store in
-    let trusted = g.S.SwapStore.true_to_digests store in
-    let held = g.S.SwapStore.held store in
-    let ts = w.tenants.items in
-    let t = c.index_mut.result.now in
-    let inside = guest_inside ts c.args.self.now.tenants c.args.g (tenants_of (record { tenants = c.self.inside.tenants.items; pool = c.self.inside.pool; slots = c.self.inside.slots; shares = c.self.inside.shares; store = c.self.inside.store; frames = c.self.inside.frames; level = c.self.inside.level }) c.args.self.now c.self.view_is) c.requires.guest in
     let e = c.supply_page.ensures in
-    let no : c.supply_page.result ≡ Err SwapDamaged → g.S.SwapStore.honest store → ⊥ = λ is honest.
-    let kept = kept_of w.frames slots trusted held ts c.args.g t w.pool w.slots w.shares.entries inside c.index_mut.ensures.value (g.met.S.SwapStore.honest_is_true store honest) c.self.invariant in
-    e.undamaged is honest (pages_seen (view_of t.guest)) kept.pages in
-    subst (λ (x : WorldIs _). IfErr c.supply_page.result (WhyAway x.pool (g.S.SwapStore.failed c.supply_page.new.store ≡ one_more (g.S.SwapStore.failed x.store)) (g.S.SwapStore.honest x.store → ⊥))) c.self.view_is
-    (why_away c.supply_page.result w.pool _ _ (g.S.SwapStore.honest store → ⊥) no e.err)
+    let no : c.supply_page.result ≡ Err SwapDamaged → s.honest w.store → ⊥ = λ is honest.
+    let kept = kept_of c.self.invariant (guest_inside c.self.view_is c.requires.guest) c.index_mut.ensures.value (g.met.S.SwapStore.honest_is_true w.store honest) in
+    e.undamaged is honest (pages_seen (view_of c.index_mut.result.now.guest)) kept.pages in
+    subst (λ (x : WorldIs _). IfErr c.supply_page.result (WhyAway x.pool (s.failed c.supply_page.new.store ≡ one_more (s.failed x.store)) (s.honest x.store → ⊥))) c.self.view_is
+    (why_away c.supply_page.result w.pool _ _ (s.honest w.store → ⊥) no e.err)
 
 pub returns-clause-unchanged : goal.returns-clause-unchanged
 returns-clause-unchanged g c =
-    let w = c.self.inside in
-    let store = w.store in
-    let slots = g.S.SwapStore.slots store in
-    let trusted = g.S.SwapStore.true_to_digests store in
-    let held = g.S.SwapStore.held store in
-    let ts = w.tenants.items in
-    let t = c.index_mut.result.now in
-    let inside = guest_inside ts c.args.self.now.tenants c.args.g (tenants_of (record { tenants = c.self.inside.tenants.items; pool = c.self.inside.pool; slots = c.self.inside.slots; shares = c.self.inside.shares; store = c.self.inside.store; frames = c.self.inside.frames; level = c.self.inside.level }) c.args.self.now c.self.view_is) c.requires.guest in
-    on_err_weaker c.supply_page.result (λ same. same_guests ts c.args.g t c.supply_page.new.pages inside c.index_mut.ensures.value c.supply_page.ensures.rest same ∙ tenants_of (record { tenants = c.self.inside.tenants.items; pool = c.self.inside.pool; slots = c.self.inside.slots; shares = c.self.inside.shares; store = c.self.inside.store; frames = c.self.inside.frames; level = c.self.inside.level }) c.args.self.now c.self.view_is) c.supply_page.ensures.unchanged
+    on_err_weaker c.supply_page.result (same_guests c.supply_page.new.pages c.self.view_is c.requires.guest c.index_mut.ensures.value c.supply_page.ensures.rest) c.supply_page.ensures.unchanged

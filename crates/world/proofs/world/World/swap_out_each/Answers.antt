@@ -3,7 +3,7 @@ use Rattle.reclaim.specs.declared.turn.Action.{Action}
 use Rattle.world.specs.Choices.{moment_of}
 use Rattle.world.specs.Turns.{LosesPages}
 use Rattle.world.proofs.Choices.{then_outs, then_end, up_to, end_up_to}
-use Rattle.world.proofs.Worlds.{any_default}
+use Rattle.world.proofs.Worlds.{any_default, around_then}
 use Rattle.world.proofs.Victims.{some_tenant}
 use Rattle.world.proofs.Turning.{next_count, others_same, fewer_more, cut_short, moves_more, on_err}
 use Rattle.world.proofs.world.World.swap_out_each.Goals as goal
@@ -41,25 +41,17 @@ loop-g-preserved w c =
     let below : k < length acts = omega (arith, c.loop-g-test.true, at.auto.g-end) in
     let inside : k < length old = omega (arith, below, c.requires.count) in
     let loses = c.in_ok-swap_out_pages.ensures.loses in
-    let e = c.swap_out_pages.ensures in
     let s = w.S.SwapStore in
     let v = c.args.self.now in
-    let from = at.self in
     record {
       count = next_count k old mid ts' (LosesPages action.swap_out) inside so.count so.others loses (some_tenant old k inside);
       moves = moves_more k old mid ts' action.swap_out (omega (arith, inside, so.count)) so.moves loses;
       fewer = fewer_more k acts old mid ts' action inside so.count (λ d. any_default acts k d none below) loses so.others so.fewer;
       others = others_same k old mid ts' (LosesPages action.swap_out) inside so.count so.others loses;
       outs = up_to v.frames (s.slots v.store) 0 k (k + 1) (moment_of (w.R.Rng.stream c.args.rng.now) v) (moment_of (w.R.Rng.stream c.swap_out_pages.new.rng) c.swap_out_pages.new.self) (omega arith)
-          (then_outs v.frames from.frames (s.slots v.store) (s.slots from.store) 0 k k (moment_of (w.R.Rng.stream c.args.rng.now) v) (moment_of (w.R.Rng.stream at.rng) from)
-          (moment_of (w.R.Rng.stream c.swap_out_pages.new.rng) c.swap_out_pages.new.self) so.frames so.slots so.outs c.in_ok-swap_out_pages.ensures.outs);
+          (then_outs so.around so.outs c.in_ok-swap_out_pages.ensures.outs);
       failed = c.in_ok-swap_out_pages.ensures.no_failure ∙ so.failed;
-      hints = e.hints ∙ so.hints;
-      frames = e.frames ∙ so.frames;
-      level = e.level ∙ so.level;
-      slots = e.slots ∙ so.slots;
-      honest = (λ now. so.honest.0 (e.honest.0 now), λ before. e.honest.1 (so.honest.1 before));
-      trust = (λ now. so.trust.0 (e.true_to_digests.0 now), λ before. e.true_to_digests.1 (so.trust.1 before));
+      around = around_then so.around c.swap_out_pages.ensures.around;
     }
 
 pub returns-in_err-swap_out_pages-clause-end : goal.returns-in_err-swap_out_pages-clause-end
@@ -68,13 +60,12 @@ returns-in_err-swap_out_pages-clause-end w c =
     let k = c.loop-g.g in
     let s = w.S.SwapStore in
     let v = c.args.self.now in
-    let from = c.loop-g.self in
     let m = moment_of (w.R.Rng.stream c.args.rng.now) v in
     let m' = moment_of (w.R.Rng.stream c.swap_out_pages.new.rng) c.swap_out_pages.new.self in
     let below : k ≤ length v.tenants = omega (arith, c.loop-g-test.true, c.loop-g.auto.g-end, c.requires.count) in
     on_err c.from_residual.result
     (end_up_to v.frames (s.slots v.store) 0 k (length v.tenants) m m' below
-    (then_end v.frames from.frames (s.slots v.store) (s.slots from.store) 0 k k m (moment_of (w.R.Rng.stream c.loop-g.rng) from) m' at.frames at.slots at.outs c.in_err-swap_out_pages.ensures.end))
+    (then_end at.around at.outs c.in_err-swap_out_pages.ensures.end))
 
 pub returns-clause-outs : goal.returns-clause-outs
 returns-clause-outs w c =

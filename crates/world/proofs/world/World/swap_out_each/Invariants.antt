@@ -1,6 +1,7 @@
-use Rattle.std.proofs.Common.{◌≡◌, ◌↔◌, length}
+use Rattle.std.proofs.Common.{◌≡◌, length}
 use Rattle.world.specs.Choices.{moment_of, SwapOuts}
 use Rattle.world.specs.Turns.{AreFewer, SameFrom}
+use Rattle.world.specs.Worlds.{AroundStays}
 use Rattle.world.specs.Victims.{OnlyPagesMove}
 use Rattle.world.proofs.world.World.swap_out_each.Given as goal
 
@@ -13,10 +14,5 @@ invariant-loop-g w l = record {
   others : SameFrom l.g l.fn.self.tenants l.self.tenants;
   outs : SwapOuts l.fn.self.frames (w.S.SwapStore.slots l.fn.self.store) 0 l.g (moment_of (w.R.Rng.stream l.fn.rng) l.fn.self) (moment_of (w.R.Rng.stream l.rng) l.self);
   failed : w.S.SwapStore.failed l.self.store ≡ w.S.SwapStore.failed l.fn.self.store;
-  hints : l.self.shares.hints ≡ l.fn.self.shares.hints;
-  frames : l.self.frames ≡ l.fn.self.frames;
-  level : l.self.level ≡ l.fn.self.level;
-  slots : w.S.SwapStore.slots l.self.store ≡ w.S.SwapStore.slots l.fn.self.store;
-  honest : w.S.SwapStore.honest l.self.store ↔ w.S.SwapStore.honest l.fn.self.store;
-  trust : w.S.SwapStore.true_to_digests l.self.store ↔ w.S.SwapStore.true_to_digests l.fn.self.store;
+  around : AroundStays w.S.SwapStore.slots w.S.SwapStore.honest w.S.SwapStore.true_to_digests l.fn.self l.self;
 }

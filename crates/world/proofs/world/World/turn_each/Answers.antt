@@ -1,9 +1,9 @@
-use Rattle.std.proofs.Common.{◌<◌, ◌∷◌, [], None, false, List, length, get_or, ap, sym, subst, ◌∙◌, arith, length-append}
+use Rattle.std.proofs.Common.{◌<◌, ◌∷◌, [], None, false, List, length, get_or, ap, sym, subst, arith, length-append}
 use Rattle.reclaim.specs.declared.turn.Action.{Action}
 use Rattle.tenant.specs.Tenants.{TenantIs}
 use Rattle.tenant.specs.declared.turning.Aim.{Aim}
 use Rattle.world.specs.Turns.{IsTurned}
-use Rattle.world.proofs.Worlds.{any_default}
+use Rattle.world.proofs.Worlds.{any_default, same_then}
 use Rattle.world.proofs.Victims.{some_tenant}
 use Rattle.world.proofs.Turning.{next_count, others_same, turned_more}
 use Rattle.world.proofs.world.World.turn_each.Goals as goal
@@ -34,12 +34,5 @@ loop-g-preserved w c =
           subst (λ (l : List Aim). IsTurned (get_or acts h d) (get_or old h t) (get_or l h b) (get_or ts' h t)) (sym pushed.items)
           (turned_more k acts old mid ts' at.aims.items aim action inside so.count so.aims (λ d. any_default acts k d none below) e.turned so.others so.turned h t d b before);
       others = others_same k old mid ts' how inside so.count so.others e.turned;
-      around = record {
-        pool = e.around.pool ∙ so.around.pool;
-        slots = e.around.slots ∙ so.around.slots;
-        shares = e.around.shares ∙ so.around.shares;
-        store = e.around.store ∙ so.around.store;
-        frames = e.around.frames ∙ so.around.frames;
-        level = e.around.level ∙ so.around.level;
-      };
+      around = same_then so.around e.around;
     }

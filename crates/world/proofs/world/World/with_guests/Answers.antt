@@ -4,6 +4,8 @@ use Rattle.std.specs.Vec.Iter.{into_iter_items}
 use Rattle.world.specs.declared.boot.NewGuest.{NewGuest}
 use Rattle.world.specs.Boots.{IsWithinLimits, HoldsImage}
 use Rattle.world.proofs.BootedGuests.{one_booted, one_more_first, if_err_and}
+use Rattle.world.proofs.SlotOrder.{one_more_in_order}
+use Rattle.world.proofs.Worlds.{around_then}
 use Rattle.world.proofs.world.World.with_guests.Goals as goal
 
 pub loop-guest-preserved : goal.loop-guest-preserved
@@ -24,14 +26,11 @@ loop-guest-preserved g c =
       hold = λ k d h. hold (suc k) d (omega (arith, h));
       booted = one_booted c.args.log_runs at.yielded guest at.world.tenants world.tenants e.count e.tenants e.booted at.invariant.booted;
       first = one_more_first at.world.pool world.pool at.world.tenants world.tenants e.count e.tenants e.frames_first e.no_frames e.none_private at.invariant.first;
+      in_order = one_more_in_order at.world.slots world.slots at.world.tenants world.tenants e.count e.tenants e.slots_rise e.slots_taken at.invariant.in_order;
       taken = omega (arith, at.invariant.taken, e.taken, sum_by_push (λ (n : NewGuest). n.pages) at.yielded guest);
       no_failure = e.no_failure ∙ at.invariant.no_failure;
       shares = e.shares ∙ at.invariant.shares;
-      frames = e.frames ∙ at.invariant.frames;
-      level = e.level ∙ at.invariant.level;
-      slots = e.slots ∙ at.invariant.slots;
-      honest = (λ now. at.invariant.honest.0 (e.honest.0 now), λ before. e.honest.1 (at.invariant.honest.1 before));
-      trust = (λ now. at.invariant.trust.0 (e.true_to_digests.0 now), λ before. e.true_to_digests.1 (at.invariant.trust.1 before));
+      around = around_then at.invariant.around e.around;
     }
 
 pub returns-in_err-world-clause-room : goal.returns-in_err-world-clause-room

@@ -1,7 +1,8 @@
-use Rattle.std.proofs.Common.{◌≡◌, ◌↔◌, ◌+◌, ◌≤◌, ◌++◌, All, length, sum_by}
+use Rattle.std.proofs.Common.{◌≡◌, ◌+◌, ◌≤◌, ◌++◌, All, length, sum_by}
 use Rattle.std.specs.Vec.Iter.{into_iter_items, into_iter_len}
 use Rattle.world.specs.declared.boot.NewGuest.{NewGuest}
-use Rattle.world.specs.Boots.{IsWithinLimits, HoldsImage, AreBooted, FramesComeFirst}
+use Rattle.world.specs.Boots.{IsWithinLimits, HoldsImage, AreBooted, FramesComeFirst, SlotsComeInOrder}
+use Rattle.world.specs.Worlds.{AroundStays}
 use Rattle.world.proofs.world.World.with_guests.Given as goal
 
 -- the guests so far are booted
@@ -13,12 +14,9 @@ invariant-loop-guest g l = record {
   hold : All HoldsImage (into_iter_items l.guest-iterator);
   booted : AreBooted l.log_runs l.yielded l.world.tenants;
   first : FramesComeFirst l.world.pool l.world.tenants;
+  in_order : SlotsComeInOrder l.world.slots l.world.tenants;
   taken : length l.fn.self.pool.free + length l.fn.self.slots.free ≤ length l.world.pool.free + length l.world.slots.free + sum_by (λ (n : NewGuest). n.pages) l.yielded;
   no_failure : g.S.SwapStore.failed l.world.store ≡ g.S.SwapStore.failed l.fn.self.store;
   shares : l.world.shares ≡ l.fn.self.shares;
-  frames : l.world.frames ≡ l.fn.self.frames;
-  level : l.world.level ≡ l.fn.self.level;
-  slots : g.S.SwapStore.slots l.world.store ≡ g.S.SwapStore.slots l.fn.self.store;
-  honest : g.S.SwapStore.honest l.world.store ↔ g.S.SwapStore.honest l.fn.self.store;
-  trust : g.S.SwapStore.true_to_digests l.world.store ↔ g.S.SwapStore.true_to_digests l.fn.self.store;
+  around : AroundStays g.S.SwapStore.slots g.S.SwapStore.honest g.S.SwapStore.true_to_digests l.fn.self l.world;
 }

@@ -1,4 +1,4 @@
-use Rattle.world.proofs.Admitting.{limits_stay, blocked_stay}
+use Rattle.world.proofs.Admitting.{guests_stay}
 use Rattle.std.proofs.Common.{◌≡◌, ℕ, ◌++◌, List, Err, get_or, sym, ap, subst, ◌∙◌}
 use Rattle.items.specs.declared.item.Item.{Item}
 use Rattle.items.specs.declared.item.What.TheVariants.{Write}
@@ -12,7 +12,7 @@ use Rattle.paged_bus.specs.Writes.{WritesTo}
 use Rattle.world.specs.Worlds.{log_at, item_for}
 use Rattle.world.proofs.Victims.{some_tenant}
 use Rattle.world.proofs.Reached.{accepted_where_placed, not_both, stored_to}
-use Rattle.world.proofs.Worlds.{input_logs, same_boots}
+use Rattle.world.proofs.Worlds.{input_logs}
 use Rattle.world.proofs.world.World.write.Goals as goal
 use Rattle.world.proofs.world.World.write.Goals.{in-Ok, in-Err-Stop-Memory, in-Err-Stop-LogFull}
 
@@ -53,11 +53,5 @@ returns-clause-logs g c = λ h.
     input_logs c.args.g ts c.input.new.self.tenants item c.input.result c.requires.guest c.input.ensures.adds c.input.ensures.unchanged h
     ∙ ap (λ (xs : List Item). log_at ts h ++ xs) own
 
-pub returns-clause-boots : goal.returns-clause-boots
-returns-clause-boots g c = same_boots c.args.g c.args.self.now.tenants c.input.new.self.tenants c.requires.guest c.input.ensures.stays
-
-pub returns-clause-limits : goal.returns-clause-limits
-returns-clause-limits g c = limits_stay c.args.g c.args.self.now.tenants c.input.new.self.tenants c.requires.guest c.input.ensures.stays
-
-pub returns-clause-blocked : goal.returns-clause-blocked
-returns-clause-blocked g c = blocked_stay c.args.g c.args.self.now.tenants c.input.new.self.tenants c.requires.guest c.input.ensures.stays
+pub returns-clause-guests : goal.returns-clause-guests
+returns-clause-guests g c = guests_stay c.input.ensures.stays c.requires.guest
