@@ -3,17 +3,18 @@
 
 # A TLB refill enters 80000000, every other exception 80000180. Both loop in place, unless the program has a function `refill` or
 # `exception` of its own. That may change registers 26 and 27 alone before it has kept others, and ends with ERET.
-        .section .vectors, "ax"
+        .section .refill, "ax"
         .globl  refill
         .weak   refill
-        .globl  exception
-        .weak   exception
         j       refill
         nop
 refill:
 1:      b       1b
         nop
-        .org    0x180
+
+        .section .general, "ax"
+        .globl  exception
+        .weak   exception
         j       exception
         nop
 exception:
@@ -22,6 +23,7 @@ exception:
 
         .text
         .globl  start
+        .ent    start
 start:
         lui     $29,%hi(stack)          # the stack grows down from here
         addiu   $29,$29,%lo(stack)
@@ -42,3 +44,4 @@ call:
 stop:
         b       stop
         nop
+        .end    start
