@@ -1,0 +1,4 @@
+pub mod Exact
+pub mod OwnerShares
+pub mod Settling
+pub mod Laws
