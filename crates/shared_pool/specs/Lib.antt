@@ -1,0 +1,3 @@
+pub mod Resting
+pub mod Balance
+pub mod Pools
