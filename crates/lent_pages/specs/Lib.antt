@@ -1,0 +1,6 @@
+pub mod Stores
+pub mod Locked
+pub mod Supplies
+pub mod Evictions
+pub mod Returns
+pub mod Scans

@@ -1,0 +1,90 @@
+//! Pages that leave their frames for slots.
+ghost use Rattle.std.specs.Prelude.{◌≡◌, ◌<◌, ℕ, List, [], IfErr, IsTrue, OnOk, OnErr, length, slice_set};
+ghost use Rattle.std.specs.Option.{option_to_list};
+ghost use Rattle.sha2.specs.Sha256.{sha256};
+ghost use Rattle.physmap.specs.declared.page.Page.TheVariants.{Swapped};
+ghost use Rattle.physmap.specs.Pages.{page_at, kind_at, is_resident, shown, slot_of};
+ghost use Rattle.paging.specs.Faith.{Faithful};
+ghost use Rattle.accounts.specs.OwnerShares.{guest_share};
+ghost use Rattle.accounts.specs.Settling.{KeepsFrames};
+ghost use Rattle.lent_pages.specs.Locked.{IsTable, IsSwap};
+ghost use Rattle.lent_pages.specs.Stores.{HasFailed};
+ghost use Rattle.lent_pages.specs.Evictions.{NoSlotWasFree, WhyStays};
+
+use crate::{Swap, Table};
+use accounts::{BookShare, Books};
+use frames::FrameNo;
+use paging::{Pages, evict_in};
+use std::snapshot::Snapshot;
+use swapstore::SwapStore;
+use word32::Ppn;
+
+/// Why a resident page stays in its frame.
+#[derive(Clone, Copy, Debug, PartialEq, Eq)]
+pub enum EvictError {
+    /// No slot is free.
+    NoSwap,
+    /// The store failed to write the slot, which is free again.
+    SwapWrite,
+}
+
+/// too. The locks of the table and of the swap book are held.
+pub fn evicted<P: Pages, S: SwapStore + Drop>(
+    books: &Books,
+    share: &mut BookShare,
+    pages: &mut P,
+    p: Ppn,
+    table: &mut Table,
+    swap: &mut Swap<S>,
+    first: &Snapshot<S>,
+) -> (Result<(), EvictError>, Option<FrameNo>)
+    requires there { p < length (P.pages pages.old) }
+    requires resident { IsTrue (is_resident (kind_at (P.pages pages.old) p)) }
+    requires share { share.old ≡ guest_share books.now.id (P.pages pages.old) [] }
+    requires table { IsTable books.now table.old.shares.entries table.old.share }
+    requires swap { IsSwap S.honest S.true_to_digests S.slots books.now first.now.value swap.old.slots swap.old.store swap.old.share }
+    ensures share { share.new ≡ guest_share books.now.id (P.pages pages.new) (option_to_list result.1) }
+    ensures table { IsTable books.now table.new.shares.entries table.new.share }
+    ensures swap { IsSwap S.honest S.true_to_digests S.slots books.now first.now.value swap.new.slots swap.new.store swap.new.share }
+    ensures faithful { (view : ℕ → List ℕ) → Faithful view (P.pages pages.old) → Faithful view (P.pages pages.new) }
+    ensures rest { P.rest pages.new ≡ P.rest pages.old }
+    ensures frames { KeepsFrames (P.pages pages.old) [] table.old.shares.entries (P.pages pages.new) (option_to_list result.1) table.new.shares.entries }
+    ensures page { OnOk result.0 (P.pages pages.new ≡ slice_set (P.pages pages.old) p
+        (Swapped (slot_of (page_at (P.pages pages.new) p)) (sha256 (shown (page_at (P.pages pages.old) p))))) }
+    ensures slot { OnOk result.0 (slot_of (page_at (P.pages pages.new) p) < books.now.key.slots) }
+    ensures err { IfErr result.0 (WhyStays (NoSlotWasFree books.now.key (P.pages pages.old))
+        (HasFailed S.honest S.true_to_digests S.failed first.now.value)) }
+    ensures unchanged { OnErr result.0 (P.pages pages.new ≡ P.pages pages.old) }
+{
+    accounts::meet_both(
+        books,
+        share,
+        &mut table.share,
+        &mut swap.share,
+        &table.shares,
+        &swap.slots,
+    );
+    let Some(slot) = swap.slots.take() else {
+        return (Err(EvictError::NoSwap), None);
+    };
+    match evict_in(pages, p, slot, &mut swap.store, &mut table.shares) {
+        Ok(came_free) => {
+            accounts::settle_both(
+                books,
+                share,
+                &mut table.share,
+                &mut swap.share,
+                pages,
+                &came_free,
+                &table.shares,
+                &swap.slots,
+            );
+            (Ok(()), came_free)
+        }
+        Err(unused) => {
+            swap.slots.give(unused);
+            accounts::settle_slots(books, share, &mut swap.share, pages, &None, &swap.slots);
+            (Err(EvictError::SwapWrite), None)
+        }
+    }
+}

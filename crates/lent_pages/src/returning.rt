@@ -1,0 +1,80 @@
+//! What a page that was given to the balloon handed back.
+ghost use Rattle.std.specs.Prelude.{◌≡◌, []};
+ghost use Rattle.std.specs.Option.{option_to_list};
+ghost use Rattle.physmap.specs.declared.page.Returned.TheVariants as returned;
+ghost use Rattle.sharetab.specs.Entries.{EntriesAre};
+ghost use Rattle.accounts.specs.OwnerShares.{guest_share};
+ghost use Rattle.lent_pages.specs.Locked.{IsTable, IsSwap};
+ghost use Rattle.lent_pages.specs.Returns.{IsBehind, KeepsFramesBack};
+
+use crate::{Swap, Table};
+use accounts::{BookShare, Books};
+use frames::{Frame, FrameNo, ShareTicket, SlotTicket};
+use paging::Pages;
+use std::snapshot::Snapshot;
+use swapstore::SwapStore;
+
+/// A page was given to the balloon that was in no frame and no slot.
+pub fn nothing_returned<P: Pages>(books: &Books, share: &mut BookShare, pages: &P)
+    requires { IsBehind books.now.id share.old returned.Nothing (P.pages pages.now) }
+    ensures share { share.new ≡ guest_share books.now.id (P.pages pages.now) [] }
+    ensures frames { (entries : EntriesAre) → KeepsFramesBack books.now.id share.old returned.Nothing entries (P.pages pages.now) [] entries }
+{
+    accounts::settle(books, share, pages, &None);
+}
+
+/// The frame of a page that was given to the balloon is in hand.
+pub fn frame_returned<P: Pages>(
+    books: &Books,
+    share: &mut BookShare,
+    pages: &P,
+    frame: Frame,
+) -> Option<FrameNo>
+    requires { IsBehind books.now.id share.old (returned.Frame frame) (P.pages pages.now) }
+    ensures share { share.new ≡ guest_share books.now.id (P.pages pages.now) (option_to_list result) }
+    ensures frames { (entries : EntriesAre) → KeepsFramesBack books.now.id share.old (returned.Frame frame) entries (P.pages pages.now) (option_to_list result) entries }
+{
+    let hand = Some(frame.strip());
+    accounts::settle(books, share, pages, &hand);
+    hand
+}
+
+/// table's lock is held.
+pub fn ticket_returned<P: Pages>(
+    books: &Books,
+    share: &mut BookShare,
+    pages: &P,
+    ticket: ShareTicket,
+    table: &mut Table,
+) -> Option<FrameNo>
+    requires behind { IsBehind books.now.id share.old (returned.Ticket ticket) (P.pages pages.now) }
+    requires table { IsTable books.now table.old.shares.entries table.old.share }
+    ensures share { share.new ≡ guest_share books.now.id (P.pages pages.now) (option_to_list result) }
+    ensures table { IsTable books.now table.new.shares.entries table.new.share }
+    ensures frames { KeepsFramesBack books.now.id share.old (returned.Ticket ticket) table.old.shares.entries (P.pages pages.now) (option_to_list result) table.new.shares.entries }
+{
+    accounts::meet_table(books, share, &mut table.share, &table.shares);
+    let hand = table.shares.leave(ticket);
+    accounts::settle_table(books, share, &mut table.share, pages, &hand, &table.shares);
+    hand
+}
+
+/// The slot of a page that was given to the balloon is free. The swap book's lock is held.
+pub fn slot_returned<P: Pages, S: SwapStore + Drop>(
+    books: &Books,
+    share: &mut BookShare,
+    pages: &P,
+    slot: SlotTicket,
+    swap: &mut Swap<S>,
+    first: &Snapshot<S>,
+)
+    requires behind { IsBehind books.now.id share.old (returned.Slot slot) (P.pages pages.now) }
+    requires swap { IsSwap S.honest S.true_to_digests S.slots books.now first.now.value swap.old.slots swap.old.store swap.old.share }
+    ensures share { share.new ≡ guest_share books.now.id (P.pages pages.now) [] }
+    ensures swap { IsSwap S.honest S.true_to_digests S.slots books.now first.now.value swap.new.slots swap.new.store swap.new.share }
+    ensures frames { (entries : EntriesAre) → KeepsFramesBack books.now.id share.old (returned.Slot slot) entries (P.pages pages.now) [] entries }
+{
+    accounts::meet_slots(books, share, &mut swap.share, &swap.slots);
+    swap.slots.give(slot);
+    accounts::settle_slots(books, share, &mut swap.share, pages, &None, &swap.slots);
+}

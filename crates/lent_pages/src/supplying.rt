@@ -1,0 +1,133 @@
+//! Pages that get the frame in hand.
+ghost use Rattle.std.specs.Prelude.{◌≡◌, ◌<◌, ◌⊎◌, ℕ, List, [], ◌∷◌, IfErr, OnOk, OnErr, length};
+ghost use Rattle.std.specs.Option.{option_to_list};
+ghost use Rattle.sha2.specs.Sha256.{sha256};
+ghost use Rattle.word32.specs.Zeros.{zeros};
+ghost use Rattle.physmap.specs.declared.page.PageKind.{PageKind};
+ghost use Rattle.physmap.specs.declared.page.Page.TheVariants.{Swapped};
+ghost use Rattle.physmap.specs.Pages.{page_at, kind_at, shown, digest_of};
+ghost use Rattle.paging.specs.Faith.{Faithful};
+ghost use Rattle.paging.specs.Supplies.{Supplies};
+ghost use Rattle.sharetab.specs.Entries.{EntriesAre};
+ghost use Rattle.accounts.specs.OwnerShares.{guest_share};
+ghost use Rattle.accounts.specs.Settling.{KeepsFrames};
+ghost use Rattle.lent_pages.specs.Locked.{IsTable, IsSwap};
+ghost use Rattle.lent_pages.specs.Stores.{HasFailed, HasDamaged};
+ghost use Rattle.lent_pages.specs.Supplies.{WhyLeft};
+
+use crate::{Swap, Table};
+use accounts::{BookShare, Books};
+use frames::FrameNo;
+use paging::{Pages, SupplyError, supply_copy, supply_first, supply_swapped};
+use std::alloc::Global;
+use std::snapshot::Snapshot;
+use swapstore::SwapStore;
+use word32::Ppn;
+
+/// A page that was never touched, or was given to the balloon, gets the frame in hand, of zeros.
+pub fn first_supplied<P: Pages>(
+    alloc: Global,
+    books: &Books,
+    share: &mut BookShare,
+    pages: &mut P,
+    p: Ppn,
+    no: FrameNo,
+) -> (Result<(), SupplyError>, Option<FrameNo>)
+    requires there { p < length (P.pages pages.old) }
+    requires kind { (kind_at (P.pages pages.old) p ≡ PageKind.Zero) ⊎ (kind_at (P.pages pages.old) p ≡ PageKind.Given) }
+    requires share { share.old ≡ guest_share books.now.id (P.pages pages.old) (no ∷ []) }
+    ensures share { share.new ≡ guest_share books.now.id (P.pages pages.new) (option_to_list result.1) }
+    ensures faithful { (view : ℕ → List ℕ) → Faithful view (P.pages pages.old) → Faithful view (P.pages pages.new) }
+    ensures rest { P.rest pages.new ≡ P.rest pages.old }
+    ensures frames { (entries : EntriesAre) → KeepsFrames (P.pages pages.old) (no ∷ []) entries (P.pages pages.new) (option_to_list result.1) entries }
+    ensures supplied { OnOk result.0 (Supplies (P.pages pages.old) p (zeros 4096) (P.pages pages.new)) }
+    ensures err { IfErr result.0 (WhyLeft ⊥ ⊥ ⊥) }
+    ensures unchanged { OnErr result.0 (P.pages pages.new ≡ P.pages pages.old) }
+{
+    match supply_first(alloc, pages, p, no) {
+        Ok(()) => {
+            accounts::settle(books, share, pages, &None);
+            (Ok(()), None)
+        }
+        Err(back) => (Err(SupplyError::Memory), Some(back)),
+    }
+}
+
+/// A shared page gets the frame in hand, with its bytes. The table's lock is held.
+pub fn copy_supplied<P: Pages>(
+    alloc: Global,
+    books: &Books,
+    share: &mut BookShare,
+    pages: &mut P,
+    p: Ppn,
+    no: FrameNo,
+    table: &mut Table,
+) -> (Result<(), SupplyError>, Option<FrameNo>)
+    requires there { p < length (P.pages pages.old) }
+    requires kind { kind_at (P.pages pages.old) p ≡ PageKind.Shared }
+    requires share { share.old ≡ guest_share books.now.id (P.pages pages.old) (no ∷ []) }
+    requires table { IsTable books.now table.old.shares.entries table.old.share }
+    ensures share { share.new ≡ guest_share books.now.id (P.pages pages.new) (option_to_list result.1) }
+    ensures table { IsTable books.now table.new.shares.entries table.new.share }
+    ensures faithful { (view : ℕ → List ℕ) → Faithful view (P.pages pages.old) → Faithful view (P.pages pages.new) }
+    ensures rest { P.rest pages.new ≡ P.rest pages.old }
+    ensures frames { KeepsFrames (P.pages pages.old) (no ∷ []) table.old.shares.entries (P.pages pages.new) (option_to_list result.1) table.new.shares.entries }
+    ensures supplied { OnOk result.0 (Supplies (P.pages pages.old) p (shown (page_at (P.pages pages.old) p)) (P.pages pages.new)) }
+    ensures err { IfErr result.0 (WhyLeft ⊥ ⊥ ⊥) }
+    ensures unchanged { OnErr result.0 (P.pages pages.new ≡ P.pages pages.old) }
+{
+    accounts::meet_table(books, share, &mut table.share, &table.shares);
+    match supply_copy(alloc, pages, p, no, &mut table.shares) {
+        Ok(came_free) => {
+            accounts::settle_table(
+                books,
+                share,
+                &mut table.share,
+                pages,
+                &came_free,
+                &table.shares,
+            );
+            (Ok(()), came_free)
+        }
+        Err(back) => (Err(SupplyError::Memory), Some(back)),
+    }
+}
+
+/// A swapped page gets the frame in hand, with the bytes of its slot, which is free then. The swap book's lock is held.
+pub fn swapped_supplied<P: Pages, S: SwapStore + Drop>(
+    alloc: Global,
+    books: &Books,
+    share: &mut BookShare,
+    pages: &mut P,
+    p: Ppn,
+    no: FrameNo,
+    swap: &mut Swap<S>,
+    first: &Snapshot<S>,
+) -> (Result<(), SupplyError>, Option<FrameNo>)
+    requires there { p < length (P.pages pages.old) }
+    requires kind { kind_at (P.pages pages.old) p ≡ PageKind.Swapped }
+    requires share { share.old ≡ guest_share books.now.id (P.pages pages.old) (no ∷ []) }
+    requires swap { IsSwap S.honest S.true_to_digests S.slots books.now first.now.value swap.old.slots swap.old.store swap.old.share }
+    ensures share { share.new ≡ guest_share books.now.id (P.pages pages.new) (option_to_list result.1) }
+    ensures swap { IsSwap S.honest S.true_to_digests S.slots books.now first.now.value swap.new.slots swap.new.store swap.new.share }
+    ensures faithful { (view : ℕ → List ℕ) → Faithful view (P.pages pages.old) →
+        OnOk result.0 (shown (page_at (P.pages pages.new) p) ≡ view p) → Faithful view (P.pages pages.new) }
+    ensures rest { P.rest pages.new ≡ P.rest pages.old }
+    ensures frames { (entries : EntriesAre) → KeepsFrames (P.pages pages.old) (no ∷ []) entries (P.pages pages.new) (option_to_list result.1) entries }
+    ensures supplied { OnOk result.0 (Supplies (P.pages pages.old) p (shown (page_at (P.pages pages.new) p)) (P.pages pages.new)) }
+    ensures digest { OnOk result.0 (sha256 (shown (page_at (P.pages pages.new) p)) ≡ digest_of (page_at (P.pages pages.old) p)) }
+    ensures err { IfErr result.0 (WhyLeft ⊥
+        (HasFailed S.honest S.true_to_digests S.failed first.now.value)
+        (HasDamaged S.honest S.true_to_digests S.gives S.held first.now.value (page_at (P.pages pages.old) p))) }
+    ensures unchanged { OnErr result.0 (P.pages pages.new ≡ P.pages pages.old) }
+{
+    accounts::meet_slots(books, share, &mut swap.share, &swap.slots);
+    match supply_swapped(alloc, pages, p, no, &mut swap.store) {
+        Ok(slot) => {
+            swap.slots.give(slot);
+            accounts::settle_slots(books, share, &mut swap.share, pages, &None, &swap.slots);
+            (Ok(()), None)
+        }
+        Err((back, error)) => (Err(error), Some(back)),
+    }
+}

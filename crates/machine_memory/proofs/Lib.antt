@@ -1,0 +1,6 @@
+mod Passing
+mod Stakes
+mod Auditing
+mod Locks
+mod Supplying
+mod Frames

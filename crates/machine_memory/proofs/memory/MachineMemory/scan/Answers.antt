@@ -1,0 +1,5 @@
+use Rattle.machine_memory.proofs.Frames.{frames_moved_by}
+use Rattle.machine_memory.proofs.memory.MachineMemory.scan.Goals as goal
+
+pub returns-clause-frames : goal.returns-clause-frames
+returns-clause-frames g c = frames_moved_by _ _ _ _ _ _ _ c.scanned-scan.ensures.frames c.give.ensures.given

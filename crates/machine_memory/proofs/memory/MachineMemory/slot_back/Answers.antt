@@ -1,0 +1,8 @@
+use Rattle.std.proofs.Common.{ap, []}
+use Rattle.machine_memory.specs.Memories.{MemoryIs}
+use Rattle.machine_memory.proofs.Frames.{come_back}
+use Rattle.machine_memory.proofs.memory.MachineMemory.slot_back.Goals as goal
+
+pub returns-clause-frames : goal.returns-clause-frames
+returns-clause-frames g c =
+    come_back c.self.inside.books.id c.args.self.now.books.id c.args.stake.now.share _ (g.P.Pages.pages c.args.pages.now) [] [] [] (ap (λ (m : MemoryIs _). m.books.id) c.self.view_is) (c.slot_returned.ensures.frames [])

@@ -1,0 +1,5 @@
+pub mod Memories
+pub mod Frames
+pub mod Returns
+pub mod Gathered
+pub mod Audits
