@@ -1,0 +1,6 @@
+pub mod Lent
+pub mod Level
+pub mod Narrowed
+pub mod Plain
+pub mod Sitting
+pub mod Slicing
