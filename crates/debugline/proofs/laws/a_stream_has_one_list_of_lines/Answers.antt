@@ -1,0 +1,8 @@
+use Rattle.debugline.proofs.Streams.{has_lines, same_lines}
+use Rattle.debugline.proofs.laws.a_stream_has_one_list_of_lines.Goals as goal
+
+pub returns-clause-some : goal.returns-clause-some
+returns-clause-some c = has_lines
+
+pub returns-clause-one : goal.returns-clause-one
+returns-clause-one c = same_lines
