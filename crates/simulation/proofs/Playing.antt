@@ -1,13 +1,11 @@
 -- Events, one after another.
 use Rattle.std.proofs.Common.{Result, Ok, Err, IfOk, OnOk, ◌≡◌, refl, sym, ap, subst, ◌∙◌, ℕ, Bool, true, false, nat_lt, Option, List, [], ◌∷◌, ◌++◌, append_assoc, if◌then◌else◌}
 use Rattle.std.proofs.lemmas.List.{append-nil}
-use Rattle.rand_core.specs.Stream.{Stream}
+use Rattle.world.specs.All.{StoreFacts, Stream, TenantIs, WorldIs}
 use Rattle.script.specs.declared.event.Event.{Event}
 use Rattle.script.specs.declared.event.Event.TheVariants as event
 use Rattle.world.specs.declared.events.Event.{Event as Happening}
 use Rattle.world.specs.declared.events.Event.TheVariants as happening
-use Rattle.tenant.specs.Tenants.{TenantIs}
-use Rattle.world.specs.Worlds.{WorldIs}
 use Rattle.simulation.specs.declared.acts.Act.TheVariants as act
 use Rattle.simulation.specs.declared.said.Said.{Said}
 use Rattle.simulation.specs.Acts.{IsFor, HasRegister, IsDoable, act_of}
@@ -59,8 +57,8 @@ damaged (Err e) P Q R so p q r = tt
 
 -- ---- one event more
 
-module _ {Store : Type 0} (trusted : Store → Type 0) (failures : Store → ℕ) (honest : Store → Type 0) (slots : Store → ℕ) (held : Store → ℕ → Option (List ℕ)) (gives : Store → ℕ → List ℕ → Type 0) where
-  lines_more : (words left : Stream) (w now : WorldIs Store) (es : List Event) (ss : List Said) (e : Event) (s : Said) → AllDone trusted failures honest slots held gives words w es ss left now
+module _ {Store : Type 0} (facts : StoreFacts Store) where
+  lines_more : (words left : Stream) (w now : WorldIs Store) (es : List Event) (ss : List Said) (e : Event) (s : Said) → AllDone facts words w es ss left now
       → lines_of (es ++ e ∷ []) (ss ++ s ∷ []) ≡ lines_of es ss ++ said_text (heading_of (act_of e)) s
   lines_more words left w now [] [] e s done = append-nil (said_text (heading_of (act_of e)) s)
   lines_more words left w now [] (t ∷ ss) e s done = absurd done
@@ -69,22 +67,22 @@ module _ {Store : Type 0} (trusted : Store → Type 0) (failures : Store → ℕ
       ap (λ (l : List ℕ). said_text (heading_of (act_of d)) t ++ l) (lines_more done.0 left done.1 now es ss e s done.3)
       ∙ sym (append_assoc (said_text (heading_of (act_of d)) t) (lines_of es ss) (said_text (heading_of (act_of e)) s))
 
-  done_more : (words left rest : Stream) (w now after : WorldIs Store) (es : List Event) (ss : List Said) (e : Event) (s : Said) → AllDone trusted failures honest slots held gives words w es ss left now
-      → IsDone trusted failures honest slots held gives left now (act_of e) s rest after → AllDone trusted failures honest slots held gives words w (es ++ e ∷ []) (ss ++ s ∷ []) rest after
+  done_more : (words left rest : Stream) (w now after : WorldIs Store) (es : List Event) (ss : List Said) (e : Event) (s : Said) → AllDone facts words w es ss left now
+      → IsDone facts left now (act_of e) s rest after → AllDone facts words w (es ++ e ∷ []) (ss ++ s ∷ []) rest after
   done_more words left rest w now after [] [] e s done one = (
     rest,
     after,
-    subst (λ (v : WorldIs Store). IsDone trusted failures honest slots held gives words v (act_of e) s rest after) done.1
-        (subst (λ (u : Stream). IsDone trusted failures honest slots held gives u now (act_of e) s rest after) done.0 one),
+    subst (λ (v : WorldIs Store). IsDone facts words v (act_of e) s rest after) done.1
+        (subst (λ (u : Stream). IsDone facts u now (act_of e) s rest after) done.0 one),
     (refl, refl),
   )
   done_more words left rest w now after [] (t ∷ ss) e s done one = absurd done
   done_more words left rest w now after (d ∷ es) [] e s done one = absurd done
   done_more words left rest w now after (d ∷ es) (t ∷ ss) e s done one = (done.0, done.1, done.2, done_more done.0 left rest done.1 now after es ss e s done.3 one)
 
-  pub played_more : (words left rest : Stream) (w now after : WorldIs Store) (es : List Event) (e : Event) (s : Said) (text text' : List ℕ) → IsPlayed trusted failures honest slots held gives words w es left now text
-      → IsDone trusted failures honest slots held gives left now (act_of e) s rest after → text' ≡ text ++ said_text (heading_of (act_of e)) s
-      → IsPlayed trusted failures honest slots held gives words w (es ++ e ∷ []) rest after text'
+  pub played_more : (words left rest : Stream) (w now after : WorldIs Store) (es : List Event) (e : Event) (s : Said) (text text' : List ℕ) → IsPlayed facts words w es left now text
+      → IsDone facts left now (act_of e) s rest after → text' ≡ text ++ said_text (heading_of (act_of e)) s
+      → IsPlayed facts words w (es ++ e ∷ []) rest after text'
   played_more words left rest w now after es e s text text' played one line = record {
     said = played.said ++ s ∷ [];
     lines = line ∙ ap (λ (l : List ℕ). l ++ said_text (heading_of (act_of e)) s) played.lines ∙ sym (lines_more words left w now es played.said e s played.done);
@@ -100,6 +98,6 @@ told_dump (Err e) trusted So f = tt
 
 -- ---- no event
 
-pub none_played : {Store : Type 0} (trusted : Store → Type 0) (failures : Store → ℕ) (honest : Store → Type 0) (slots : Store → ℕ) (held : Store → ℕ → Option (List ℕ)) (gives : Store → ℕ → List ℕ → Type 0) (words : Stream) (w : WorldIs Store) (text : List ℕ)
-    → text ≡ [] → IsPlayed trusted failures honest slots held gives words w [] words w text
-none_played trusted failures honest slots held gives words w text none = record { said = []; lines = none; done = (refl, refl) }
+pub none_played : {Store : Type 0} (facts : StoreFacts Store) (words : Stream) (w : WorldIs Store) (text : List ℕ)
+    → text ≡ [] → IsPlayed facts words w [] words w text
+none_played facts words w text none = record { said = []; lines = none; done = (refl, refl) }

@@ -5,14 +5,7 @@ use Rattle.std.proofs.lemmas.List.Elements.{All-head, All-tail}
 use Rattle.std.specs.declared.alloc.Global.{Global}
 use Rattle.std.specs.declared.string.String.{String}
 use Rattle.std.specs.declared.vec.Vec.{Vec}
-use Rattle.items.specs.declared.item.Item.{Item}
-use Rattle.items.specs.declared.item.What.TheVariants.{Write}
-use Rattle.mips_step.specs.Step.{Machine}
-use Rattle.flatvm.specs.Answers.{replied}
-use Rattle.flatvm.specs.Items.{run, accepts, reply}
-use Rattle.flatvm.specs.Replies.{bytes_at}
-use Rattle.flatvm.specs.declared.reply.Reply.{Reply}
-use Rattle.guest.specs.Guests.{view_of}
+use Rattle.world.specs.All.{AreBooted, Item, Machine, Reply, StoreFacts, Stream, TenantIs, WorldIs, Write, accepts, boot_of, bytes_at, items_of, log_at, replied, reply, run, view_of}
 use Rattle.dump.specs.Dumps.{dump_text}
 use Rattle.dump.specs.Steps.{step_count}
 use Rattle.script.specs.declared.event.Event.{Event}
@@ -20,9 +13,6 @@ use Rattle.world.specs.declared.boot.NewGuest.{NewGuest}
 use Rattle.world.specs.declared.debugging.DebugError.TheVariants.{NoPlace}
 use Rattle.world.specs.declared.events.Answer.TheVariants as answer
 use Rattle.world.specs.declared.events.Event.TheVariants as happening
-use Rattle.world.specs.Boots.{AreBooted}
-use Rattle.tenant.specs.Tenants.{TenantIs}
-use Rattle.world.specs.Worlds.{WorldIs, boot_of, items_of, log_at}
 use Rattle.world.proofs.Victims.{map_at, some_tenant}
 use Rattle.world.proofs.Worlds.{its_log}
 use Rattle.simulation.specs.declared.acts.Act.{Act}
@@ -30,7 +20,6 @@ use Rattle.simulation.specs.declared.acts.Act.TheVariants as act
 use Rattle.simulation.specs.declared.said.Said.{Said}
 use Rattle.simulation.specs.declared.said.Said.TheVariants as said
 use Rattle.simulation.specs.Acts.{IsFor, IsDoable, act_of}
-use Rattle.rand_core.specs.Stream.{Stream}
 use Rattle.simulation.specs.Transcripts.{IsTold, AllDone, Shows, AllShow, added, machine_of}
 use Rattle.simulation.proofs.Playing.{for_act}
 
@@ -41,12 +30,12 @@ its_view : (ts : List TenantIs) (g : ℕ) (t : TenantIs) (any : Machine) → g <
 its_view ts g t any inside =
     ap (λ (l : List Item). run l (boot_of (get_or ts g t))) (sym (its_log ts g t inside)) ∙ ap (run (log_at ts g)) (sym (map_at boot_of ts g t any inside))
 
-module _ {Store : Type 0} (trusted : Store → Type 0) (failures : Store → ℕ) (honest : Store → Type 0) (slots : Store → ℕ) (held : Store → ℕ → Option (List ℕ)) (gives : Store → ℕ → List ℕ → Type 0) where
-  module _ (any : Machine) (words rest : Stream) (w w' : WorldIs Store) (a : Act) (s : Said) (all_slots : ℕ) (trust : trusted w.store) (can : IsDoable (length w.tenants) all_slots a)
-      (told : IsTold trusted failures honest slots held gives words w a s rest w') where
-    of : (a' : Act) (s' : Said) → a ≡ a' → s ≡ s' → IsTold trusted failures honest slots held gives words w a' s' rest w'
+module _ {Store : Type 0} (facts : StoreFacts Store) where
+  module _ (any : Machine) (words rest : Stream) (w w' : WorldIs Store) (a : Act) (s : Said) (all_slots : ℕ) (trust : facts.true_to_digests w.store) (can : IsDoable (length w.tenants) all_slots a)
+      (told : IsTold facts words w a s rest w') where
+    of : (a' : Act) (s' : Said) → a ≡ a' → s ≡ s' → IsTold facts words w a' s' rest w'
     of a' s' is_a is_s =
-        subst (λ (b : Act). IsTold trusted failures honest slots held gives words w b s' rest w') is_a (subst (λ (u : Said). IsTold trusted failures honest slots held gives words w a u rest w') is_s told)
+        subst (λ (b : Act). IsTold facts words w b s' rest w') is_a (subst (λ (u : Said). IsTold facts words w a u rest w') is_s told)
 
     does : (a' : Act) → a ≡ a' → IsDoable (length w.tenants) all_slots a'
     does a' is_a = subst (IsDoable (length w.tenants) all_slots) is_a can
@@ -101,25 +90,25 @@ module _ {Store : Type 0} (trusted : Store → Type 0) (failures : Store → ℕ
   -- ---- many
 
   -- a store that is true to digests after events was before them
-  trusted_first : (words rest : Stream) (w last : WorldIs Store) (es : List Event) (ss : List Said) → AllDone trusted failures honest slots held gives words w es ss rest last → trusted last.store → trusted w.store
-  trusted_first words rest w last [] [] done trust = subst (λ (v : WorldIs Store). trusted v.store) done.1 trust
+  trusted_first : (words rest : Stream) (w last : WorldIs Store) (es : List Event) (ss : List Said) → AllDone facts words w es ss rest last → facts.true_to_digests last.store → facts.true_to_digests w.store
+  trusted_first words rest w last [] [] done trust = subst (λ (v : WorldIs Store). facts.true_to_digests v.store) done.1 trust
   trusted_first words rest w last [] (s ∷ ss) done trust = absurd done
   trusted_first words rest w last (e ∷ es) [] done trust = absurd done
   trusted_first words rest w last (e ∷ es) (s ∷ ss) done trust = done.2.trusted_before (trusted_first done.0 rest done.1 last es ss done.3 trust)
 
-  pub all_shown : (any : Machine) (words rest : Stream) (w last : WorldIs Store) (es : List Event) (ss : List Said) → AllDone trusted failures honest slots held gives words w es ss rest last → trusted last.store
-      → All (IsFor (length w.tenants) (slots w.store)) es → AllShow any (map boot_of w.tenants) (log_at w.tenants) es ss
+  pub all_shown : (any : Machine) (words rest : Stream) (w last : WorldIs Store) (es : List Event) (ss : List Said) → AllDone facts words w es ss rest last → facts.true_to_digests last.store
+      → All (IsFor (length w.tenants) (facts.slots w.store)) es → AllShow any (map boot_of w.tenants) (log_at w.tenants) es ss
   all_shown any words rest w last [] ss done trust each = tt
   all_shown any words rest w last (e ∷ es) [] done trust each = tt
   all_shown any words rest w last (e ∷ es) (s ∷ ss) done trust each =
       let mid = done.1 in
       let one = done.2 in
-      let is : IsFor (length w.tenants) (slots w.store) e = All-head (IsFor (length w.tenants) (slots w.store)) e es each in
+      let is : IsFor (length w.tenants) (facts.slots w.store) e = All-head (IsFor (length w.tenants) (facts.slots w.store)) e es each in
       let counts : length w.tenants ≡ length mid.tenants = omega (arith, ap length one.boots, length-map w.tenants boot_of, length-map mid.tenants boot_of) in
-      let others : All (IsFor (length mid.tenants) (slots mid.store)) es =
-      subst (λ (n : ℕ). All (IsFor n (slots mid.store)) es) counts
-      (subst (λ (n : ℕ). All (IsFor (length w.tenants) n) es) (sym one.slots_stay) (All-tail (IsFor (length w.tenants) (slots w.store)) e es each)) in (
-        shown any words done.0 w mid (act_of e) s (slots w.store) (one.trusted_before (trusted_first done.0 rest mid last es ss done.3 trust)) (for_act (length w.tenants) (slots w.store) e is).act one.told,
+      let others : All (IsFor (length mid.tenants) (facts.slots mid.store)) es =
+      subst (λ (n : ℕ). All (IsFor n (facts.slots mid.store)) es) counts
+      (subst (λ (n : ℕ). All (IsFor (length w.tenants) n) es) (sym one.slots_stay) (All-tail (IsFor (length w.tenants) (facts.slots w.store)) e es each)) in (
+        shown any words done.0 w mid (act_of e) s (facts.slots w.store) (one.trusted_before (trusted_first done.0 rest mid last es ss done.3 trust)) (for_act (length w.tenants) (facts.slots w.store) e is).act one.told,
         subst (λ (boots : List Machine). AllShow any boots (λ h. log_at w.tenants h ++ added h (act_of e) s) es ss) one.boots
             (subst (λ (logs : ℕ → List Item). AllShow any (map boot_of mid.tenants) logs es ss) (λ i h. one.logs h i)
             (all_shown any done.0 rest mid last es ss done.3 trust others)),

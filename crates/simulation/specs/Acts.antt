@@ -1,12 +1,11 @@
 -- What is done by the events of scripts.
 use Rattle.std.specs.Prelude.{ℕ, ◌<◌, ◌≤◌, ◌^◌, nat_lt, if◌then◌else◌, length}
-use Rattle.items.specs.declared.item.What.{What}
+use Rattle.world.specs.All.{IsProper, What}
 use Rattle.items.specs.declared.item.What.TheVariants as what
 use Rattle.script.specs.declared.event.Event.{Event}
 use Rattle.script.specs.declared.event.Event.TheVariants as event
 use Rattle.world.specs.declared.events.Event.{Event as Happening}
 use Rattle.world.specs.declared.events.Event.TheVariants as happening
-use Rattle.world.specs.Events.{IsProper}
 use Rattle.simulation.specs.declared.acts.Act.{Act}
 use Rattle.simulation.specs.declared.acts.Act.TheVariants as act
 

@@ -4,16 +4,13 @@ use Rattle.std.specs.declared.alloc.AllocError.{AllocError}
 use Rattle.std.specs.declared.alloc.Global.{Global}
 use Rattle.std.specs.declared.string.String.{String}
 use Rattle.std.specs.declared.vec.Vec.{Vec}
-use Rattle.mips_step.specs.declared.access.Why.{Why}
+use Rattle.world.specs.All.{EvictError, Level, Refused, Reply, Why, for_room, stop_of}
 use Rattle.mips_step.specs.declared.access.Why.TheVariants.{First, Swapped, Copy}
 use Rattle.paging.specs.declared.scan.Scan.{Scan}
 use Rattle.paging.specs.declared.scan.Scan.TheVariants as scan
 use Rattle.reclaim.specs.Levels.{level_name}
-use Rattle.reclaim.specs.declared.level.Level.{Level}
 use Rattle.guest_log.specs.declared.stop.Stop.{Stop}
-use Rattle.flatvm.specs.declared.reply.Reply.{Reply}
 use Rattle.flatvm.specs.declared.reply.Reply.TheVariants as reply
-use Rattle.guest.specs.declared.refused.Refused.{Refused}
 use Rattle.guest.specs.declared.refused.Refused.TheVariants as refusal
 use Rattle.world.specs.declared.events.Answer.{Answer}
 use Rattle.world.specs.declared.events.Answer.TheVariants as answer
@@ -25,7 +22,6 @@ use Rattle.world.specs.declared.faulting.FaultError.{FaultError}
 use Rattle.world.specs.declared.turns.Turn.{Turn}
 use Rattle.world.specs.declared.books.BookCounts.{BookCounts}
 use Rattle.tenant.specs.declared.counts.MoveCounts.{MoveCounts}
-use Rattle.tenant.specs.declared.moves.EvictError.{EvictError}
 use Rattle.tenant.specs.declared.moves.EvictError.TheVariants.{NoSwap, SwapWrite}
 use Rattle.world.specs.declared.running.End.{End}
 use Rattle.world.specs.declared.running.End.TheVariants as ending
@@ -36,7 +32,6 @@ use Rattle.world.specs.declared.world.Evicted.{Evicted}
 use Rattle.world.specs.declared.world.Evicted.TheVariants as evicted
 use Rattle.dump.specs.Dumps.{digits_of, output_digits}
 use Rattle.script.specs.declared.event.Event.{Event}
-use Rattle.world.specs.Events.{for_room, stop_of}
 use Rattle.simulation.specs.Acts.{act_of}
 use Rattle.simulation.specs.declared.acts.Act.{Act}
 use Rattle.simulation.specs.declared.acts.Act.TheVariants as act

@@ -3,40 +3,22 @@ use Rattle.std.specs.Prelude.{◌≡◌, ◌↔◌, ◌+◌, ◌≤◌, ℕ, fal
 use Rattle.std.specs.declared.vec.Vec.{Vec}
 use Rattle.std.specs.declared.string.String.{String}
 use Rattle.std.specs.declared.alloc.Global.{Global}
-use Rattle.items.specs.declared.item.Item.{Item}
-use Rattle.rand_core.specs.Stream.{Stream}
+use Rattle.world.specs.All.{AllStay, AreBooted, AreHeldByDigest, GuestPage, Happens, IsAdmitted, IsSoundWorld, Item, Machine, Reply, StoreFacts, StoreStays, Stream, TenantIs, WhyNotBooted, WorldIs, Write, accepts, at_page, boot_of, bytes_at, entry_count, guest_at, items_of, log_at, own_items, pages_in, private_pages, replied, reply, run, shared_pages, swapped_pages, view_at}
 use Rattle.rand_core.specs.Steps.{stream_of, steps_u32}
 use Rattle.rand_core.specs.Pcg32Seed.{pcg32_seed}
 use Rattle.rand_pcg.specs.Pcg.{pcg32, pcg32_of_seed}
-use Rattle.items.specs.declared.item.What.TheVariants.{Write}
-use Rattle.mips_step.specs.Step.{Machine}
-use Rattle.flatvm.specs.Answers.{replied}
 use Rattle.flatvm.specs.Boot.{boot_machine}
-use Rattle.flatvm.specs.Items.{run, accepts, reply}
-use Rattle.flatvm.specs.Replies.{bytes_at}
-use Rattle.flatvm.specs.declared.reply.Reply.{Reply}
-use Rattle.sharetab.specs.Entries.{entry_count}
-use Rattle.sharetab.specs.Maps.{at_page}
-use Rattle.sharetab.specs.declared.guest_page.GuestPage.{GuestPage}
-use Rattle.swapstore.specs.Holding.{AreHeldByDigest, AllStay}
 use Rattle.swapstore.specs.Memories.{Inverts}
-use Rattle.physmap.specs.Holdings.{private_pages, shared_pages, swapped_pages}
 use Rattle.reclaim.specs.declared.level.Level.TheVariants.{High}
 use Rattle.dump.specs.Dumps.{dump_text}
 use Rattle.dump.specs.Steps.{step_count}
 use Rattle.script.specs.declared.event.Event.{Event}
-use Rattle.tenant.specs.Tenants.{TenantIs, pages_in}
 use Rattle.world.specs.declared.books.BookCounts.{BookCounts}
 use Rattle.world.specs.declared.boot.Config.{Config}
 use Rattle.world.specs.declared.boot.NewGuest.{NewGuest}
 use Rattle.world.specs.declared.debugging.DebugError.TheVariants.{NoPlace}
 use Rattle.world.specs.declared.events.Answer.TheVariants as answer
 use Rattle.world.specs.declared.events.Event.TheVariants as happening
-use Rattle.world.specs.Admission.{IsAdmitted}
-use Rattle.world.specs.Answers.{Happens, IsSoundWorld}
-use Rattle.world.specs.Boots.{AreBooted, WhyNotBooted}
-use Rattle.world.specs.Events.{own_items}
-use Rattle.world.specs.Worlds.{WorldIs, StoreStays, boot_of, items_of, log_at, guest_at, view_at}
 use Rattle.simulation.specs.declared.acts.Act.{Act}
 use Rattle.simulation.specs.declared.acts.Act.TheVariants as act
 use Rattle.simulation.specs.declared.said.Said.{Said}
@@ -67,28 +49,28 @@ IsDumpIn w g text = (t : TenantIs) → text ≡ dump_text (view_at w g t) (step_
 -- A byte that lies in a slot of the store is inverted, and of the world nothing else has changed; what was last written to each slot stays
 -- known. The store is honest no more; it stays true to digests where what lies there now has another SHA-256 than what was last written, or is
 -- that.
-pub record IsDamaged {Store : Type 0} (trusted : Store → Type 0) (failures : Store → ℕ) (honest : Store → Type 0) (held : Store → ℕ → Option (List ℕ)) (gives : Store → ℕ → List ℕ → Type 0) (w : WorldIs Store) (slot byte : ℕ) (w' : WorldIs Store) : Type 0 where
-  pub inverted : Inverts byte (gives w.store slot) (gives w'.store slot)
-  pub others : (other : ℕ) (bytes : List ℕ) → (other ≡ slot → ⊥) → gives w'.store other bytes ↔ gives w.store other bytes
-  pub written_stay : AllStay (held w.store) (held w'.store)
-  pub failures_stay : failures w'.store ≡ failures w.store
-  pub dishonest : honest w'.store → ⊥
-  pub told : trusted w.store → ((bytes : List ℕ) → gives w'.store slot bytes → AreHeldByDigest (held w.store slot) bytes) → trusted w'.store
+pub record DamagesSlot {Store : Type 0} (facts : StoreFacts Store) (w : WorldIs Store) (slot byte : ℕ) (w' : WorldIs Store) : Type 0 where
+  pub inverted : Inverts byte (facts.gives w.store slot) (facts.gives w'.store slot)
+  pub others : (other : ℕ) (bytes : List ℕ) → (other ≡ slot → ⊥) → facts.gives w'.store other bytes ↔ facts.gives w.store other bytes
+  pub written_stay : AllStay (facts.held w.store) (facts.held w'.store)
+  pub failures_stay : facts.failed w'.store ≡ facts.failed w.store
+  pub dishonest : facts.honest w'.store → ⊥
+  pub told : facts.true_to_digests w.store → ((bytes : List ℕ) → facts.gives w'.store slot bytes → AreHeldByDigest (facts.held w.store slot) bytes) → facts.true_to_digests w'.store
   pub beside : w' ≡ record w { store = w'.store }
 
 -- What is answered to an act, and what it makes of the world: what `World::apply` answers to an event, at a tax of 75 percent and by the
 -- words that a generator gives next (`Happens`); what is read of the world as it is; or that a slot is damaged, or that there was no memory for it and nothing has changed. These draw no word. How
 -- often pages have moved is counted beside the world: its definition has no such number, and nothing is said of what they are.
-abbrev pub IsTold : {Store : Type 0} → (trusted : Store → Type 0) → (failures : Store → ℕ) → (honest : Store → Type 0) → (slots : Store → ℕ) → (held : Store → ℕ → Option (List ℕ)) → (gives : Store → ℕ → List ℕ → Type 0) → Stream → WorldIs Store → Act → Said → Stream → WorldIs Store → Type 0
-IsTold trusted failures honest slots held gives words w (act.World e) (said.Answered a) rest w' = Happens trusted failures honest slots held 75 words w e a rest w'
-IsTold trusted failures honest slots held gives words w act.Skip said.Skipped rest w' = (w' ≡ w) × (rest ≡ words)
-IsTold trusted failures honest slots held gives words w act.Audit (said.Counted counts) rest w' = AreCounts w (slots w.store) counts × (w' ≡ w) × (rest ≡ words)
-IsTold trusted failures honest slots held gives words w (act.Dump g) (said.Dumped done) rest w' =
-    IfOk done (λ text. trusted w.store → IsDumpIn w g (string_bytes text)) × (w' ≡ w) × (rest ≡ words)
-IsTold trusted failures honest slots held gives words w (act.Stats g) (said.Moved counts) rest w' = (w' ≡ w) × (rest ≡ words)
-IsTold trusted failures honest slots held gives words w (act.Damage slot byte) (said.Damaged done) rest w' =
-    OnOk done (IsDamaged trusted failures honest held gives w slot byte w') × OnErr done (w' ≡ w) × (rest ≡ words)
-IsTold trusted failures honest slots held gives words w _ _ rest w' = ⊥
+abbrev pub IsTold : {Store : Type 0} → (facts : StoreFacts Store) → Stream → WorldIs Store → Act → Said → Stream → WorldIs Store → Type 0
+IsTold facts words w (act.World e) (said.Answered a) rest w' = Happens facts 75 words w e a rest w'
+IsTold facts words w act.Skip said.Skipped rest w' = (w' ≡ w) × (rest ≡ words)
+IsTold facts words w act.Audit (said.Counted counts) rest w' = AreCounts w (facts.slots w.store) counts × (w' ≡ w) × (rest ≡ words)
+IsTold facts words w (act.Dump g) (said.Dumped done) rest w' =
+    IfOk done (λ text. facts.true_to_digests w.store → IsDumpIn w g (string_bytes text)) × (w' ≡ w) × (rest ≡ words)
+IsTold facts words w (act.Stats g) (said.Moved counts) rest w' = (w' ≡ w) × (rest ≡ words)
+IsTold facts words w (act.Damage slot byte) (said.Damaged done) rest w' =
+    OnOk done (DamagesSlot facts w slot byte w') × OnErr done (w' ≡ w) × (rest ≡ words)
+IsTold facts words w _ _ rest w' = ⊥
 
 -- the items that an act adds to the log of guest h, by what is answered
 abbrev pub added : ℕ → Act → Said → List Item
@@ -97,30 +79,30 @@ added h _ _ = []
 
 -- An act is done. Each log has the items more that it adds, the machines that the guests booted and the number of slots are as before, and
 -- the world is sound. Where the store is true to digests after it, it was before; unless the act damages a slot, it is as it was.
-pub record IsDone {Store : Type 0} (trusted : Store → Type 0) (failures : Store → ℕ) (honest : Store → Type 0) (slots : Store → ℕ) (held : Store → ℕ → Option (List ℕ)) (gives : Store → ℕ → List ℕ → Type 0) (words : Stream) (w : WorldIs Store) (a : Act) (s : Said) (rest : Stream) (w' : WorldIs Store) : Type 0 where
-  pub told : IsTold trusted failures honest slots held gives words w a s rest w'
+pub record IsDone {Store : Type 0} (facts : StoreFacts Store) (words : Stream) (w : WorldIs Store) (a : Act) (s : Said) (rest : Stream) (w' : WorldIs Store) : Type 0 where
+  pub told : IsTold facts words w a s rest w'
   pub logs : (h : ℕ) → log_at w'.tenants h ≡ log_at w.tenants h ++ added h a s
   pub boots : map boot_of w'.tenants ≡ map boot_of w.tenants
-  pub slots_stay : slots w'.store ≡ slots w.store
-  pub trusted_before : trusted w'.store → trusted w.store
-  pub trust : IsHarmless a → (trusted w'.store ↔ trusted w.store)
-  pub sound : IsSoundWorld trusted slots held w'
+  pub slots_stay : facts.slots w'.store ≡ facts.slots w.store
+  pub trusted_before : facts.true_to_digests w'.store → facts.true_to_digests w.store
+  pub trust : IsHarmless a → (facts.true_to_digests w'.store ↔ facts.true_to_digests w.store)
+  pub sound : IsSoundWorld facts w'
 
 -- ---- many
 
 -- events of a script are done one after another, each in the world that the one before it left, and by the words that it left
-abbrev pub AllDone : {Store : Type 0} → (trusted : Store → Type 0) → (failures : Store → ℕ) → (honest : Store → Type 0) → (slots : Store → ℕ) → (held : Store → ℕ → Option (List ℕ)) → (gives : Store → ℕ → List ℕ → Type 0) → Stream → WorldIs Store → List Event → List Said → Stream → WorldIs Store → Type 0
-AllDone trusted failures honest slots held gives words w [] [] rest w' = (rest ≡ words) × (w' ≡ w)
-AllDone trusted failures honest slots held gives words w [] (s ∷ ss) rest w' = ⊥
-AllDone trusted failures honest slots held gives words w (e ∷ es) [] rest w' = ⊥
-AllDone {Store} trusted failures honest slots held gives words w (e ∷ es) (s ∷ ss) rest w' =
-    (left : Stream) × (mid : WorldIs Store) × IsDone trusted failures honest slots held gives words w (act_of e) s left mid × AllDone trusted failures honest slots held gives left mid es ss rest w'
+abbrev pub AllDone : {Store : Type 0} → (facts : StoreFacts Store) → Stream → WorldIs Store → List Event → List Said → Stream → WorldIs Store → Type 0
+AllDone facts words w [] [] rest w' = (rest ≡ words) × (w' ≡ w)
+AllDone facts words w [] (s ∷ ss) rest w' = ⊥
+AllDone facts words w (e ∷ es) [] rest w' = ⊥
+AllDone {Store} facts words w (e ∷ es) (s ∷ ss) rest w' =
+    (left : Stream) × (mid : WorldIs Store) × IsDone facts words w (act_of e) s left mid × AllDone facts left mid es ss rest w'
 
 -- events are done in a world by the words of a generator, and the text is the lines of what is answered to them
-pub record IsPlayed {Store : Type 0} (trusted : Store → Type 0) (failures : Store → ℕ) (honest : Store → Type 0) (slots : Store → ℕ) (held : Store → ℕ → Option (List ℕ)) (gives : Store → ℕ → List ℕ → Type 0) (words : Stream) (w : WorldIs Store) (events : List Event) (rest : Stream) (w' : WorldIs Store) (text : List ℕ) : Type 0 where
+pub record IsPlayed {Store : Type 0} (facts : StoreFacts Store) (words : Stream) (w : WorldIs Store) (events : List Event) (rest : Stream) (w' : WorldIs Store) (text : List ℕ) : Type 0 where
   pub said : List Said
   pub lines : text ≡ lines_of events said
-  pub done : AllDone trusted failures honest slots held gives words w events said rest w'
+  pub done : AllDone facts words w events said rest w'
 
 -- ---- what is shown of guests
 
@@ -153,14 +135,14 @@ machine_of guest = boot_machine guest.image.value guest.pages
 -- ---- the whole
 
 -- a world as it is booted over a store
-pub record IsFirst {Store : Type 0} (trusted : Store → Type 0) (honest : Store → Type 0) (slots : Store → ℕ) (held : Store → ℕ → Option (List ℕ)) (config : Config) (guests : List NewGuest) (store : Store) (w : WorldIs Store) : Type 0 where
+pub record IsFirst {Store : Type 0} (facts : StoreFacts Store) (config : Config) (guests : List NewGuest) (store : Store) (w : WorldIs Store) : Type 0 where
   pub booted : AreBooted config.log_runs guests w.tenants
   pub frames : w.frames ≡ config.frames
   pub level : w.level ≡ High
   pub hints : (page : GuestPage) → at_page w.shares.hints page ≡ None
-  pub store_stays : StoreStays slots honest trusted store w.store
-  pub admitted : config.admit ≡ true → IsAdmitted config.frames (slots store) w.tenants
-  pub sound : IsSoundWorld trusted slots held w
+  pub store_stays : StoreStays facts store w.store
+  pub admitted : config.admit ≡ true → IsAdmitted config.frames (facts.slots store) w.tenants
+  pub sound : IsSoundWorld facts w
 
 -- the words of the generator of a seed, PCG-XSH-RR with 64 bits of state (O'Neill, "PCG: a family of simple fast space-efficient
 -- statistically good algorithms for random number generation")
@@ -170,13 +152,13 @@ words_of seed = stream_of (steps_u32 pcg32) (pcg32_of_seed (pcg32_seed 16 seed))
 -- The text is the lines of what is answered to the events, done one after another from a world that was booted with these guests over a
 -- store, by the words of the generator of a seed; and where the store is true to digests after them, what they show of guests is of the
 -- machines that the guests boot, each run alone on its own items.
-pub record IsTranscript {Store : Type 0} (trusted : Store → Type 0) (failures : Store → ℕ) (honest : Store → Type 0) (slots : Store → ℕ) (held : Store → ℕ → Option (List ℕ)) (gives : Store → ℕ → List ℕ → Type 0) (config : Config) (seed : ℕ) (guests : List NewGuest) (store : Store) (events : List Event) (text : List ℕ) : Type 0 where
+pub record IsTranscript {Store : Type 0} (facts : StoreFacts Store) (config : Config) (seed : ℕ) (guests : List NewGuest) (store : Store) (events : List Event) (text : List ℕ) : Type 0 where
   pub first : WorldIs Store
   pub last : WorldIs Store
   pub rest : Stream
-  pub is_first : IsFirst trusted honest slots held config guests store first
-  pub played : IsPlayed trusted failures honest slots held gives (words_of seed) first events rest last text
-  pub shows : trusted last.store → (any : Machine) → AllShow any (map machine_of guests) (λ h. []) events played.said
+  pub is_first : IsFirst facts config guests store first
+  pub played : IsPlayed facts (words_of seed) first events rest last text
+  pub shows : facts.true_to_digests last.store → (any : Machine) → AllShow any (map machine_of guests) (λ h. []) events played.said
 
 -- why there is no transcript: the world is not booted, or a request for memory was refused
 abbrev pub WhyNotDone : Config → ℕ → List NewGuest → SimError → Type 0

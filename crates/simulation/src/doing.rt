@@ -1,11 +1,8 @@
 //! What is done by an event of a script, done in a world.
 ghost use Rattle.std.specs.Prelude.{◌≡◌, ◌<◌, ◌↔◌, ◌++◌, ℕ, IfOk, length, map, string_bytes, None};
-ghost use Rattle.flatvm.specs.Items.{run};
+ghost use Rattle.world.specs.All.{IsSoundWorld, TenantIs, boot_of, guest_at, items_of, log_at, run, view_at};
 ghost use Rattle.dump.specs.Dumps.{dump_text};
 ghost use Rattle.dump.specs.Steps.{step_count};
-ghost use Rattle.tenant.specs.Tenants.{TenantIs};
-ghost use Rattle.world.specs.Answers.{IsSoundWorld};
-ghost use Rattle.world.specs.Worlds.{boot_of, items_of, log_at, guest_at, view_at};
 ghost use Rattle.simulation.specs.Acts.{IsDoable, IsHarmless};
 ghost use Rattle.simulation.specs.Transcripts.{IsTold, added};
 
@@ -41,14 +38,14 @@ pub(crate) fn perform<S: Damage, R: Rng>(
     act: Act,
 ) -> Said
     requires { IsDoable (length world.old.tenants) (S.slots world.old.store) act }
-    ensures told { IsTold S.true_to_digests S.failed S.honest S.slots S.held S.gives (R.stream rng.old) world.old act result
+    ensures told { IsTold S.SwapStore (R.stream rng.old) world.old act result
         (R.stream rng.new) world.new }
     ensures logs { (h : ℕ) → log_at world.new.tenants h ≡ log_at world.old.tenants h ++ added h act result }
     ensures boots { map boot_of world.new.tenants ≡ map boot_of world.old.tenants }
     ensures slots { S.slots world.new.store ≡ S.slots world.old.store }
     ensures trusted_before { S.true_to_digests world.new.store → S.true_to_digests world.old.store }
     ensures trust { IsHarmless act → (S.true_to_digests world.new.store ↔ S.true_to_digests world.old.store) }
-    ensures sound { IsSoundWorld S.true_to_digests S.slots S.held world.new }
+    ensures sound { IsSoundWorld S.SwapStore world.new }
 {
     match act {
         Act::World(event) => Said::Answered(world.apply(alloc, event, TAX, rng)),

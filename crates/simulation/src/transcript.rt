@@ -1,6 +1,6 @@
 //! A list of events, done in a world that is booted for them.
 ghost use Rattle.std.specs.Prelude.{◌≡◌, All, IfOk, IfErr, length, string_bytes};
-ghost use Rattle.world.specs.Boots.{AreWithinLimits, HoldsImage, AreAdmitted};
+ghost use Rattle.world.specs.All.{AreAdmitted, AreWithinLimits, HoldsImage};
 ghost use Rattle.simulation.specs.Acts.{IsFor};
 ghost use Rattle.simulation.specs.Transcripts.{IsPlayed, IsTranscript, WhyNotDone};
 ghost use Rattle.simulation.specs.declared.transcript.SimError.TheVariants.{Memory};
@@ -42,7 +42,7 @@ fn play<S: Damage, R: Rng>(
     events: Vec<Event>,
 ) -> Result<String, AllocError>
     requires { All (IsFor (length world.old.tenants) (S.slots world.old.store)) events.items }
-    ensures { IfOk result (λ text. IsPlayed S.true_to_digests S.failed S.honest S.slots S.held S.gives (R.stream rng.old) world.old events.items
+    ensures { IfOk result (λ text. IsPlayed S.SwapStore (R.stream rng.old) world.old events.items
         (R.stream rng.new) world.new (string_bytes text)) }
 {
     let mut text = String::new(alloc);
@@ -70,7 +70,7 @@ pub fn simulate<S: Damage + Drop>(
     events: Vec<Event>,
 ) -> Result<String, SimError>
     requires { All (IsFor (length guests.items) (S.slots store)) events.items }
-    ensures transcript { IfOk result (λ text. IsTranscript S.true_to_digests S.failed S.honest S.slots S.held S.gives config seed guests.items store events.items (string_bytes text)) }
+    ensures transcript { IfOk result (λ text. IsTranscript S.SwapStore config seed guests.items store events.items (string_bytes text)) }
     ensures within { IfOk result (λ text. AreWithinLimits config (S.slots store) guests.items × All HoldsImage guests.items × AreAdmitted config (S.slots store) guests.items) }
     ensures refused { IfErr result (WhyNotDone config (S.slots store) guests.items) }
 {

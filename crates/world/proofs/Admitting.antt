@@ -3,40 +3,19 @@ use Rattle.std.proofs.Common.{ℕ, suc, ◌≡◌, ◌+◌, ◌-◌, ◌<◌, �
 use Rattle.std.proofs.lemmas.List.Sums.{sum_by-cons}
 use Rattle.std.proofs.lemmas.List.Elements.{All-head, All-tail}
 use Rattle.frames.specs.Frames.{SharedIs}
-use Rattle.frames.specs.FreeList.{FreeList}
-use Rattle.sharetab.specs.Entries.{EntriesAre, Fits, AllFit, entry_at, entry_count, ticket_count, one_entry, tickets_of}
-use Rattle.physmap.specs.declared.page.Page.{Page}
+use Rattle.world.specs.All.{Action, Aim, AllFit, Answer, AreTurned, Changes, DebugError, End, EntriesAre, Event, FailsOnce, FaultError, FindsRoom, Fits, FreeList, GuestsStay, IfStop, IfStopped, IsAccessWithRoom, IsAdmitted, IsAnswered, IsEligible, IsEndWithRoom, IsForRoom, IsNoRoom, IsNoRoomIn, IsSoundWorld, IsTurn, LimitsStay, OnlyPagesMove, OnlySamplesChange, Page, PagesMove, RunStop, Sound, Stays, StoreFacts, TenantIs, Turn, WhyLacking, WhyStopped, WhyUnsupplied, WorldIs, actions_in, all_resident, boot_of, entry_at, entry_count, one_entry, one_private, one_shared, one_swapped, pages_in, private_pages, resident_pages, shared_pages, stat_of, swapped_pages, ticket_count, tickets_of}
 use Rattle.physmap.specs.declared.page.Page.TheVariants as page
-use Rattle.physmap.specs.Holdings.{one_private, one_shared, one_swapped, private_pages, shared_pages, swapped_pages, resident_pages}
 use Rattle.paging.proofs.Totals.{frames_add_up, slots_add_up, tickets_add_up}
-use Rattle.taxpolicy.specs.Victim.{IsEligible}
-use Rattle.tenant.specs.Tenants.{TenantIs, pages_in, stat_of, Stays}
-use Rattle.reclaim.specs.declared.turn.Action.{Action}
-use Rattle.tenant.specs.declared.turning.Aim.{Aim}
 use Rattle.tenant.specs.declared.turning.Aim.TheVariants as aim
-use Rattle.world.specs.declared.events.Answer.{Answer}
 use Rattle.world.specs.declared.events.Answer.TheVariants as answer
-use Rattle.world.specs.declared.events.Event.{Event}
 use Rattle.world.specs.declared.events.Event.TheVariants as event
-use Rattle.world.specs.declared.debugging.DebugError.{DebugError}
 use Rattle.world.specs.declared.debugging.DebugError.TheVariants as debug
-use Rattle.world.specs.declared.faulting.FaultError.{FaultError}
 use Rattle.world.specs.declared.faulting.FaultError.TheVariants as lacking
-use Rattle.world.specs.declared.running.End.{End}
 use Rattle.world.specs.declared.running.End.TheVariants as end
-use Rattle.world.specs.declared.running.RunStop.{RunStop}
 use Rattle.world.specs.declared.running.RunStop.TheVariants as stop
-use Rattle.world.specs.Admission.{IsAdmitted, LimitsStay, GuestsStay, IsNoRoom, IsNoRoomIn, IsEndWithRoom, IsAccessWithRoom, FindsRoom}
-use Rattle.world.specs.Events.{IfStop, IsForRoom, WhyStopped}
-use Rattle.world.specs.Debugging.{IfStopped}
-use Rattle.world.specs.Samples.{OnlySamplesChange}
-use Rattle.world.specs.declared.turns.Turn.{Turn}
-use Rattle.world.specs.Turns.{AreTurned, IsTurn, actions_in}
-use Rattle.world.specs.Victims.{OnlyPagesMove, WhyLacking, WhyUnsupplied, all_resident}
-use Rattle.world.specs.Answers.{IsAnswered}
-use Rattle.world.specs.Worlds.{WorldIs, Sound, Changes, PagesMove, FailsOnce, boot_of}
 use Rattle.world.proofs.Sampling.{stays, same_map}
 use Rattle.world.proofs.Victims.{some_tenant, changed, only_pages, stays_beside}
+use Rattle.world.proofs.Totals.{each_at_most, sum_map}
 use Rattle.world.proofs.Worlds.{same_boots}
 
 -- ---- boots, limits and blocked guests
@@ -94,12 +73,8 @@ limits_turned actions made ts mid ts' d turned moves =
 
 -- ---- admitted guests stay admitted
 
-sums_of : (ts : List TenantIs) (f : TenantIs → ℕ) → sum_by f ts ≡ sum_by (λ n. n) (map f ts)
-sums_of [] f = refl
-sums_of (t ∷ ts) f = omega (arith, sum_by-cons f t ts, sum_by-cons (λ (n : ℕ). n) (f t) (map f ts), sums_of ts f)
-
 same_sum : (f : TenantIs → ℕ) (ts ts' : List TenantIs) → map f ts' ≡ map f ts → sum_by f ts' ≡ sum_by f ts
-same_sum f ts ts' same = sums_of ts' f ∙ ap (sum_by (λ n. n)) same ∙ sym (sums_of ts f)
+same_sum f ts ts' same = sym (sum_map f (λ n. n) ts') ∙ ap (sum_by (λ n. n)) same ∙ sum_map f (λ n. n) ts
 
 lengths : (ts : List TenantIs) → length (map (λ (t : TenantIs). t.minimum) ts) ≡ length ts
 lengths [] = refl
@@ -126,15 +101,7 @@ same_others (t ∷ ts) (u ∷ us) pages least =
 
 -- a guest has no more pages than these and those that it always keeps
 few_pages : (ts : List TenantIs) → sum_by (λ t. length (pages_in t)) ts ≤ sum_by (λ t. length (pages_in t) - t.minimum) ts + sum_by (λ (t : TenantIs). t.minimum) ts
-few_pages [] = omega arith
-few_pages (t ∷ ts) =
-    omega (
-      arith,
-      sum_by-cons (λ (v : TenantIs). length (pages_in v)) t ts,
-      sum_by-cons (λ (v : TenantIs). length (pages_in v) - v.minimum) t ts,
-      sum_by-cons (λ (v : TenantIs). v.minimum) t ts,
-      few_pages ts,
-    )
+few_pages ts = each_at_most (λ (t : TenantIs). length (pages_in t)) (λ (t : TenantIs). length (pages_in t) - t.minimum) (λ (t : TenantIs). t.minimum) (λ t. omega arith) ts
 
 pub still_admitted : {frames slots frames' slots' : ℕ} {ts ts' : List TenantIs} → frames' ≡ frames → slots' ≡ slots → LimitsStay ts ts' → IsAdmitted frames slots ts → IsAdmitted frames' slots' ts'
 still_admitted {ts = ts} {ts' = ts'} same_frames same_slots s a =
@@ -265,21 +232,21 @@ for_its_log failed (end.Stop stop.NoSwap) why = absurd why
 for_its_log failed e why = tt
 
 -- each page that an event needs finds room where the guests are admitted
-module _ {Kept : Type 0} (trusted : Kept → Type 0) (failures : Kept → ℕ) (honest : Kept → Type 0) (slots : Kept → ℕ) (held : Kept → ℕ → Option (List ℕ)) (tax : ℕ) (w w' : WorldIs Kept) where
-  one_of : IsAdmitted w'.frames (slots w'.store) w'.tenants → TenantIs
+module _ {Kept : Type 0} (facts : StoreFacts Kept) (tax : ℕ) (w w' : WorldIs Kept) where
+  one_of : IsAdmitted w'.frames (facts.slots w'.store) w'.tenants → TenantIs
   one_of admitted = some_tenant w'.tenants 0 admitted.some
 
-  pub room_of : (e : Event) (a : Answer) → IsAnswered trusted failures honest tax w w' e a
-      → Sound w'.frames (slots w'.store) (trusted w'.store) (held w'.store) w'.tenants w'.pool w'.slots w'.shares.entries → AllFit w'.shares.entries
-      → IsAdmitted w'.frames (slots w'.store) w'.tenants → FindsRoom (FailsOnce failures w w') a
-  room_of (event.Steps g count) (answer.Ran ran) is sound fit admitted = for_its_log (FailsOnce failures w w') ran.end (is (one_of admitted)).0.stop
-  room_of (event.Run g count) (answer.Ran ran) is sound fit admitted = ends_with_room sound fit admitted (FailsOnce failures w w') (honest w.store → ⊥) ran.end (is (one_of admitted)).0.stop
+  pub room_of : (e : Event) (a : Answer) → IsAnswered facts tax w w' e a
+      → IsSoundWorld facts w' → AllFit w'.shares.entries
+      → IsAdmitted w'.frames (facts.slots w'.store) w'.tenants → FindsRoom (FailsOnce facts w w') a
+  room_of (event.Steps g count) (answer.Ran ran) is sound fit admitted = for_its_log (FailsOnce facts w w') ran.end (is (one_of admitted)).0.stop
+  room_of (event.Run g count) (answer.Ran ran) is sound fit admitted = ends_with_room sound fit admitted (FailsOnce facts w w') _ ran.end (is (one_of admitted)).0.stop
   room_of e (answer.Ran ran) is sound fit admitted = absurd is
-  room_of (event.Probe g address count) (answer.Probed (Err error)) is sound fit admitted = access_with_room sound fit admitted (FailsOnce failures w w') (honest w.store → ⊥) error (is (one_of admitted)).stop
+  room_of (event.Probe g address count) (answer.Probed (Err error)) is sound fit admitted = access_with_room sound fit admitted (FailsOnce facts w w') _ error (is (one_of admitted)).stop
   room_of e (answer.Probed (Err error)) is sound fit admitted = absurd is
-  room_of (event.Write g address bytes) (answer.Written (Err error)) is sound fit admitted = access_with_room sound fit admitted (FailsOnce failures w w') (honest w.store → ⊥) error (is (one_of admitted)).stop
+  room_of (event.Write g address bytes) (answer.Written (Err error)) is sound fit admitted = access_with_room sound fit admitted (FailsOnce facts w w') _ error (is (one_of admitted)).stop
   room_of e (answer.Written (Err error)) is sound fit admitted = absurd is
-  room_of (event.Fault g) (answer.Faulted (Err error)) is sound fit admitted = finds_frame sound fit admitted (FailsOnce failures w w') (honest w.store → ⊥) error (is (one_of admitted)).err
+  room_of (event.Fault g) (answer.Faulted (Err error)) is sound fit admitted = finds_frame sound fit admitted (FailsOnce facts w w') _ error (is (one_of admitted)).err
   room_of e (answer.Faulted (Err error)) is sound fit admitted = absurd is
   room_of e a is sound fit admitted = tt
 
@@ -289,9 +256,8 @@ done_limits tax failed w w' (Ok turn) made unchanged =
     limits_turned (actions_in tax w turn) turn.aims.items w.tenants made.mid w'.tenants (record { balloon = None; swap_out = 0; blocked = false }) made.turned made.moves
 done_limits tax failed w w' (Err error) made unchanged = subst (λ (x : WorldIs _). LimitsStay w.tenants x.tenants) (sym unchanged) (record { pages = refl; shares = refl; minimums = refl })
 
-pub fault_room : {Kept T : Type 0} (trusted : Kept → Type 0) (failures : Kept → ℕ) (honest : Kept → Type 0) (slots : Kept → ℕ) (held : Kept → ℕ → Option (List ℕ)) (w w' : WorldIs Kept) (r : Result T FaultError)
-    → IfErr r (WhyUnsupplied failures honest w w')
-    → Sound w'.frames (slots w'.store) (trusted w'.store) (held w'.store) w'.tenants w'.pool w'.slots w'.shares.entries → AllFit w'.shares.entries
-    → IsAdmitted w'.frames (slots w'.store) w'.tenants → IfErr r (IsNoRoom (FailsOnce failures w w'))
-fault_room trusted failures honest slots held w w' (Ok done) why sound fit admitted = tt
-fault_room trusted failures honest slots held w w' (Err error) why sound fit admitted = finds_frame sound fit admitted (FailsOnce failures w w') (honest w.store → ⊥) error why
+pub fault_room : {Kept T : Type 0} (facts : StoreFacts Kept) (g : ℕ) (IsFor : ℕ → Type 0) (w w' : WorldIs Kept) (r : Result T FaultError) → IfErr r (WhyUnsupplied facts g IsFor w w')
+    → IsSoundWorld facts w' → AllFit w'.shares.entries
+    → IsAdmitted w'.frames (facts.slots w'.store) w'.tenants → IfErr r (IsNoRoom (FailsOnce facts w w'))
+fault_room facts g IsFor w w' (Ok done) why sound fit admitted = tt
+fault_room facts g IsFor w w' (Err error) why sound fit admitted = finds_frame sound fit admitted (FailsOnce facts w w') _ error why

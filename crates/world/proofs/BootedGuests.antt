@@ -4,16 +4,9 @@ use Rattle.std.proofs.Common.{Result, Ok, Err, IfErr, All, ℕ, suc, ◌≡◌, 
 use Rattle.std.proofs.lemmas.Bool.{cases_lt}
 use Rattle.std.proofs.lemmas.List.{get_or_append_left}
 use Rattle.std.proofs.lemmas.List.Sums.{sum_by-cons}
-use Rattle.world.specs.declared.boot.Config.{Config}
-use Rattle.world.specs.declared.boot.NewGuest.{NewGuest}
-use Rattle.tenant.specs.declared.loading.BootError.{BootError}
+use Rattle.world.specs.All.{AreAdmitted, AreBooted, AreWithinLimits, BootError, Config, FramesComeFirst, FramesFirst, FreeList, HasFramesFor, HasSlotsFor, HoldsImage, IsAdmitted, IsBooted, NewGuest, NonePrivate, TenantIs, WhyNotBooted, WhyNotLoaded, kind_at, pages_in}
 use Rattle.tenant.specs.declared.loading.BootError.TheVariants as error
-use Rattle.tenant.specs.Tenants.{TenantIs, pages_in, IsBooted}
-use Rattle.world.specs.Admission.{IsAdmitted}
-use Rattle.world.specs.Boots.{AreWithinLimits, HoldsImage, HasFramesFor, HasSlotsFor, AreAdmitted, AreBooted, FramesComeFirst, WhyNotBooted}
-use Rattle.frames.specs.FreeList.{FreeList}
-use Rattle.physmap.specs.Pages.{kind_at}
-use Rattle.tenant.specs.Loading.{FramesFirst, NonePrivate, WhyNotLoaded}
+use Rattle.world.proofs.Totals.{each_at_most}
 use Rattle.world.proofs.Worlds.{get_last}
 
 abbrev IsBootOf : ℕ → NewGuest → TenantIs → Type 0
@@ -99,57 +92,25 @@ one_more_first pool pool' ts ts' size more first stays none f = record {
 one_fewer : (runs : ℕ) (guest : NewGuest) (guests : List NewGuest) (t : TenantIs) (ts : List TenantIs) → AreBooted runs (guest ∷ guests) (t ∷ ts) → AreBooted runs guests ts
 one_fewer runs guest guests t ts b = record { count = omega (arith, b.count); each = λ g other u inside. b.each (suc g) other u (omega (arith, inside)) }
 
-frames_wanted : (runs : ℕ) (guests : List NewGuest) (ts : List TenantIs) → AreBooted runs guests ts → sum_by (λ (t : TenantIs). t.minimum + 1) ts ≡ sum_by (λ (g : NewGuest). g.minimum + 1) guests
-frames_wanted runs [] [] b = refl
-frames_wanted runs [] (t ∷ ts) b = absurd (omega (arith, b.count))
-frames_wanted runs (guest ∷ guests) [] b = absurd (omega (arith, b.count))
-frames_wanted runs (guest ∷ guests) (t ∷ ts) b =
-    omega (
-      arith,
-      sum_by-cons (λ (u : TenantIs). u.minimum + 1) t ts,
-      sum_by-cons (λ (g : NewGuest). g.minimum + 1) guest guests,
-      (b.each 0 guest t (omega arith)).minimum_is,
-      frames_wanted runs guests ts (one_fewer runs guest guests t ts b),
-    )
-
-slots_wanted : (runs : ℕ) (guests : List NewGuest) (ts : List TenantIs) → AreBooted runs guests ts
-    → sum_by (λ t. length (pages_in t) - t.minimum) ts ≡ sum_by (λ (g : NewGuest). g.pages - g.minimum) guests
-slots_wanted runs [] [] b = refl
-slots_wanted runs [] (t ∷ ts) b = absurd (omega (arith, b.count))
-slots_wanted runs (guest ∷ guests) [] b = absurd (omega (arith, b.count))
-slots_wanted runs (guest ∷ guests) (t ∷ ts) b =
-    omega (
-      arith,
-      sum_by-cons (λ (u : TenantIs). length (pages_in u) - u.minimum) t ts,
-      sum_by-cons (λ (g : NewGuest). g.pages - g.minimum) guest guests,
-      (b.each 0 guest t (omega arith)).minimum_is,
-      (b.each 0 guest t (omega arith)).size,
-      slots_wanted runs guests ts (one_fewer runs guest guests t ts b),
-    )
+sums_wanted : (runs : ℕ) (f : TenantIs → ℕ) (h : NewGuest → ℕ) → ((guest : NewGuest) (t : TenantIs) → IsBootOf runs guest t → f t ≡ h guest) → (guests : List NewGuest) (ts : List TenantIs)
+    → AreBooted runs guests ts → sum_by f ts ≡ sum_by h guests
+sums_wanted runs f h same [] [] b = refl
+sums_wanted runs f h same [] (t ∷ ts) b = absurd (omega (arith, b.count))
+sums_wanted runs f h same (guest ∷ guests) [] b = absurd (omega (arith, b.count))
+sums_wanted runs f h same (guest ∷ guests) (t ∷ ts) b =
+    omega (arith, sum_by-cons f t ts, sum_by-cons h guest guests, same guest t (b.each 0 guest t (omega arith)), sums_wanted runs f h same guests ts (one_fewer runs guest guests t ts b))
 
 pub booted_admitted : (runs frames slots : ℕ) (guests : List NewGuest) (ts : List TenantIs) → AreBooted runs guests ts → 1 ≤ length guests
     → HasFramesFor guests frames → HasSlotsFor guests slots → IsAdmitted frames slots ts
 booted_admitted runs frames slots guests ts b some enough room = record {
   some = omega (arith, some, b.count);
-  frames_for = omega (arith, frames_wanted runs guests ts b, enough);
-  slots_for = omega (arith, slots_wanted runs guests ts b, room);
+  frames_for = omega (arith, sums_wanted runs (λ (t : TenantIs). t.minimum + 1) (λ (g : NewGuest). g.minimum + 1) (λ guest t is. omega (arith, is.minimum_is)) guests ts b, enough);
+  slots_for = omega (arith, sums_wanted runs (λ (t : TenantIs). length (pages_in t) - t.minimum) (λ (g : NewGuest). g.pages - g.minimum) (λ guest t is. omega (arith, is.minimum_is, is.size)) guests ts b, room);
 }
 
 -- the pages that a guest always keeps and the others are all
-each_page : (guest : NewGuest) → guest.pages ≤ guest.minimum + 1 + (guest.pages - guest.minimum)
-each_page guest = omega arith
-
 all_pages : (guests : List NewGuest) → sum_by (λ (g : NewGuest). g.pages) guests ≤ sum_by (λ (g : NewGuest). g.minimum + 1) guests + sum_by (λ (g : NewGuest). g.pages - g.minimum) guests
-all_pages [] = omega arith
-all_pages (guest ∷ guests) =
-    omega (
-      arith,
-      sum_by-cons (λ (g : NewGuest). g.pages) guest guests,
-      sum_by-cons (λ (g : NewGuest). g.minimum + 1) guest guests,
-      sum_by-cons (λ (g : NewGuest). g.pages - g.minimum) guest guests,
-      each_page guest,
-      all_pages guests,
-    )
+all_pages guests = each_at_most (λ (g : NewGuest). g.pages) (λ (g : NewGuest). g.minimum + 1) (λ (g : NewGuest). g.pages - g.minimum) (λ g. omega arith) guests
 
 -- who is admitted finds room
 pub admitted_find_room : (frames slots : ℕ) (guests : List NewGuest) → HasFramesFor guests frames → HasSlotsFor guests slots

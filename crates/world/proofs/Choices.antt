@@ -1,38 +1,34 @@
 -- Pages that leave their frames, one after another.
 use Rattle.std.proofs.Common.{ℕ, ◌≡◌, ◌+◌, ◌<◌, ◌≤◌, ◌⊎◌, ◌++◌, length-append, IsErrOf, IfErr, inl, inr, List, [], ◌∷◌, Option, None, Result, Ok, Err, OnOk, OnErr, IfOk, length, get_or, refl, ap, subst, ◌∙◌, arith}
-use Rattle.victims.specs.declared.spared.Spared.{Spared}
-use Rattle.physmap.specs.declared.page.PageKind.TheVariants.{Private}
-use Rattle.physmap.specs.Pages.{kind_at}
-use Rattle.tenant.specs.Tenants.{TenantIs, pages_in}
-use Rattle.world.specs.Choices.{Moment, IsBooked, IsEviction, NoneLeaves, AreEvictions, MakesRoom, IsSuppliedFor, IsForNeed, IsFault, IsMet, AreSteps, IsForStep, AreForStep, MakesSteps, IsStuck, StopsBy, MakesNone, AllMakeSteps, EndsBy, IsRun, IsSwapOut, AreSwapOuts, SwapOuts, SwapOutsEnd}
-use Rattle.world.specs.declared.faulting.FaultError.{FaultError}
+use Rattle.world.specs.All.{AreSteps, AreSwapOuts, AroundStays, Chain, End, EndsBy, FaultError, IsBooked, IsEviction, IsFault, IsForNeed, IsForStep, IsMet, IsRun, IsStuck, IsSuppliedFor, IsSwapOut, MakesNone, MakesRoom, MakesSome, MakesSteps, Moment, NoneLeaves, Private, RunStop, Spared, StopsBy, StoreFacts, SwapOuts, SwapOutsEnd, TenantIs, WorldIs, kind_at, pages_in, stop_of}
 use Rattle.world.specs.declared.faulting.FaultError.TheVariants as lacking
-use Rattle.world.specs.declared.running.End.{End}
 use Rattle.world.specs.declared.running.End.TheVariants as ending
-use Rattle.world.specs.declared.running.RunStop.{RunStop}
 use Rattle.world.specs.declared.running.RunStop.TheVariants as halted
-use Rattle.world.specs.Events.{stop_of}
-use Rattle.world.specs.Worlds.{WorldIs, AroundStays}
+
+-- ---- from moment to moment
+
+then_one : (leads : Moment → Moment → Type 0) (m : Moment) (ms : List Moment) (mid m' : Moment) → Chain leads m ms mid → leads mid m' → Chain leads m (ms ++ m' ∷ []) m'
+then_one leads m [] mid m' same one = (subst (λ (from : Moment). leads from m') same one, refl)
+then_one leads m (next ∷ ms) mid m' all one = (all.0, then_one leads next ms mid m' all.1 one)
+
+chain_where : (leads leads' : Moment → Moment → Type 0) → ((m m' : Moment) → leads m m' → leads' m m') → (m : Moment) (ms : List Moment) (m' : Moment) → Chain leads m ms m' → Chain leads' m ms m'
+chain_where leads leads' more m [] m' all = all
+chain_where leads leads' more m (next ∷ ms) m' all = (more m next all.0, chain_where leads leads' more next ms m' all.1)
 
 -- ---- evictions
 
 -- pages that have left their frames one after another
 pub record Evicted (frames slots tax : ℕ) (spared : Option Spared) (m m' : Moment) : Type 0 where
   pub moments : List Moment
-  pub evictions : AreEvictions frames slots tax spared m moments m'
+  pub evictions : Chain (IsEviction frames slots tax spared) m moments m'
 
 pub none_evicted : (frames slots tax : ℕ) (spared : Option Spared) (m : Moment) → Evicted frames slots tax spared m m
 none_evicted frames slots tax spared m = record { moments = []; evictions = refl }
 
-then_one : (frames slots tax : ℕ) (spared : Option Spared) (m : Moment) (ms : List Moment) (mid m' : Moment) → AreEvictions frames slots tax spared m ms mid
-    → IsEviction frames slots tax spared mid m' → AreEvictions frames slots tax spared m (ms ++ m' ∷ []) m'
-then_one frames slots tax spared m [] mid m' same one = (subst (λ (from : Moment). IsEviction frames slots tax spared from m') same one, refl)
-then_one frames slots tax spared m (next ∷ ms) mid m' all one = (all.0, then_one frames slots tax spared next ms mid m' all.1 one)
-
 pub one_more_evicted : {frames slots tax : ℕ} {spared : Option Spared} {m mid m' : Moment} → Evicted frames slots tax spared m mid → IsEviction frames slots tax spared mid m'
     → Evicted frames slots tax spared m m'
 one_more_evicted {frames} {slots} {tax} {spared} {m} {mid} {m'} so_far one =
-    record { moments = so_far.moments ++ m' ∷ []; evictions = then_one frames slots tax spared m so_far.moments mid m' so_far.evictions one }
+    record { moments = so_far.moments ++ m' ∷ []; evictions = then_one (IsEviction frames slots tax spared) m so_far.moments mid m' so_far.evictions one }
 
 pub room_made : (frames slots tax : ℕ) (spared : Option Spared) (m last m' : Moment) → Evicted frames slots tax spared m last → NoneLeaves tax last m' → MakesRoom frames slots tax spared m m'
 room_made frames slots tax spared m last m' so_far end = record { moments = so_far.moments; last = last; evictions = so_far.evictions; end = end }
@@ -43,22 +39,17 @@ room_made frames slots tax spared m last m' so_far end = record { moments = so_f
 pub record Supplied (frames slots : ℕ) (trusted : Type 0) (tax g count : ℕ) (m m' : Moment) : Type 0 where
   pub moments : List Moment
   pub many : length moments ≡ count
-  pub supplied : AreForStep frames slots trusted tax g m moments m'
+  pub supplied : Chain (IsForStep frames slots trusted tax g) m moments m'
 
 pub none_supplied : (frames slots : ℕ) (trusted : Type 0) (tax g : ℕ) (m : Moment) → Supplied frames slots trusted tax g 0 m m
 none_supplied frames slots trusted tax g m = record { moments = []; many = refl; supplied = refl }
-
-supplied_then : (frames slots : ℕ) (trusted : Type 0) (tax g : ℕ) (m : Moment) (ms : List Moment) (mid m' : Moment) → AreForStep frames slots trusted tax g m ms mid
-    → IsForStep frames slots trusted tax g mid m' → AreForStep frames slots trusted tax g m (ms ++ m' ∷ []) m'
-supplied_then frames slots trusted tax g m [] mid m' same one = (subst (λ (from : Moment). IsForStep frames slots trusted tax g from m') same one, refl)
-supplied_then frames slots trusted tax g m (next ∷ ms) mid m' all one = (all.0, supplied_then frames slots trusted tax g next ms mid m' all.1 one)
 
 pub one_more_supplied : {frames slots : ℕ} {trusted : Type 0} {tax g count : ℕ} {m mid m' : Moment} → Supplied frames slots trusted tax g count m mid
     → IsForStep frames slots trusted tax g mid m' → Supplied frames slots trusted tax g (count + 1) m m'
 one_more_supplied {frames} {slots} {trusted} {tax} {g} {count} {m} {mid} {m'} so_far one = record {
   moments = so_far.moments ++ m' ∷ [];
   many = length-append so_far.moments (m' ∷ []) ∙ ap (λ (n : ℕ). n + 1) so_far.many;
-  supplied = supplied_then frames slots trusted tax g m so_far.moments mid m' so_far.supplied one;
+  supplied = then_one (IsForStep frames slots trusted tax g) m so_far.moments mid m' so_far.supplied one;
 }
 
 pub then_made : {frames slots : ℕ} {trusted : Type 0} {tax g tries count : ℕ} {m mid m' : Moment} → Supplied frames slots trusted tax g tries m mid → tries ≤ 64 → 0 < count
@@ -107,20 +98,15 @@ stops_faulted frames slots trusted tax g error m m' it = it
 -- for which pages were supplied
 pub record Made (frames slots : ℕ) (trusted : Type 0) (tax g : ℕ) (m m' : Moment) : Type 0 where
   pub moments : List Moment
-  pub steps : AllMakeSteps frames slots trusted tax g m moments m'
+  pub steps : Chain (MakesSome frames slots trusted tax g) m moments m'
 
 pub none_yet : (frames slots : ℕ) (trusted : Type 0) (tax g : ℕ) (m : Moment) → Made frames slots trusted tax g m m
 none_yet frames slots trusted tax g m = record { moments = []; steps = refl }
 
-made_then : (frames slots : ℕ) (trusted : Type 0) (tax g count : ℕ) (m : Moment) (ms : List Moment) (mid m' : Moment) → AllMakeSteps frames slots trusted tax g m ms mid
-    → MakesSteps frames slots trusted tax g count mid m' → AllMakeSteps frames slots trusted tax g m (ms ++ m' ∷ []) m'
-made_then frames slots trusted tax g count m [] mid m' same one = (count, subst (λ (from : Moment). MakesSteps frames slots trusted tax g count from m') same one, refl)
-made_then frames slots trusted tax g count m (next ∷ ms) mid m' all one = (all.0, all.1, made_then frames slots trusted tax g count next ms mid m' all.2 one)
-
 pub more_made : {frames slots : ℕ} {trusted : Type 0} {tax g count : ℕ} {m mid m' : Moment} → Made frames slots trusted tax g m mid → MakesSteps frames slots trusted tax g count mid m'
     → Made frames slots trusted tax g m m'
 more_made {frames} {slots} {trusted} {tax} {g} {count} {m} {mid} {m'} so_far one =
-    record { moments = so_far.moments ++ m' ∷ []; steps = made_then frames slots trusted tax g count m so_far.moments mid m' so_far.steps one }
+    record { moments = so_far.moments ++ m' ∷ []; steps = then_one (MakesSome frames slots trusted tax g) m so_far.moments mid m' so_far.steps (count, one) }
 
 ends : (frames slots : ℕ) (trusted : Type 0) (tax g : ℕ) (end : End) (m m' : Moment) → MakesNone frames slots trusted tax g end m m' → EndsBy frames slots trusted tax g end m m'
 ends frames slots trusted tax g ending.Done m m' none = absurd none.stops
@@ -137,40 +123,40 @@ run_done {m' = m'} so_far = record { moments = so_far.moments; last = m'; steps 
 
 -- ---- by the world that came before, where what lies around the guests is as it was
 
-module _ {Store : Type 0} {slots_of : Store → ℕ} {honest trusted : Store → Type 0} {w w' : WorldIs Store} (around : AroundStays slots_of honest trusted w w') where
+module _ {Store : Type 0} {facts : StoreFacts Store} {w w' : WorldIs Store} (around : AroundStays facts w w') where
   -- what is so of the frames and slots there are
-  booked : (P : ℕ → ℕ → Type 0) → P w'.frames (slots_of w'.store) → P w.frames (slots_of w.store)
-  booked P p = subst (λ (n : ℕ). P n (slots_of w.store)) around.frames (subst (λ (n : ℕ). P w'.frames n) around.store.slots p)
+  booked : (P : ℕ → ℕ → Type 0) → P w'.frames (facts.slots w'.store) → P w.frames (facts.slots w.store)
+  booked P p = subst (λ (n : ℕ). P n (facts.slots w.store)) around.frames (subst (λ (n : ℕ). P w'.frames n) around.store.slots p)
 
-  pub booked_where : (m : Moment) → IsBooked w'.frames (slots_of w'.store) m → IsBooked w.frames (slots_of w.store) m
+  pub booked_where : (m : Moment) → IsBooked w'.frames (facts.slots w'.store) m → IsBooked w.frames (facts.slots w.store) m
   booked_where m b = booked (λ frames slots. IsBooked frames slots m) b
 
-  pub steps_where : {g count : ℕ} {m m' : Moment} → AreSteps w'.frames (slots_of w'.store) (trusted w'.store) g count m m' → AreSteps w.frames (slots_of w.store) (trusted w.store) g count m m'
+  pub steps_where : {g count : ℕ} {m m' : Moment} → AreSteps w'.frames (facts.slots w'.store) (facts.true_to_digests w'.store) g count m m' → AreSteps w.frames (facts.slots w.store) (facts.true_to_digests w.store) g count m m'
   steps_where {m' = m'} a = record { words = a.words; logs = a.logs; stays = a.stays; needs_none = λ now. a.needs_none (around.store.true_to_digests.1 now); booked = booked_where m' a.booked }
 
-  need_where : {tax g : ℕ} {m m' : Moment} → IsForNeed w'.frames (slots_of w'.store) (trusted w'.store) tax g m m' → IsForNeed w.frames (slots_of w.store) (trusted w.store) tax g m m'
+  need_where : {tax g : ℕ} {m m' : Moment} → IsForNeed w'.frames (facts.slots w'.store) (facts.true_to_digests w'.store) tax g m m' → IsForNeed w.frames (facts.slots w.store) (facts.true_to_digests w.store) tax g m m'
   need_where {tax} {g} {m} {m'} a = record {
     p = a.p;
     needed = λ now. a.needed (around.store.true_to_digests.1 now);
     supplied = booked (λ frames slots. IsSuppliedFor frames slots tax None g a.p m m') a.supplied;
   }
 
-  pub fault_where : (tax g : ℕ) (m m' : Moment) → IsFault w'.frames (slots_of w'.store) (trusted w'.store) tax g m m' → IsFault w.frames (slots_of w.store) (trusted w.store) tax g m m'
+  pub fault_where : (tax g : ℕ) (m m' : Moment) → IsFault w'.frames (facts.slots w'.store) (facts.true_to_digests w'.store) tax g m m' → IsFault w.frames (facts.slots w.store) (facts.true_to_digests w.store) tax g m m'
   fault_where tax g m m' (inl same) = inl same
   fault_where tax g m m' (inr a) = inr (need_where a)
 
-  pub met_where : (tax g : ℕ) (m m' : Moment) → IsMet w'.frames (slots_of w'.store) (trusted w'.store) tax g m m' → IsMet w.frames (slots_of w.store) (trusted w.store) tax g m m'
+  pub met_where : (tax g : ℕ) (m m' : Moment) → IsMet w'.frames (facts.slots w'.store) (facts.true_to_digests w'.store) tax g m m' → IsMet w.frames (facts.slots w.store) (facts.true_to_digests w.store) tax g m m'
   unfolding need_where
   met_where tax g m m' (inl same) = inl same
   met_where tax g m m' (inr a) = inr (record { its = need_where a.its; private = a.private })
 
-  supplied_where : (tax g : ℕ) (m : Moment) (ms : List Moment) (m' : Moment) → AreForStep w'.frames (slots_of w'.store) (trusted w'.store) tax g m ms m'
-      → AreForStep w.frames (slots_of w.store) (trusted w.store) tax g m ms m'
-  supplied_where tax g m [] m' all = all
-  supplied_where tax g m (next ∷ ms) m' all =
-      (record { between = all.0.between; none = steps_where all.0.none; met = met_where tax g all.0.between next all.0.met }, supplied_where tax g next ms m' all.1)
+  supplied_where : (tax g : ℕ) (m : Moment) (ms : List Moment) (m' : Moment) → Chain (IsForStep w'.frames (facts.slots w'.store) (facts.true_to_digests w'.store) tax g) m ms m'
+      → Chain (IsForStep w.frames (facts.slots w.store) (facts.true_to_digests w.store) tax g) m ms m'
+  supplied_where tax g m ms m' all =
+      chain_where (IsForStep w'.frames (facts.slots w'.store) (facts.true_to_digests w'.store) tax g) (IsForStep w.frames (facts.slots w.store) (facts.true_to_digests w.store) tax g)
+      (λ from to one. record { between = one.between; none = steps_where one.none; met = met_where tax g one.between to one.met }) m ms m' all
 
-  pub makes_where : {tax g count : ℕ} {m m' : Moment} → MakesSteps w'.frames (slots_of w'.store) (trusted w'.store) tax g count m m' → MakesSteps w.frames (slots_of w.store) (trusted w.store) tax g count m m'
+  pub makes_where : {tax g count : ℕ} {m m' : Moment} → MakesSteps w'.frames (facts.slots w'.store) (facts.true_to_digests w'.store) tax g count m m' → MakesSteps w.frames (facts.slots w.store) (facts.true_to_digests w.store) tax g count m m'
   makes_where {tax} {g} {count} {m} a = record {
     moments = a.moments;
     few = a.few;
@@ -180,16 +166,16 @@ module _ {Store : Type 0} {slots_of : Store → ℕ} {honest trusted : Store →
     steps = steps_where a.steps;
   }
 
-  stuck_where : {tax g : ℕ} {m m' : Moment} → IsStuck w'.frames (slots_of w'.store) (trusted w'.store) tax g m m' → IsStuck w.frames (slots_of w.store) (trusted w.store) tax g m m'
+  stuck_where : {tax g : ℕ} {m m' : Moment} → IsStuck w'.frames (facts.slots w'.store) (facts.true_to_digests w'.store) tax g m m' → IsStuck w.frames (facts.slots w.store) (facts.true_to_digests w.store) tax g m m'
   stuck_where {tax} {g} {m} {m'} a = record { between = a.between; none = steps_where a.none; fault = fault_where tax g a.between m' a.fault }
 
-  stops_where : (tax g : ℕ) (end : End) (m m' : Moment) → StopsBy w'.frames (slots_of w'.store) (trusted w'.store) tax g end m m' → StopsBy w.frames (slots_of w.store) (trusted w.store) tax g end m m'
+  stops_where : (tax g : ℕ) (end : End) (m m' : Moment) → StopsBy w'.frames (facts.slots w'.store) (facts.true_to_digests w'.store) tax g end m m' → StopsBy w.frames (facts.slots w.store) (facts.true_to_digests w.store) tax g end m m'
   stops_where tax g ending.Done m m' a = a
   stops_where tax g (ending.Need p why) m m' a = steps_where a
   stops_where tax g (ending.Stop halted.LogFull) m m' a = steps_where a
   stops_where tax g (ending.Stop why) m m' a = stuck_where a
 
-  pub makes_none_where : {tax g : ℕ} {end : End} {m m' : Moment} → MakesNone w'.frames (slots_of w'.store) (trusted w'.store) tax g end m m' → MakesNone w.frames (slots_of w.store) (trusted w.store) tax g end m m'
+  pub makes_none_where : {tax g : ℕ} {end : End} {m m' : Moment} → MakesNone w'.frames (facts.slots w'.store) (facts.true_to_digests w'.store) tax g end m m' → MakesNone w.frames (facts.slots w.store) (facts.true_to_digests w.store) tax g end m m'
   makes_none_where {tax} {g} {end} {m} {m'} a = record {
     moments = a.moments;
     few = a.few;
@@ -228,14 +214,14 @@ pub up_to : (frames slots from to to' : ℕ) (m m' : Moment) → to ≤ to' → 
 up_to frames slots from to to' m m' higher a = record { moments = a.moments; swap_outs = to_higher frames slots from to to' m a.moments m' higher a.swap_outs }
 
 -- and more of them
-pub then_outs : {Store : Type 0} {slots_of : Store → ℕ} {honest trusted : Store → Type 0} {w w' : WorldIs Store} → AroundStays slots_of honest trusted w w' → {from g to : ℕ} {m mid m' : Moment}
-    → SwapOuts w.frames (slots_of w.store) from g m mid → SwapOuts w'.frames (slots_of w'.store) g to mid m' → SwapOuts w.frames (slots_of w.store) from to m m'
-then_outs {slots_of = slots_of} {w = w} around {from} {g} {to} {m} {mid} {m'} a b =
-    let here : SwapOuts w.frames (slots_of w.store) g to mid m' = booked around (λ frames slots. SwapOuts frames slots g to mid m') b in
-    record { moments = a.moments ++ here.moments; swap_outs = outs_joined w.frames (slots_of w.store) from g to m a.moments here.moments mid m' a.swap_outs here.swap_outs }
+pub then_outs : {Store : Type 0} {facts : StoreFacts Store} {w w' : WorldIs Store} → AroundStays facts w w' → {from g to : ℕ} {m mid m' : Moment}
+    → SwapOuts w.frames (facts.slots w.store) from g m mid → SwapOuts w'.frames (facts.slots w'.store) g to mid m' → SwapOuts w.frames (facts.slots w.store) from to m m'
+then_outs {facts = facts} {w = w} around {from} {g} {to} {m} {mid} {m'} a b =
+    let here : SwapOuts w.frames (facts.slots w.store) g to mid m' = booked around (λ frames slots. SwapOuts frames slots g to mid m') b in
+    record { moments = a.moments ++ here.moments; swap_outs = outs_joined w.frames (facts.slots w.store) from g to m a.moments here.moments mid m' a.swap_outs here.swap_outs }
 
-pub then_end : {Store : Type 0} {slots_of : Store → ℕ} {honest trusted : Store → Type 0} {w w' : WorldIs Store} → AroundStays slots_of honest trusted w w' → {from g to : ℕ} {m mid m' : Moment}
-    → SwapOuts w.frames (slots_of w.store) from g m mid → SwapOutsEnd w'.frames (slots_of w'.store) g to mid m' → SwapOutsEnd w.frames (slots_of w.store) from to m m'
+pub then_end : {Store : Type 0} {facts : StoreFacts Store} {w w' : WorldIs Store} → AroundStays facts w w' → {from g to : ℕ} {m mid m' : Moment}
+    → SwapOuts w.frames (facts.slots w.store) from g m mid → SwapOutsEnd w'.frames (facts.slots w'.store) g to mid m' → SwapOutsEnd w.frames (facts.slots w.store) from to m m'
 then_end around a b = record { last = b.last; before = then_outs around a b.before; stay = b.stay }
 
 pub end_up_to : (frames slots from to to' : ℕ) (m m' : Moment) → to ≤ to' → SwapOutsEnd frames slots from to m m' → SwapOutsEnd frames slots from to' m m'

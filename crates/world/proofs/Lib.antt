@@ -1,4 +1,5 @@
 pub mod Admitting
+pub mod All
 pub mod BootedGuests
 pub mod Choices
 pub mod Damaged

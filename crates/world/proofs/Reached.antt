@@ -2,23 +2,11 @@
 use Rattle.std.proofs.Common.{ℕ, ◌≡◌, ◌≢◌, ◌↔◌, ◌≤◌, ◌⊎◌, inl, inr, Bool, true, false, ◌&&◌, ◌||◌, ◌==◌, if◌then◌else◌, nat_le, is_some, List, length, get_or, Option, Some, None, Result, Ok, Err, OnOk, IsErrOf, refl, sym, ap, subst, ◌∙◌, arith, eq-eqb}
 use Rattle.std.proofs.lemmas.Bool.{cases_eq}
 use Rattle.std.proofs.lemmas.List.{set-get_or}
-use Rattle.items.specs.declared.item.What.TheVariants.{Write}
+use Rattle.world.specs.All.{IsReady, Machine, OnlyPagesAndRoom, OnlyPagesMove, OtherSparedStay, Page, PageKind, Private, TenantIs, Write, accepts, bytes_at, is_one_of, is_wanted, kind_at, kind_of, lack_of, page_at, pages_in, spared_of}
 use Rattle.mips_tlb.specs.declared.kind.Kind.TheVariants.{Store}
-use Rattle.mips_step.specs.Step.{Machine}
-use Rattle.flatvm.specs.Items.{accepts}
-use Rattle.flatvm.specs.Replies.{bytes_at}
-use Rattle.physmap.specs.declared.page.Page.{Page}
-use Rattle.physmap.specs.declared.page.PageKind.{PageKind}
-use Rattle.physmap.specs.declared.page.PageKind.TheVariants.{Private, Swapped}
-use Rattle.physmap.specs.Pages.{page_at, kind_of, kind_at}
-use Rattle.paged_bus.specs.Lacking.{lack_of}
+use Rattle.physmap.specs.declared.page.PageKind.TheVariants.{Swapped}
 use Rattle.victims.specs.declared.wanted.Access.{Access}
 use Rattle.victims.specs.declared.wanted.Access.TheVariants as access
-use Rattle.victims.specs.Wanted.{is_wanted}
-use Rattle.world.specs.Debugging.{IsReady, OnlyPagesAndRoom}
-use Rattle.tenant.specs.Tenants.{TenantIs, pages_in}
-use Rattle.victims.specs.Victims.{is_one_of, spared_of}
-use Rattle.world.specs.Victims.{OnlyPagesMove, OtherSparedStay}
 
 -- ---- what is accepted
 

@@ -1,49 +1,24 @@
 -- Steps of a guest, one after another.
-use Rattle.std.proofs.Common.{ℕ, suc, ◌≡◌, ◌+◌, ◌<◌, Bool, true, false, if◌then◌else◌, ◌==◌, List, [], ◌∷◌, ◌++◌, length, get_or, set, map, replicate, refl, sym, ap, subst, ◌∙◌, arith, append_assoc, ◌≢◌, Option, Some, None, Result, Ok, Err, OnErr}
+use Rattle.std.proofs.Common.{ℕ, suc, ◌≡◌, ◌+◌, ◌<◌, if◌then◌else◌, ◌==◌, List, [], ◌∷◌, ◌++◌, length, get_or, map, replicate, refl, sym, ap, subst, ◌∙◌, arith, append_assoc, ◌≢◌, Option, Some, None, Result, Ok, Err, OnErr}
 use Rattle.std.specs.List.{Contains}
 use Rattle.std.proofs.lemmas.List.{append-nil, length-map, replicate-append-replicate, set-get_or}
-use Rattle.items.specs.declared.item.Item.{Item}
-use Rattle.items.specs.Entries.{step_by}
-use Rattle.guest_log.specs.Logs.{IsFull}
-use Rattle.mips_step.specs.Accesses.{Access, accesses, first_lack}
-use Rattle.mips_step.specs.Step.{Machine}
-use Rattle.mips_step.specs.declared.access.Why.{Why}
-use Rattle.flatvm.specs.Items.{run}
-use Rattle.paged_bus.specs.Buses.{PagedBusIs}
+use Rattle.world.specs.All.{Changes, End, IsFull, IsSupplied, Item, Machine, NothingHappens, OnlyPagesMove, Page, PageKind, PagedBusIs, Private, Stays, TenantIs, Why, accesses, beside_pages, boot_of, first_lack, kind_at, lack_of, lacks_in, log_at, pages_in, run, step_by, steps_for, view_of}
+use Rattle.mips_step.specs.Accesses.{Access}
 use Rattle.mips_tlb.specs.declared.kind.Kind.{Kind}
-use Rattle.physmap.specs.declared.page.Page.{Page}
-use Rattle.physmap.specs.declared.page.PageKind.{PageKind}
-use Rattle.physmap.specs.declared.page.PageKind.TheVariants.{Private}
-use Rattle.physmap.specs.Pages.{kind_at}
-use Rattle.paged_bus.specs.Lacking.{lack_of, lacks_in}
-use Rattle.guest.specs.Guests.{view_of}
-use Rattle.world.specs.declared.running.End.{End}
 use Rattle.world.specs.declared.running.End.TheVariants as end
 use Rattle.world.specs.declared.running.RunStop.TheVariants as stop
-use Rattle.world.specs.Events.{steps_for, IsSupplied}
-use Rattle.tenant.specs.Tenants.{TenantIs, pages_in, beside_pages, Stays, NothingHappens}
-use Rattle.world.specs.Worlds.{Changes, boot_of, log_at}
-use Rattle.world.specs.Victims.{OnlyPagesMove}
-use Rattle.world.proofs.Worlds.{same_logs, same_boots, set_twice}
+use Rattle.world.proofs.Worlds.{same_logs, same_boots, changes_then, chosen_join, none_chosen}
 use Rattle.world.proofs.Victims.{map_at, still_inside, first_of, stays_beside, fault_logs}
 
 -- ---- so many steps
 
-steps_joined : (b : Bool) (m n : ℕ) (step : Item) → (if b then replicate m step else []) ++ (if b then replicate n step else []) ≡ (if b then replicate (m + n) step else [])
-steps_joined true m n step = replicate-append-replicate m n step
-steps_joined false m n step = refl
-
 pub steps_join : (h g m n : ℕ) (old now after : List Item) → now ≡ old ++ steps_for h g m → after ≡ now ++ steps_for h g n → after ≡ old ++ steps_for h g (m + n)
 steps_join h g m n old now after so_far more =
     more ∙ ap (λ (xs : List Item). xs ++ steps_for h g n) so_far ∙ append_assoc old (steps_for h g m) (steps_for h g n)
-    ∙ ap (λ (xs : List Item). old ++ xs) (steps_joined (h == g) m n (step_by 0))
-
-no_step : (b : Bool) (step : Item) → (if b then replicate 0 step else []) ≡ []
-no_step true step = refl
-no_step false step = refl
+    ∙ ap (λ (xs : List Item). old ++ xs) (sym (chosen_join (h == g) (replicate m (step_by 0)) (replicate n (step_by 0))) ∙ ap (λ (xs : List Item). if h == g then xs else []) (replicate-append-replicate m n (step_by 0)))
 
 pub steps_none : (h g : ℕ) (old : List Item) → old ≡ old ++ steps_for h g 0
-steps_none h g old = sym (append-nil old) ∙ ap (λ (xs : List Item). old ++ xs) (sym (no_step (h == g) (step_by 0)))
+steps_none h g old = sym (append-nil old) ∙ ap (λ (xs : List Item). old ++ xs) (sym (none_chosen (h == g) []))
 
 -- ---- the guest is still there, and needs what it needed
 
@@ -61,17 +36,6 @@ same_view t t' n s = ap (λ (items : List Item). run items t'.guest.boot) n.item
 
 -- ---- steps that are not made
 
--- nothing has happened to one of the guests, and then nothing again
-pub changes_none : (how : TenantIs → TenantIs → Type 0) → ((t : TenantIs) → how t t) → (g : ℕ) (ts : List TenantIs) → Changes how g ts ts
-changes_none how same g ts = record { one = λ t. sym (set-get_or ts g t); so = λ t. same (get_or ts g t) }
-
-pub changes_then : (how : TenantIs → TenantIs → Type 0) → ((t u v : TenantIs) → how t u → how u v → how t v) → (g : ℕ) (ts mid ts' : List TenantIs)
-    → Changes how g ts mid → Changes how g mid ts' → Changes how g ts ts'
-changes_then how on g ts mid ts' before after = record {
-  one = λ t. after.one t ∙ ap (λ (l : List TenantIs). set l g (get_or ts' g t)) (before.one t) ∙ set_twice ts g (get_or mid g t) (get_or ts' g t);
-  so = λ t. on (get_or ts g t) (get_or mid g t) (get_or ts' g t) (before.so t) (after.so t);
-}
-
 stays_same : (t : TenantIs) → Stays t t
 stays_same t = record { boot = refl; limit = refl; shares = refl; minimum = refl; sample = refl; blocked = refl; count = refl }
 
@@ -87,10 +51,10 @@ stays_on t u v s r = record {
 }
 
 pub stays_none : (g : ℕ) (ts : List TenantIs) → Changes Stays g ts ts
-stays_none g ts = changes_none Stays stays_same g ts
+stays_none g ts = record { one = λ t. sym (set-get_or ts g t); so = λ t. stays_same (get_or ts g t) }
 
 pub stays_then : {g : ℕ} {ts mid ts' : List TenantIs} → Changes Stays g ts mid → Changes Stays g mid ts' → Changes Stays g ts ts'
-stays_then {g} {ts} {mid} {ts'} before after = changes_then Stays stays_on g ts mid ts' before after
+stays_then {g} {ts} {mid} {ts'} before after = changes_then Stays Stays Stays stays_on g ts mid ts' before after
 
 pub not_made_on : {E : Type 0} (r : Result ℕ E) (g : ℕ) (old ts ts' : List TenantIs) (Around : Type 0) → g < length ts
     → ((h : ℕ) → log_at ts h ≡ log_at old h) → OnErr r (Changes NothingHappens g ts ts' × Around) → OnErr r ((h : ℕ) → log_at ts' h ≡ log_at old h)
@@ -159,18 +123,19 @@ moved_same f same ts ts' g d inside m =
 pub moved_room : (ts ts' : List TenantIs) (g : ℕ) (d : TenantIs) → g < length ts → OnlyPagesMove ts ts' → IsFull (get_or ts' g d).guest.log → IsFull (get_or ts g d).guest.log
 moved_room ts ts' g d inside m full = subst IsFull (moved_same (λ t. t.guest.log) (λ t. refl) ts ts' g d inside m) full
 
+-- what a guest's step needed it accesses still
+pub still_accessed : (ts ts' : List TenantIs) (g : ℕ) (p : ℕ) (why : Why) (d : TenantIs) → g < length ts → OnlyPagesMove ts ts'
+    → first_lack (lacks_in (pages_in (get_or ts g d))) (accesses (view_of (get_or ts g d).guest)) ≡ Some (p, why)
+    → Contains (map (λ (a : Access). a.page) (accesses (view_of (get_or ts' g d).guest))) p
+still_accessed ts ts' g p why d inside m need =
+    subst (λ (v : Machine). Contains (map (λ (a : Access). a.page) (accesses v)) p) (sym (moved_same (λ t. view_of t.guest) (λ t. refl) ts ts' g d inside m))
+    (accessed_of (lacks_in (pages_in (get_or ts g d))) (accesses (view_of (get_or ts g d).guest)) p why need)
+
 -- after a fault
 pub fault_ready : (ts ts' : List TenantIs) (g : ℕ) (p : ℕ) (why : Why) (d : TenantIs) → g < length ts → OnlyPagesMove ts ts'
     → first_lack (lacks_in (pages_in (get_or ts g d))) (accesses (view_of (get_or ts g d).guest)) ≡ Some (p, why)
     → kind_at (pages_in (get_or ts' g d)) p ≡ Private → IsReady (get_or ts' g d)
-fault_ready ts ts' g p why d inside m need private =
-    let same : view_of (get_or ts' g d).guest ≡ view_of (get_or ts g d).guest = moved_same (λ t. view_of t.guest) (λ t. refl) ts ts' g d inside m in
-    record {
-      page = p;
-      accessed = subst (λ (v : Machine). Contains (map (λ (a : Access). a.page) (accesses v)) p) (sym same)
-          (accessed_of (lacks_in (pages_in (get_or ts g d))) (accesses (view_of (get_or ts g d).guest)) p why need);
-      private = private;
-    }
+fault_ready ts ts' g p why d inside m need private = record { page = p; accessed = still_accessed ts ts' g p why d inside m need; private = private }
 
 pub ready_stays : (g : ℕ) (ts ts' : List TenantIs) (d : TenantIs) → Changes NothingHappens g ts ts' → Changes Stays g ts ts' → IsReady (get_or ts g d) → IsReady (get_or ts' g d)
 ready_stays g ts ts' d n s r =

@@ -3,16 +3,9 @@ use Rattle.std.proofs.Common.{◌≡◌, ℕ, ◌+◌, ◌*◌, ◌<◌, ◌≤�
 use Rattle.std.proofs.lemmas.Bool.{cases_eq}
 use Rattle.std.proofs.lemmas.List.{get_or-set_same, get_or-set_other}
 use Rattle.std.proofs.lemmas.List.Elements.{All-head, All-tail, All-nil, All-cons}
-use Rattle.rand_core.specs.Stream.{Stream, next_u32}
+use Rattle.world.specs.All.{AreSampled, Books, EntriesAre, FreeList, IsKept, IsSampled, Item, OnlySamplesChange, Page, Sound, Stream, TenantIs, items_of, log_at, next_u32, pages_in, without_sample}
 use Rattle.taxpolicy.specs.Sample.{after_words}
-use Rattle.frames.specs.FreeList.{FreeList}
-use Rattle.sharetab.specs.Entries.{EntriesAre}
-use Rattle.physmap.specs.declared.page.Page.{Page}
-use Rattle.paging.specs.Books.{Books}
-use Rattle.items.specs.declared.item.Item.{Item}
-use Rattle.tenant.specs.Tenants.{TenantIs, pages_in, IsKept, IsSampled}
-use Rattle.world.specs.Samples.{AreSampled, OnlySamplesChange, without_sample}
-use Rattle.world.specs.Worlds.{Sound, items_of, log_at}
+use Rattle.world.proofs.Victims.{same_beside}
 
 words_add : (m n : ℕ) (s : Stream) → after_words n (after_words m s) ≡ after_words (m + n) s
 unfolding after_words
@@ -61,13 +54,9 @@ same_map {Y} f (t ∷ old) (u ∷ new) size same =
 pub only_samples : (words : Stream) (old new : List TenantIs) → AreSampled words old new → OnlySamplesChange old new
 only_samples words old new s = same_map without_sample old new s.count (λ g t inside. ap without_sample (s.each g t inside).rest)
 
-beside_map : {Y : Type 0} (f : TenantIs → Y) → ((t : TenantIs) → f (without_sample t) ≡ f t) → (ts : List TenantIs) → map f (map without_sample ts) ≡ map f ts
-beside_map f same [] = refl
-beside_map f same (t ∷ ts) = λ i. same t i ∷ beside_map f same ts i
-
 -- what doesn't look at samples is as before
 pub stays : {Y : Type 0} (f : TenantIs → Y) → ((t : TenantIs) → f (without_sample t) ≡ f t) → (old new : List TenantIs) → OnlySamplesChange old new → map f new ≡ map f old
-stays f same old new s = sym (beside_map f same new) ∙ ap (map f) s ∙ beside_map f same old
+stays f same old new s = same_beside without_sample f same old new s
 
 kept_without : (held : ℕ → Option (List ℕ)) (ts : List TenantIs) → All (IsKept held) ts → All (IsKept held) (map without_sample ts)
 kept_without held [] all = All-nil (IsKept held)

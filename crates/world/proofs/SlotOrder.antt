@@ -3,17 +3,10 @@ use Rattle.std.proofs.Common.{ℕ, ◌≡◌, ◌+◌, ◌<◌, ◌≤◌, inl, 
 use Rattle.std.proofs.lemmas.Bool.{cases_lt}
 use Rattle.std.proofs.lemmas.List.{get_or_append_left}
 use Rattle.std.proofs.lemmas.List.Sums.{get_or-le-sum_by}
-use Rattle.frames.specs.Counts.{count_of}
-use Rattle.frames.specs.FreeList.{FreeList}
-use Rattle.physmap.specs.declared.page.Page.{Page}
+use Rattle.world.specs.All.{FreeList, Page, SlotsComeInOrder, SlotsRise, TenantIs, count_of, kind_at, page_at, pages_in, slot_in, slot_of, slots_held}
 use Rattle.physmap.specs.declared.page.Page.TheVariants as page
 use Rattle.physmap.specs.declared.page.PageKind.TheVariants.{Swapped}
-use Rattle.physmap.specs.Pages.{page_at, kind_of, kind_at, slot_of}
-use Rattle.physmap.specs.Holdings.{slot_in, slots_held}
-use Rattle.tenant.specs.Tenants.{TenantIs, pages_in}
-use Rattle.tenant.specs.Loading.{SlotsRise}
 use Rattle.tenant.proofs.SlotOrder.{slot_counts, swapped_inside}
-use Rattle.world.specs.Boots.{SlotsComeInOrder}
 
 pub none_in_order : (book : FreeList) (ts : List TenantIs) → ts ≡ [] → SlotsComeInOrder book ts
 none_in_order book ts none = record {

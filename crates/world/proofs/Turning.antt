@@ -1,38 +1,17 @@
 -- Turns of the policy.
-use Rattle.std.proofs.Common.{ℕ, zero, suc, ◌≡◌, ◌+◌, ◌<◌, ◌≤◌, inl, inr, List, [], ◌∷◌, ◌++◌, length, get_or, set, map, min, Option, Some, None, Result, Ok, Err, IfOk, IfErr, OnOk, OnErr, IfSome, false, refl, sym, ap, subst, ◌∙◌, arith, length-set, append-nil}
+use Rattle.std.proofs.Common.{ℕ, zero, suc, ◌≡◌, ◌+◌, ◌<◌, ◌≤◌, inl, inr, List, [], ◌∷◌, ◌++◌, length, get_or, map, min, Option, Some, None, Result, Ok, Err, IfOk, IfErr, OnOk, OnErr, IfSome, false, refl, sym, ap, subst, ◌∙◌, arith, length-set, append-nil}
 use Rattle.std.proofs.Math.Nat.{min-eq_left, min-eq_right, min-le_right}
 use Rattle.std.proofs.lemmas.Bool.{cases_eq, cases_lt}
 use Rattle.std.proofs.lemmas.List.{get_or-set_other, get_or_past, get_or_append_left, length-map}
 use Rattle.std.specs.List.{AllZip}
 use Rattle.std.specs.Result.{result_err}
-use Rattle.frames.specs.FreeList.{FreeList}
-use Rattle.items.specs.declared.item.Item.{Item}
-use Rattle.physmap.specs.declared.page.Page.{Page}
-use Rattle.physmap.specs.Holdings.{private_pages, shared_pages, resident_pages}
-use Rattle.physmap.specs.Outline.{outline}
+use Rattle.world.specs.All.{Action, Aim, AreCutShort, AreFewer, AreSwappedOut, AreTurned, Changes, EvictError, FreeList, IsAimed, IsEvicted, IsTurn, IsTurned, Item, Level, LosesPages, MayLose, OnlyPagesMove, Page, PagesMove, SameFrom, SameNumbers, Stat, TenantIs, Turn, WhyStays, WorldIs, action_of, actions_by, actions_in, actions_of, aim_items, boot_of, items_of, log_at, next_level_of, outline, pages_in, private_pages, resident_pages, shared_pages, stat_of, turn_items}
 use Rattle.physmap.proofs.Outlines.{outline_private, outline_shared}
-use Rattle.paging.specs.Moves.{SameNumbers}
-use Rattle.taxpolicy.specs.declared.stat.Stat.{Stat}
 use Rattle.taxpolicy.specs.Targets.{IsTarget, targets_of}
-use Rattle.reclaim.specs.declared.level.Level.{Level}
 use Rattle.reclaim.specs.declared.level.Level.TheVariants as level
-use Rattle.reclaim.specs.declared.turn.Action.{Action}
-use Rattle.reclaim.specs.Levels.{next_level_of}
-use Rattle.reclaim.specs.Plans.{action_of, actions_by, actions_of}
-use Rattle.tenant.specs.Lent.{WhyStays}
-use Rattle.tenant.specs.Tenants.{TenantIs, pages_in, stat_of}
-use Rattle.tenant.specs.Turns.{IsAimed}
-use Rattle.tenant.specs.declared.moves.EvictError.{EvictError}
 use Rattle.tenant.specs.declared.moves.EvictError.TheVariants.{NoSwap, SwapWrite}
-use Rattle.tenant.specs.declared.turning.Aim.{Aim}
 use Rattle.tenant.specs.declared.turning.Aim.TheVariants as aim
-use Rattle.world.specs.Events.{turn_items}
-use Rattle.world.specs.Evictions.{IsEvicted}
-use Rattle.world.specs.Turns.{IsTurned, AreTurned, LosesPages, MayLose, AreFewer, SameFrom, AreCutShort, AreSwappedOut, IsTurn, actions_in, aim_items}
-use Rattle.world.specs.Victims.{OnlyPagesMove}
-use Rattle.world.specs.declared.turns.Turn.{Turn}
-use Rattle.world.specs.Worlds.{WorldIs, Changes, PagesMove, items_of, boot_of, log_at}
-use Rattle.world.proofs.Worlds.{get_last, its_log, log_past, set_twice}
+use Rattle.world.proofs.Worlds.{get_last, its_log, log_past, changes_then}
 use Rattle.world.proofs.Sampling.{same_map}
 use Rattle.world.proofs.Victims.{some_tenant, one_less, none_free, only_pages, pages_then, stays_beside, map_at}
 
@@ -73,10 +52,7 @@ loses_more m n t u v a b = record {
 }
 
 pub one_loses_more : (m n g : ℕ) (ts mid ts' : List TenantIs) → Changes (LosesPages m) g ts mid → Changes (LosesPages n) g mid ts' → Changes (LosesPages (m + n)) g ts ts'
-one_loses_more m n g ts mid ts' a b = record {
-  one = λ t. b.one t ∙ ap (λ (l : List TenantIs). set l g (get_or ts' g t)) (a.one t) ∙ set_twice ts g (get_or mid g t) (get_or ts' g t);
-  so = λ t. loses_more m n (get_or ts g t) (get_or mid g t) (get_or ts' g t) (a.so t) (b.so t);
-}
+one_loses_more m n g ts mid ts' a b = changes_then (LosesPages m) (LosesPages n) (LosesPages (m + n)) (loses_more m n) g ts mid ts' a b
 
 same_minimum : (t t' : TenantIs) → PagesMove t t' → t'.minimum ≡ t.minimum
 same_minimum t t' m = ap (λ (u : TenantIs). u.minimum) m.beside

@@ -2,25 +2,11 @@
 use Rattle.std.proofs.Common.{IfOk, Result, Ok, Err, ℕ, zero, suc, ◌≡◌, ◌+◌, ◌-◌, ◌<◌, inl, inr, List, ◌++◌, set, Option, Some, None, refl, sym, ap, ◌∙◌, arith}
 use Rattle.std.proofs.lemmas.Bool.{cases_lt}
 use Rattle.std.proofs.lemmas.List.{map-set}
-use Rattle.items.specs.declared.item.Item.{Item}
-use Rattle.items.specs.Entries.{steps_of}
-use Rattle.mips_step.specs.Accesses.{accesses, first_lack}
+use Rattle.world.specs.All.{AddsSteps, Given, Item, Machine, NoneNeeds, Page, Stays, TenantIs, Why, accesses, first_lack, lacks_in, last_given, outline, outlined, pages_after, pages_settled, run, step_given, steps_of, view_of}
 use Rattle.mips_step.specs.Bus.{Lacks}
-use Rattle.mips_step.specs.Given.{step_given}
-use Rattle.mips_step.specs.Step.{Machine}
-use Rattle.flatvm.specs.Items.{run}
 use Rattle.flatvm.proofs.Runs.{run_append}
-use Rattle.physmap.specs.declared.page.Page.{Page}
-use Rattle.physmap.specs.declared.page.Page.TheVariants.{Given}
-use Rattle.physmap.specs.Outline.{outline, outlined}
-use Rattle.paged_bus.specs.Buses.{pages_settled}
-use Rattle.paged_bus.specs.Lacking.{lacks_in}
-use Rattle.mips_step.specs.declared.access.Why.{Why}
 use Rattle.guest_log.specs.declared.stop.Stop.{Stop}
-use Rattle.guest.specs.Guests.{last_given, view_of}
 use Rattle.guest.proofs.Quiet.{run_join, lacks_alike}
-use Rattle.tenant.specs.Tenants.{TenantIs, Stays, AddsSteps}
-use Rattle.world.specs.Steps.{pages_after, NoneNeeds}
 
 -- ---- the steps of one run, of which the last alone may have given a page
 

@@ -4,27 +4,11 @@ use Rattle.std.proofs.lemmas.Bool.{cases_eq}
 use Rattle.std.proofs.lemmas.List.{length-map, append-nil, get_or-set_other}
 use Rattle.std.proofs.lemmas.Option.{same_Some, get_or_from_slice_get}
 use Rattle.std.proofs.lemmas.List.Sums.{sum_by-set}
-use Rattle.frames.specs.Counts.{count_of}
-use Rattle.frames.specs.FreeList.{FreeList}
+use Rattle.world.specs.All.{Changes, FreeList, IsEligible, IsEvicted, IsLeast, Item, OnlyPagesMove, OtherSparedStay, Page, PagesMove, SameNumbers, Spared, SparedStay, Stat, TenantIs, Why, all_resident, beside_pages, count_of, is_one_of, items_of, log_at, may_leave, one_private, one_shared, page_at, pages_in, resident_pages, spared_of, stat_of}
 use Rattle.frames.proofs.Counting.{count_cons, one_same}
-use Rattle.physmap.specs.declared.page.Page.{Page}
 use Rattle.physmap.specs.declared.page.Page.TheVariants as page
-use Rattle.physmap.specs.Pages.{page_at}
-use Rattle.physmap.specs.Holdings.{one_private, one_shared, resident_pages}
-use Rattle.paging.specs.Moves.{SameNumbers}
 use Rattle.paging.proofs.Exchanging.{exchanged}
-use Rattle.taxpolicy.specs.declared.stat.Stat.{Stat}
-use Rattle.taxpolicy.specs.Victim.{IsEligible, IsLeast}
-use Rattle.items.specs.declared.item.Item.{Item}
-use Rattle.mips_step.specs.declared.access.Why.{Why}
-use Rattle.world.specs.Evictions.{IsEvicted}
-use Rattle.tenant.specs.Tenants.{TenantIs, pages_in, beside_pages}
-use Rattle.world.specs.Worlds.{Changes, PagesMove, items_of, log_at}
-use Rattle.victims.specs.declared.spared.Spared.{Spared}
-use Rattle.victims.specs.Victims.{is_one_of, spared_of, may_leave}
 use Rattle.victims.proofs.Searching.{counted_once, leaves_apart}
-use Rattle.world.specs.Victims.{OnlyPagesMove, SparedStay, OtherSparedStay, all_resident}
-use Rattle.tenant.specs.Tenants.{stat_of}
 
 -- ---- resident pages
 
@@ -88,7 +72,7 @@ fewer g p ts ts' slots inside c there evicted =
 
 -- ---- pages that are spared
 
-no_true : true ≡ false → ⊥
+pub no_true : true ≡ false → ⊥
 no_true e = cc
 
 -- the pages of another guest
@@ -164,12 +148,17 @@ first_of needed p why e = ap (λ (n : ℕ × Why). n.0) (same_Some needed (p, wh
 
 -- ---- logs of guests of which only pages have moved
 
-beside_map : {Y : Type 0} (f : TenantIs → Y) → ((t : TenantIs) → f (beside_pages t) ≡ f t) → (ts : List TenantIs) → map f (map beside_pages ts) ≡ map f ts
-beside_map f same [] = refl
-beside_map f same (t ∷ ts) = λ i. same t i ∷ beside_map f same ts i
+module _ {Y : Type 0} (beside : TenantIs → TenantIs) (f : TenantIs → Y) (same : (t : TenantIs) → f (beside t) ≡ f t) where
+  beside_map : (ts : List TenantIs) → map f (map beside ts) ≡ map f ts
+  beside_map [] = refl
+  beside_map (t ∷ ts) = λ i. same t i ∷ beside_map ts i
+
+  -- what doesn't look at what has changed is as before
+  pub same_beside : (ts ts' : List TenantIs) → map beside ts' ≡ map beside ts → map f ts' ≡ map f ts
+  same_beside ts ts' is = sym (beside_map ts') ∙ ap (map f) is ∙ beside_map ts
 
 pub stays_beside : {Y : Type 0} (f : TenantIs → Y) → ((t : TenantIs) → f (beside_pages t) ≡ f t) → (ts ts' : List TenantIs) → OnlyPagesMove ts ts' → map f ts' ≡ map f ts
-stays_beside f same ts ts' m = sym (beside_map f same ts') ∙ ap (map f) m.beside ∙ beside_map f same ts
+stays_beside f same ts ts' m = same_beside beside_pages f same ts ts' m.beside
 
 pub fault_logs : {ts ts' : List TenantIs} → OnlyPagesMove ts ts' → (h : ℕ) → log_at ts' h ≡ log_at ts h ++ []
 fault_logs {ts} {ts'} m h = ap (λ (logs : List (List Item)). get_or logs h []) (stays_beside items_of (λ t. refl) ts ts' m) ∙ sym (append-nil (log_at ts h))

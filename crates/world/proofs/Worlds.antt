@@ -3,41 +3,16 @@ use Rattle.std.proofs.Common.{ℕ, zero, suc, ◌≡◌, ◌≢◌, ◌<◌, ◌
 use Rattle.std.proofs.lemmas.Bool.{cases_eq, cases_lt}
 use Rattle.std.proofs.lemmas.List.{get_or-set_same, get_or-set_other, get_or_past, map-set, length-map, append-nil, set-get_or}
 use Rattle.std.proofs.lemmas.List.Elements.{All-nil, All-push, All-get_or, All-from_get_or}
-use Rattle.frames.specs.Counts.{count_of, below}
-use Rattle.frames.specs.FreeList.{FreeList}
-use Rattle.items.specs.declared.item.Item.{Item}
-use Rattle.items.specs.Entries.{step_by, steps_of}
+use Rattle.world.specs.All.{Adds, AddsSteps, AllHappen, Answer, AroundStays, Books, Changes, Conserves, EntriesAre, Event, FreeList, GuestIs, Happens, Intact, IsKept, Item, Lent, NothingHappens, OnlyBooksChange, Page, Reads, Refused, Reply, SameAround, SharesAre, Sound, Stays, StepOut, StoreFacts, StoreStays, Stream, SupplyError, TenantIs, UsedStay, WhyAway, WorldIs, below, beside_pages, boot_of, count_of, input_items, item_for, items_of, log_at, need_of, outline, own, own_items, pages_in, pages_of, pages_seen, slots_held, step_by, step_items, steps_for, view_of}
+use Rattle.items.specs.Entries.{steps_of}
 use Rattle.guest_log.specs.declared.stop.Stop.{Stop}
-use Rattle.flatvm.specs.declared.reply.Reply.{Reply}
-use Rattle.mips_step.specs.Answer.{need_of}
-use Rattle.mips_step.specs.declared.access.StepOut.{StepOut}
 use Rattle.mips_step.specs.declared.access.StepOut.TheVariants as out
-use Rattle.guest.specs.declared.refused.Refused.{Refused}
-use Rattle.sharetab.specs.Entries.{EntriesAre}
-use Rattle.sharetab.specs.Shares.{SharesAre}
-use Rattle.physmap.specs.declared.page.Page.{Page}
-use Rattle.physmap.specs.Holdings.{slots_held}
-use Rattle.physmap.specs.Outline.{outline}
 use Rattle.physmap.specs.declared.page.Page.TheVariants as page
-use Rattle.paging.specs.declared.supply.SupplyError.{SupplyError}
 use Rattle.paging.specs.declared.supply.SupplyError.TheVariants.{SwapDamaged}
-use Rattle.paging.specs.Supplies.{WhyAway}
 use Rattle.paging.proofs.Starting.{books_of_nothing, books_with_owner}
-use Rattle.paging.specs.Books.{Books, pages_of}
 use Rattle.paging.specs.Faith.{Kept}
-use Rattle.paging.specs.Moves.{Conserves, Reads}
-use Rattle.guest.specs.Guests.{GuestIs, view_of, Intact}
-use Rattle.guest.specs.Views.{pages_seen}
 use Rattle.paging.proofs.Booking.{books_after, reads_each}
 use Rattle.tenant.proofs.Lending.{lent as books_lend}
-use Rattle.tenant.specs.Lent.{Lent, UsedStay}
-use Rattle.world.specs.declared.events.Event.{Event}
-use Rattle.world.specs.declared.events.Answer.{Answer}
-use Rattle.rand_core.specs.Stream.{Stream}
-use Rattle.world.specs.Answers.{Happens, AllHappen}
-use Rattle.world.specs.Events.{step_items, steps_for, input_items, own_items, own}
-use Rattle.tenant.specs.Tenants.{TenantIs, pages_in, beside_pages, IsKept, Stays, Adds, AddsSteps, NothingHappens}
-use Rattle.world.specs.Worlds.{WorldIs, Sound, Changes, SameAround, OnlyBooksChange, StoreStays, AroundStays, items_of, boot_of, log_at, item_for}
 use Rattle.tenant.proofs.Giving.{outline_conserves, outline_reads}
 use Rattle.tenant.proofs.Keeping.{used_kept}
 use Rattle.world.proofs.Victims.{some_tenant, changed}
@@ -127,10 +102,18 @@ pub log_past : (ts : List TenantIs) (h : ℕ) → length ts ≤ h → log_at ts 
 log_past ts h past = get_or_past (map items_of ts) h [] (omega (arith, past, length-map ts items_of))
 
 -- a guest that becomes one, and then another
-pub set_twice : (ts : List TenantIs) (g : ℕ) (t t' : TenantIs) → set (set ts g t) g t' ≡ set ts g t'
+set_twice : (ts : List TenantIs) (g : ℕ) (t t' : TenantIs) → set (set ts g t) g t' ≡ set ts g t'
 set_twice [] g t t' = refl
 set_twice (u ∷ ts) zero t t' = refl
 set_twice (u ∷ ts) (suc g) t t' = ap (λ (l : List TenantIs). u ∷ l) (set_twice ts g t t')
+
+-- one of the guests becomes another, and then another
+pub changes_then : (how how' how'' : TenantIs → TenantIs → Type 0) → ((t u v : TenantIs) → how t u → how' u v → how'' t v) → (g : ℕ) (ts mid ts' : List TenantIs)
+    → Changes how g ts mid → Changes how' g mid ts' → Changes how'' g ts ts'
+changes_then how how' how'' on g ts mid ts' before after = record {
+  one = λ t. after.one t ∙ ap (λ (l : List TenantIs). set l g (get_or ts' g t)) (before.one t) ∙ set_twice ts g (get_or mid g t) (get_or ts' g t);
+  so = λ t. on (get_or ts g t) (get_or mid g t) (get_or ts' g t) (before.so t) (after.so t);
+}
 
 -- the log of each guest, where that of one guest has become another
 log_set : (ts : List TenantIs) (g h : ℕ) (t' d : TenantIs) → g < length ts → log_at (set ts g t') h ≡ (if h == g then items_of t' else log_at ts h)
@@ -148,43 +131,34 @@ log_set ts g h t' d inside =
       ]
     ]
 
-one_log : (b : Bool) (before own : List Item) (item : Item) → (b ≡ true → before ≡ own) → (if b then own ++ item ∷ [] else before) ≡ before ++ (if b then item ∷ [] else [])
-one_log true before own item is = ap (λ (xs : List Item). xs ++ item ∷ []) (sym (is refl))
-one_log false before own item is = sym (append-nil before)
+more_log : (b : Bool) (before own more : List Item) → (b ≡ true → before ≡ own) → (if b then own ++ more else before) ≡ before ++ (if b then more else [])
+more_log true before own more is = ap (λ (xs : List Item). xs ++ more) (sym (is refl))
+more_log false before own more is = sym (append-nil before)
 
-pub log_adds : (g : ℕ) (ts ts' : List TenantIs) (item : Item) (d : TenantIs) → g < length ts → Changes (λ t t'. t'.guest.log.items ≡ t.guest.log.items ++ item ∷ []) g ts ts'
-    → (h : ℕ) → log_at ts' h ≡ log_at ts h ++ item_for h g item
-log_adds g ts ts' item d inside c h =
+-- one guest's log has these items more
+log_more : (how : TenantIs → TenantIs → Type 0) (more : List Item) (g : ℕ) (ts ts' : List TenantIs) (d : TenantIs) → g < length ts → Changes how g ts ts'
+    → ((t t' : TenantIs) → how t t' → items_of t' ≡ items_of t ++ more) → (h : ℕ) → log_at ts' h ≡ log_at ts h ++ (if h == g then more else [])
+log_more how more g ts ts' d inside c adds h =
     ap (λ (l : List TenantIs). log_at l h) (c.one d)
     ∙ log_set ts g h (get_or ts' g d) d inside
-    ∙ ap (λ (xs : List Item). if h == g then xs else log_at ts h) (c.so d)
-    ∙ one_log (h == g) (log_at ts h) (items_of (get_or ts g d)) item (λ e. ap (log_at ts) (eqb-true h g e) ∙ its_log ts g d inside)
+    ∙ ap (λ (xs : List Item). if h == g then xs else log_at ts h) (adds (get_or ts g d) (get_or ts' g d) (c.so d))
+    ∙ more_log (h == g) (log_at ts h) (items_of (get_or ts g d)) more (λ e. ap (log_at ts) (eqb-true h g e) ∙ its_log ts g d inside)
 
-many_log : (b : Bool) (before own more : List Item) → (b ≡ true → before ≡ own) → (if b then own ++ more else before) ≡ before ++ (if b then more else [])
-many_log true before own more is = ap (λ (xs : List Item). xs ++ more) (sym (is refl))
-many_log false before own more is = sym (append-nil before)
+log_adds : (g : ℕ) (ts ts' : List TenantIs) (item : Item) (d : TenantIs) → g < length ts → Changes (λ t t'. Adds t item t') g ts ts' → (h : ℕ) → log_at ts' h ≡ log_at ts h ++ item_for h g item
+log_adds g ts ts' item d inside c h = log_more (λ t t'. Adds t item t') (item ∷ []) g ts ts' d inside c (λ t t' adds. adds) h
 
-pub log_adds_steps : (g : ℕ) (ts ts' : List TenantIs) (count : ℕ) (d : TenantIs) → g < length ts → Changes (λ t t'. AddsSteps t count t') g ts ts'
-    → (h : ℕ) → log_at ts' h ≡ log_at ts h ++ steps_for h g count
-unfolding steps_of
-log_adds_steps g ts ts' count d inside c h =
-    ap (λ (l : List TenantIs). log_at l h) (c.one d)
-    ∙ log_set ts g h (get_or ts' g d) d inside
-    ∙ ap (λ (xs : List Item). if h == g then xs else log_at ts h) (c.so d)
-    ∙ many_log (h == g) (log_at ts h) (items_of (get_or ts g d)) (replicate count (step_by 0)) (λ e. ap (log_at ts) (eqb-true h g e) ∙ its_log ts g d inside)
+pub chosen_join : (b : Bool) (xs ys : List Item) → (if b then (xs ++ ys) else []) ≡ (if b then xs else []) ++ (if b then ys else [])
+chosen_join true xs ys = refl
+chosen_join false xs ys = refl
 
-same_log : (b : Bool) (before own : List Item) → (b ≡ true → before ≡ own) → (if b then own else before) ≡ before
-same_log true before own is = sym (is refl)
-same_log false before own is = refl
+pub none_chosen : (b : Bool) (nothing : List Item) → (if b then nothing else nothing) ≡ nothing
+none_chosen true nothing = refl
+none_chosen false nothing = refl
 
-pub log_stays : (how : TenantIs → TenantIs → Type 0) (g : ℕ) (ts ts' : List TenantIs) (d : TenantIs) → g < length ts → Changes how g ts ts'
+log_stays : (how : TenantIs → TenantIs → Type 0) (g : ℕ) (ts ts' : List TenantIs) (d : TenantIs) → g < length ts → Changes how g ts ts'
     → ((t t' : TenantIs) → how t t' → items_of t' ≡ items_of t) → (h : ℕ) → log_at ts' h ≡ log_at ts h ++ []
 log_stays how g ts ts' d inside c same h =
-    ap (λ (l : List TenantIs). log_at l h) (c.one d)
-    ∙ log_set ts g h (get_or ts' g d) d inside
-    ∙ ap (λ (xs : List Item). if h == g then xs else log_at ts h) (same (get_or ts g d) (get_or ts' g d) (c.so d))
-    ∙ same_log (h == g) (log_at ts h) (items_of (get_or ts g d)) (λ e. ap (log_at ts) (eqb-true h g e) ∙ its_log ts g d inside)
-    ∙ sym (append-nil (log_at ts h))
+    log_more how [] g ts ts' d inside c (λ t t' s. same t t' s ∙ sym (append-nil (items_of t))) h ∙ ap (λ (xs : List Item). log_at ts h ++ xs) (none_chosen (h == g) [])
 
 -- ---- one guest of a world, by what is seen of the world
 
@@ -227,10 +201,10 @@ same_guests {w = w} {g = g} {t = t} t' e inside is beside pages =
 
 -- ---- a page that isn't supplied
 
-pub why_away : {T : Type 0} (r : Result T SupplyError) (pool : FreeList) (failed damaged wanted : Type 0) → (r ≡ Err SwapDamaged → wanted)
+pub why_away : {T : Type 0} (r : Result T SupplyError) (pool : FreeList) (failed damaged wanted : Type 0) → (r ≡ Err SwapDamaged → damaged → wanted)
     → IfErr r (WhyAway pool failed damaged) → IfErr r (WhyAway pool failed wanted)
 why_away (Ok x) pool failed damaged wanted why w = tt
-why_away (Err SwapDamaged) pool failed damaged wanted why w = (w.0, why refl)
+why_away (Err SwapDamaged) pool failed damaged wanted why w = (w.0, why refl w.1)
 why_away (Err e) pool failed damaged wanted why w = w
 
 -- ---- a new world, and one more guest
@@ -263,43 +237,32 @@ pub slots_once : (frames slots : ℕ) (trusted : Type 0) (held : ℕ → Option 
     → Sound frames slots trusted held ts pool book es → (k : ℕ) → count_of k book.free ≤ below k slots
 slots_once frames slots trusted held ts pool book es s k = omega (arith, s.books.each_slot k)
 
-pub sound_add : (frames slots n : ℕ) (trusted trusted' : Type 0) (held held' : ℕ → Option (List ℕ)) (ts : List TenantIs) (t : TenantIs) (pool pool' book book' : FreeList) (es : EntriesAre)
-    → Conserves (replicate n page.Zero) pool book es (pages_in t) pool' book' es → Reads es (pages_in t)
-    → (trusted' → trusted) → (trusted → IsKept held' t) → (trusted → UsedStay book held held')
-    → Sound frames slots trusted held ts pool book es → Sound frames slots trusted' held' (ts ++ t ∷ []) pool' book' es
-sound_add frames slots n trusted trusted' held held' ts t pool pool' book book' es conserves reads trust kept used s =
-    let all = map pages_in ts in
-    let new = replicate n page.Zero in
-    let last = length all in
-    let inside : last < length (all ++ new ∷ []) = omega (arith, length-append all (new ∷ [])) in
-    let at : get_or (all ++ new ∷ []) last [] ≡ new = get_last all new [] in
-    record {
-      books = subst (λ (l : List (List Page)). Books frames slots l es pool' book') (set_last all new (pages_in t) ∙ sym (last_pages ts t))
-          (books_after frames slots (all ++ new ∷ []) last (pages_in t) es es pool pool' book book' inside
-          (subst (λ (ps : List Page). Conserves ps pool book es (pages_in t) pool' book' es) (sym at) conserves) reads
-          (books_with_owner frames slots all es pool book n s.books));
-      kept = λ trust'. All-push (IsKept held') ts t (All-from_get_or (IsKept held') ts t (λ j h. others (trust trust') j h)) (kept (trust trust'));
-    }
-  where
-    others : trusted → (j : ℕ) → j < length ts → IsKept held' (get_or ts j t)
-    others now j h =
-        used_kept book held held' (get_or ts j t) (used now) (λ slot some. not_free frames slots ts j t pool book es slot h s.books some) (All-get_or (IsKept held) ts j t h (s.kept now))
-
--- the same of a guest that has its seats now
+-- one guest more, which has its seats now
 pub sound_add_new : (frames slots n : ℕ) (trusted trusted' : Type 0) (held held' : ℕ → Option (List ℕ)) (ts : List TenantIs) (g : GuestIs) (t : TenantIs) (pool pool' book book' : FreeList) (es : EntriesAre)
     → t.guest ≡ record g { seats = 4 } → Conserves (replicate n page.Zero) pool book es g.bus.pages pool' book' es → Reads es g.bus.pages
     → (trusted' → trusted) → (trusted → Intact g) → (trusted → Kept held' (pages_seen (view_of g)) g.bus.pages) → (trusted → UsedStay book held held')
     → Sound frames slots trusted held ts pool book es → Sound frames slots trusted' held' (ts ++ t ∷ []) pool' book' es
 sound_add_new frames slots n trusted trusted' held held' ts g t pool pool' book book' es seated conserves reads trust intact kept used s =
-    let seats : GuestIs = record g { seats = 4 } in
-    let same : seats.bus.pages ≡ pages_in t = ap (λ (h : GuestIs). h.bus.pages) (sym seated) in
-    sound_add frames slots n trusted trusted' held held' ts t pool pool' book book' es
-    (subst (λ (ps : List Page). Conserves (replicate n page.Zero) pool book es ps pool' book' es) same conserves) (subst (Reads es) same reads) trust
-    (λ (now : trusted). record {
-      intact = subst Intact (sym seated) (record { shows = (intact now).shows; accepted = (intact now).accepted });
-      pages = subst (λ (h : GuestIs). Kept held' (pages_seen (view_of h)) h.bus.pages) (sym seated) (kept now);
-    })
-    used s
+    let all = map pages_in ts in
+    let new = replicate n page.Zero in
+    let last = length all in
+    let inside : last < length (all ++ new ∷ []) = omega (arith, length-append all (new ∷ [])) in
+    let at : get_or (all ++ new ∷ []) last [] ≡ new = get_last all new [] in
+    let its : g.bus.pages ≡ pages_in t = sym (ap (λ (h : GuestIs). h.bus.pages) seated) in
+    record {
+      books = subst (λ (l : List (List Page)). Books frames slots l es pool' book') (set_last all new g.bus.pages ∙ ap (λ (ps : List Page). all ++ ps ∷ []) its ∙ sym (last_pages ts t))
+          (books_after frames slots (all ++ new ∷ []) last g.bus.pages es es pool pool' book book' inside
+          (subst (λ (ps : List Page). Conserves ps pool book es g.bus.pages pool' book' es) (sym at) conserves) reads
+          (books_with_owner frames slots all es pool book n s.books));
+      kept = λ trust'. All-push (IsKept held') ts t (All-from_get_or (IsKept held') ts t (λ j h. others (trust trust') j h)) (record {
+        intact = subst Intact (sym seated) (record { shows = (intact (trust trust')).shows; accepted = (intact (trust trust')).accepted });
+        pages = subst (λ (h : GuestIs). Kept held' (pages_seen (view_of h)) h.bus.pages) (sym seated) (kept (trust trust'));
+      });
+    }
+  where
+    others : trusted → (j : ℕ) → j < length ts → IsKept held' (get_or ts j t)
+    others now j h =
+        used_kept book held held' (get_or ts j t) (used now) (λ slot some. not_free frames slots ts j t pool book es slot h s.books some) (All-get_or (IsKept held) ts j t h (s.kept now))
 
 -- an item that is no step leaves where pages are
 pub input_sound : {frames slots : ℕ} {trusted : Type 0} {held : ℕ → Option (List ℕ)} {ts : List TenantIs} {pool book : FreeList} {es : EntriesAre} → Sound frames slots trusted held ts pool book es
@@ -320,7 +283,8 @@ step_logs Around g ts ts' (Ok (out.Need page why)) inside adds needs err h =
 step_logs Around g ts ts' (Err stop) inside adds needs err h = log_stays NothingHappens g ts ts' (some_tenant ts g inside) inside err.0 (λ t t' n. n.items) h
 
 pub steps_logs : (g : ℕ) (ts ts' : List TenantIs) (count : ℕ) → g < length ts → Changes (λ t t'. AddsSteps t count t') g ts ts' → (h : ℕ) → log_at ts' h ≡ log_at ts h ++ steps_for h g count
-steps_logs g ts ts' count inside c = log_adds_steps g ts ts' count (some_tenant ts g inside) inside c
+unfolding steps_of
+steps_logs g ts ts' count inside c = log_more (λ t t'. AddsSteps t count t') (replicate count (step_by 0)) g ts ts' (some_tenant ts g inside) inside c (λ t t' adds. adds)
 
 pub same_logs : (g : ℕ) (ts ts' : List TenantIs) → g < length ts → Changes NothingHappens g ts ts' → (h : ℕ) → log_at ts' h ≡ log_at ts h
 same_logs g ts ts' inside c h =
@@ -336,27 +300,30 @@ same_boots c inside = changed boot_of c inside (λ t t' s. s.boot)
 
 -- ---- what lies around the guests
 
-pub store_same : {Store : Type 0} {slots_of : Store → ℕ} {honest true_to_digests : Store → Type 0} {s s' : Store} → s' ≡ s → StoreStays slots_of honest true_to_digests s s'
-store_same {slots_of = slots_of} {honest = honest} {true_to_digests = true_to_digests} same = record {
-  slots = ap slots_of same;
-  honest = (subst honest same, subst honest (sym same));
-  true_to_digests = (subst true_to_digests same, subst true_to_digests (sym same));
+pub store_same : {Store : Type 0} {facts : StoreFacts Store} {s s' : Store} → s' ≡ s → StoreStays facts s s'
+store_same {facts = facts} same = record {
+  slots = ap facts.slots same;
+  honest = (subst facts.honest same, subst facts.honest (sym same));
+  true_to_digests = (subst facts.true_to_digests same, subst facts.true_to_digests (sym same));
 }
 
-pub store_then : {Store : Type 0} {slots_of : Store → ℕ} {honest true_to_digests : Store → Type 0} {s mid s' : Store}
-    → StoreStays slots_of honest true_to_digests s mid → StoreStays slots_of honest true_to_digests mid s' → StoreStays slots_of honest true_to_digests s s'
+pub store_then : {Store : Type 0} {facts : StoreFacts Store} {s mid s' : Store}
+    → StoreStays facts s mid → StoreStays facts mid s' → StoreStays facts s s'
 store_then a b = record {
   slots = b.slots ∙ a.slots;
   honest = (λ now. a.honest.0 (b.honest.0 now), λ before. b.honest.1 (a.honest.1 before));
   true_to_digests = (λ now. a.true_to_digests.0 (b.true_to_digests.0 now), λ before. b.true_to_digests.1 (a.true_to_digests.1 before));
 }
 
-pub around_then : {Store : Type 0} {slots_of : Store → ℕ} {honest true_to_digests : Store → Type 0} {w mid w' : WorldIs Store}
-    → AroundStays slots_of honest true_to_digests w mid → AroundStays slots_of honest true_to_digests mid w' → AroundStays slots_of honest true_to_digests w w'
+pub around_then : {Store : Type 0} {facts : StoreFacts Store} {w mid w' : WorldIs Store}
+    → AroundStays facts w mid → AroundStays facts mid w' → AroundStays facts w w'
 around_then a b = record { hints = b.hints ∙ a.hints; frames = b.frames ∙ a.frames; level = b.level ∙ a.level; store = store_then a.store b.store }
 
+pub around_same : {Store : Type 0} {facts : StoreFacts Store} {w : WorldIs Store} → AroundStays facts w w
+around_same = record { hints = refl; frames = refl; level = refl; store = store_same refl }
+
 -- only the books have changed
-pub around_books : {Store : Type 0} {slots_of : Store → ℕ} {honest true_to_digests : Store → Type 0} {w w' : WorldIs Store} → OnlyBooksChange w w' → AroundStays slots_of honest true_to_digests w w'
+pub around_books : {Store : Type 0} {facts : StoreFacts Store} {w w' : WorldIs Store} → OnlyBooksChange w w' → AroundStays facts w w'
 around_books o = record { hints = o.hints; frames = o.frames; level = o.level; store = store_same o.store }
 
 pub books_then : {Store : Type 0} {w mid w' : WorldIs Store} → OnlyBooksChange w mid → OnlyBooksChange mid w' → OnlyBooksChange w w'
@@ -391,16 +358,16 @@ logs_more h es answers e a old now after same so_far more =
     more ∙ ap (λ (xs : List Item). xs ++ own_items h e a) so_far ∙ append_assoc old (own h es answers) (own_items h e a)
     ∙ ap (λ (xs : List Item). old ++ xs) (sym (own_more h es answers e a same))
 
-pub all_more : {Kept : Type 0} (trusted : Kept → Type 0) (failures : Kept → ℕ) (honest : Kept → Type 0) (slots : Kept → ℕ) (held : Kept → ℕ → Option (List ℕ)) (tax : ℕ) (words left rest : Stream) (w mid w' : WorldIs Kept) (es : List Event) (answers : List Answer) (e : Event) (a : Answer)
-    → AllHappen trusted failures honest slots held tax words w es answers left mid → Happens trusted failures honest slots held tax left mid e a rest w' → AllHappen trusted failures honest slots held tax words w (es ++ e ∷ []) (answers ++ a ∷ []) rest w'
-all_more {Kept} trusted failures honest slots held tax words left rest w mid w' [] [] e a same one = (
+pub all_more : {Kept : Type 0} (facts : StoreFacts Kept) (tax : ℕ) (words left rest : Stream) (w mid w' : WorldIs Kept) (es : List Event) (answers : List Answer) (e : Event) (a : Answer)
+    → AllHappen facts tax words w es answers left mid → Happens facts tax left mid e a rest w' → AllHappen facts tax words w (es ++ e ∷ []) (answers ++ a ∷ []) rest w'
+all_more {Kept} facts tax words left rest w mid w' [] [] e a same one = (
   rest,
   w',
-  subst (λ (v : WorldIs Kept). Happens trusted failures honest slots held tax words v e a rest w') same.1
-      (subst (λ (s : Stream). Happens trusted failures honest slots held tax s mid e a rest w') same.0 one),
+  subst (λ (v : WorldIs Kept). Happens facts tax words v e a rest w') same.1
+      (subst (λ (s : Stream). Happens facts tax s mid e a rest w') same.0 one),
   (refl, refl),
 )
-all_more trusted failures honest slots held tax words left rest w mid w' [] (b ∷ answers) e a before one = absurd before
-all_more trusted failures honest slots held tax words left rest w mid w' (d ∷ es) [] e a before one = absurd before
-all_more trusted failures honest slots held tax words left rest w mid w' (d ∷ es) (b ∷ answers) e a before one =
-    (before.0, before.1, before.2, all_more trusted failures honest slots held tax before.0 left rest before.1 mid w' es answers e a before.3 one)
+all_more facts tax words left rest w mid w' [] (b ∷ answers) e a before one = absurd before
+all_more facts tax words left rest w mid w' (d ∷ es) [] e a before one = absurd before
+all_more facts tax words left rest w mid w' (d ∷ es) (b ∷ answers) e a before one =
+    (before.0, before.1, before.2, all_more facts tax before.0 left rest before.1 mid w' es answers e a before.3 one)

@@ -1,7 +1,7 @@
 -- Guests that are admitted by their minimums, and what that promises (Waldspurger, OSDI 2002, sections 6.1 and 6.2, has the parameters and
 -- admission control; the form here, by minimums, is our own).
 use Rattle.std.specs.Prelude.{◌≡◌, ℕ, ◌+◌, ◌-◌, ◌<◌, ◌≤◌, List, Ok, Err, length, map, sum_by}
-use Rattle.tenant.specs.Tenants.{TenantIs, pages_in}
+use Rattle.world.specs.Below.{TenantIs, pages_in}
 use Rattle.world.specs.declared.debugging.DebugError.{DebugError}
 use Rattle.world.specs.declared.debugging.DebugError.TheVariants as debug
 use Rattle.world.specs.declared.events.Answer.{Answer}

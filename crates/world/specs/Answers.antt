@@ -1,36 +1,11 @@
 -- What is answered to events, and why.
-use Rattle.std.specs.Prelude.{◌≡◌, ◌≢◌, ◌↔◌, ◌<◌, ◌≤◌, ◌^◌, ℕ, false, true, Option, Result, Ok, Err, Some, None, IfOk, IfErr, OnOk, IsErrOf, List, [], ◌∷◌, ◌++◌, length, map, slice_index, slice_index_or}
-use Rattle.rand_core.specs.Stream.{Stream}
-use Rattle.frames.specs.FreeList.{FreeList}
-use Rattle.items.specs.declared.item.Item.{Item}
-use Rattle.items.specs.declared.item.What.TheVariants.{In, Write}
-use Rattle.guest_log.specs.Logs.{IsFull}
+use Rattle.std.specs.Prelude.{◌≡◌, ◌≢◌, ◌↔◌, ◌<◌, ◌≤◌, ◌^◌, ℕ, false, true, Result, Ok, Err, Some, None, IfOk, IfErr, OnOk, IsErrOf, List, [], ◌∷◌, ◌++◌, length, map, slice_index, slice_index_or}
+use Rattle.world.specs.Below.{Answered, Comes, EvictError, FreeList, HintsAfter, In, IsFull, Item, Private, Refused, Reply, SharesAre, StepOut, Stream, SupplyError, TenantIs, Why, WhyAway, WhyStays, Write, WritesTo, accepts, bytes_at, kind_at, lacks_in, need_of, page_at, pages_in, replied, reply, sha256, shown, standing, view_of}
 use Rattle.guest_log.specs.declared.stop.Stop.{Stop}
 use Rattle.guest_log.specs.declared.stop.Stop.TheVariants as halt
 use Rattle.mips_tlb.specs.declared.kind.Kind.TheVariants.{Store}
-use Rattle.mips_step.specs.Answer.{need_of}
-use Rattle.mips_step.specs.declared.access.StepOut.{StepOut}
-use Rattle.mips_step.specs.declared.access.Why.{Why}
-use Rattle.flatvm.specs.Answers.{replied}
-use Rattle.flatvm.specs.Items.{accepts, reply}
-use Rattle.flatvm.specs.Replies.{bytes_at}
-use Rattle.flatvm.specs.declared.reply.Reply.{Reply}
-use Rattle.sha2.specs.Sha256.{sha256}
-use Rattle.sharetab.specs.Shares.{SharesAre}
-use Rattle.physmap.specs.declared.page.PageKind.TheVariants.{Private}
-use Rattle.physmap.specs.Pages.{page_at, kind_at, shown}
-use Rattle.paging.specs.Scans.{Answered, Comes, HintsAfter}
 use Rattle.paging.specs.declared.scan.Scan.{Scan}
-use Rattle.paging.specs.Supplies.{WhyAway}
-use Rattle.paging.specs.declared.supply.SupplyError.{SupplyError}
-use Rattle.paged_bus.specs.Lacking.{lacks_in}
-use Rattle.paged_bus.specs.Writes.{WritesTo}
-use Rattle.guest.specs.Guests.{view_of, standing}
-use Rattle.guest.specs.declared.refused.Refused.{Refused}
 use Rattle.guest.specs.declared.refused.Refused.TheVariants as refusal
-use Rattle.tenant.specs.Lent.{WhyStays}
-use Rattle.tenant.specs.Tenants.{TenantIs, pages_in}
-use Rattle.tenant.specs.declared.moves.EvictError.{EvictError}
 use Rattle.world.specs.declared.events.Event.{Event}
 use Rattle.world.specs.declared.events.Event.TheVariants as event
 use Rattle.world.specs.declared.events.Answer.{Answer}
@@ -44,6 +19,7 @@ use Rattle.world.specs.declared.running.Ran.{Ran}
 use Rattle.world.specs.declared.running.RunStop.{RunStop}
 use Rattle.world.specs.declared.running.RunStop.TheVariants as halted
 use Rattle.world.specs.declared.world.Evicted.{Evicted}
+use Rattle.world.specs.Damage.{HasDamage, IsNeeded, IsAccessed, LieIn}
 use Rattle.world.specs.Debugging.{IfStopped}
 use Rattle.world.specs.Events.{own_items, IfStop, IsForRoom, IsSupplied, WhyHalted}
 use Rattle.world.specs.Evictions.{Became}
@@ -52,7 +28,7 @@ use Rattle.world.specs.Samples.{IsSampling}
 use Rattle.world.specs.Turns.{IsTurn}
 use Rattle.world.specs.Victims.{WhyUnsupplied}
 use Rattle.world.specs.Words.{GoesByWords}
-use Rattle.world.specs.Worlds.{WorldIs, Sound, SameAround, StoreStays, boot_of, log_at, guest_at, needed_by, FailsOnce}
+use Rattle.world.specs.Worlds.{WorldIs, IsSoundWorld, SameAround, StoreFacts, StoreStays, boot_of, log_at, guest_at, needed_by, FailsOnce}
 
 -- a step answers the page that it needs, and else is made; it stops for a full log exactly where the log is full
 pub record IsStepAnswer (trusted : Type 0) (t : TenantIs) (stepped : Result StepOut Stop) : Type 0 where
@@ -108,9 +84,9 @@ pub record IsWriteAnswer (trusted : Type 0) (address : ℕ) (bytes : List ℕ) (
   pub room : OnOk done (IsFull t.guest.log → ⊥)
 
 -- a page has a frame of its own, or it is said why not
-pub record IsSupplyAnswer (p : ℕ) (t' : TenantIs) (pool : FreeList) (failed dishonest : Type 0) (done : Result (Unit {0}) SupplyError) : Type 0 where
+pub record IsSupplyAnswer (p : ℕ) (t' : TenantIs) (pool : FreeList) (failed damaged : Type 0) (done : Result (Unit {0}) SupplyError) : Type 0 where
   pub private : OnOk done (kind_at (pages_in t') p ≡ Private)
-  pub err : IfErr done (WhyAway pool failed dishonest)
+  pub err : IfErr done (WhyAway pool failed damaged)
 
 -- the page that the next step needs has one, or it is said why not
 pub record IsFaultAnswer (trusted : Type 0) (t t' : TenantIs) (why : FaultError → Type 0) (done : Result (Unit {0}) FaultError) : Type 0 where
@@ -155,68 +131,63 @@ pub record IsBlocked {Kept : Type 0} (g : ℕ) (w w' : WorldIs Kept) : Type 0 wh
 abbrev pub IsGoing : TenantIs → Type 0
 IsGoing t = t.blocked ≡ false
 
--- What is answered to an event, and why, at a tax in percent. Of a store: whether it is true to digests, how many failures it counts, and
--- whether it is honest.
-abbrev pub IsAnswered : {Kept : Type 0} → (trusted : Kept → Type 0) → (failures : Kept → ℕ) → (honest : Kept → Type 0) → (tax : ℕ) → WorldIs Kept → WorldIs Kept → Event → Answer → Type 0
-IsAnswered trusted failures honest tax w w' (event.Step g) (answer.Stepped stepped) =
-    (t : TenantIs) → IsStepAnswer (trusted w.store) (guest_at w g t) stepped × IsGoing (guest_at w g t)
-IsAnswered trusted failures honest tax w w' (event.Steps g count) (answer.Ran ran) =
-    (t : TenantIs) → IsRunAnswer (trusted w.store) count (guest_at w' g t) IsForRoom ran × IsGoing (guest_at w g t)
-IsAnswered trusted failures honest tax w w' (event.Run g count) (answer.Ran ran) =
-    (t : TenantIs) → IsRunAnswer (trusted w.store) count (guest_at w' g t) (WhyHalted failures honest w w') ran
-    × AreSupplied (trusted w.store) (guest_at w' g t) ran × IsGoing (guest_at w g t)
-IsAnswered trusted failures honest tax w w' (event.Input g item) (answer.Input done) =
-    (t : TenantIs) → IsInputAnswer (trusted w.store) item (guest_at w g t) done
-IsAnswered trusted failures honest tax w w' (event.Feed g bytes) (answer.Fed fed) =
-    (t : TenantIs) → IsFeedAnswer (trusted w.store) bytes.items (guest_at w' g t) fed
-IsAnswered trusted failures honest tax w w' (event.Probe g address count) (answer.Probed (Ok bytes)) =
-    (length bytes.items ≡ count) × ((t : TenantIs) → trusted w.store → bytes_at (view_of (guest_at w g t).guest) address count ≡ Some bytes.items)
-IsAnswered trusted failures honest tax w w' (event.Probe g address count) (answer.Probed (Err error)) =
-    (t : TenantIs) → IsProbeRefusal (trusted w.store) address count (guest_at w g t) (WhyHalted failures honest w w') error
-IsAnswered trusted failures honest tax w w' (event.Write g address bytes) (answer.Written done) =
-    (t : TenantIs) → IsWriteAnswer (trusted w.store) address bytes.items (guest_at w g t) (WhyHalted failures honest w w') done
-IsAnswered trusted failures honest tax w w' (event.Supply g p) (answer.Supplied done) =
-    (t : TenantIs) → IsSupplyAnswer p (guest_at w' g t) w.pool (FailsOnce failures w w') (honest w.store → ⊥) done
-IsAnswered trusted failures honest tax w w' (event.Fault g) (answer.Faulted done) =
-    (t : TenantIs) → IsFaultAnswer (trusted w.store) (guest_at w g t) (guest_at w' g t)
-    (WhyUnsupplied failures honest w w') done
-IsAnswered trusted failures honest tax w w' (event.Evict g p) (answer.Evicted done) =
-    (t : TenantIs) → IsEvictAnswer p (guest_at w g t) (guest_at w' g t) w.slots (FailsOnce failures w w') done
-IsAnswered trusted failures honest tax w w' (event.Scan g p) (answer.Scanned scan) =
+-- What is answered to an event, and why, at a tax in percent.
+abbrev pub IsAnswered : {Kept : Type 0} → StoreFacts Kept → (tax : ℕ) → WorldIs Kept → WorldIs Kept → Event → Answer → Type 0
+IsAnswered facts tax w w' (event.Step g) (answer.Stepped stepped) =
+    (t : TenantIs) → IsStepAnswer (facts.true_to_digests w.store) (guest_at w g t) stepped × IsGoing (guest_at w g t)
+IsAnswered facts tax w w' (event.Steps g count) (answer.Ran ran) =
+    (t : TenantIs) → IsRunAnswer (facts.true_to_digests w.store) count (guest_at w' g t) IsForRoom ran × IsGoing (guest_at w g t)
+IsAnswered facts tax w w' (event.Run g count) (answer.Ran ran) =
+    (t : TenantIs) → IsRunAnswer (facts.true_to_digests w.store) count (guest_at w' g t) (WhyHalted facts g (IsAccessed facts w' g) w w') ran
+    × AreSupplied (facts.true_to_digests w.store) (guest_at w' g t) ran × IsGoing (guest_at w g t)
+IsAnswered facts tax w w' (event.Input g item) (answer.Input done) =
+    (t : TenantIs) → IsInputAnswer (facts.true_to_digests w.store) item (guest_at w g t) done
+IsAnswered facts tax w w' (event.Feed g bytes) (answer.Fed fed) =
+    (t : TenantIs) → IsFeedAnswer (facts.true_to_digests w.store) bytes.items (guest_at w' g t) fed
+IsAnswered facts tax w w' (event.Probe g address count) (answer.Probed (Ok bytes)) =
+    (length bytes.items ≡ count) × ((t : TenantIs) → facts.true_to_digests w.store → bytes_at (view_of (guest_at w g t).guest) address count ≡ Some bytes.items)
+IsAnswered facts tax w w' (event.Probe g address count) (answer.Probed (Err error)) =
+    (t : TenantIs) → IsProbeRefusal (facts.true_to_digests w.store) address count (guest_at w g t) (WhyHalted facts g (LieIn w g address count) w w') error
+IsAnswered facts tax w w' (event.Write g address bytes) (answer.Written done) =
+    (t : TenantIs) → IsWriteAnswer (facts.true_to_digests w.store) address bytes.items (guest_at w g t) (WhyHalted facts g (LieIn w g address (length bytes.items)) w w') done
+IsAnswered facts tax w w' (event.Supply g p) (answer.Supplied done) =
+    (t : TenantIs) → IsSupplyAnswer p (guest_at w' g t) w.pool (FailsOnce facts w w') (HasDamage facts w.store w.tenants g p) done
+IsAnswered facts tax w w' (event.Fault g) (answer.Faulted done) =
+    (t : TenantIs) → IsFaultAnswer (facts.true_to_digests w.store) (guest_at w g t) (guest_at w' g t)
+    (WhyUnsupplied facts g (IsNeeded facts w g) w w') done
+IsAnswered facts tax w w' (event.Evict g p) (answer.Evicted done) =
+    (t : TenantIs) → IsEvictAnswer p (guest_at w g t) (guest_at w' g t) w.slots (FailsOnce facts w w') done
+IsAnswered facts tax w w' (event.Scan g p) (answer.Scanned scan) =
     (t : TenantIs) → IsScanAnswer g p w.shares w'.shares (guest_at w g t) (guest_at w' g t) scan
-IsAnswered trusted failures honest tax w w' event.Sample answer.Sampled = IsSampling w.tenants w'.tenants × SameAround w w'
-IsAnswered trusted failures honest tax w w' event.Level (answer.Turned (Ok turn)) = IsTurn tax (FailsOnce failures w w') w turn w'
-IsAnswered trusted failures honest tax w w' event.Level (answer.Turned (Err error)) = w' ≡ w
-IsAnswered trusted failures honest tax w w' (event.Step g) answer.Blocked = IsBlocked g w w'
-IsAnswered trusted failures honest tax w w' (event.Steps g count) answer.Blocked = IsBlocked g w w'
-IsAnswered trusted failures honest tax w w' (event.Run g count) answer.Blocked = IsBlocked g w w'
-IsAnswered trusted failures honest tax w w' e answer.Nowhere = IsNowhere w.tenants e
-IsAnswered trusted failures honest tax w w' e a = ⊥
-
--- The books of a world are exact, and where its store is true to digests each guest is its run.
-abbrev pub IsSoundWorld : {Kept : Type 0} → (trusted : Kept → Type 0) → (slots : Kept → ℕ) → (held : Kept → ℕ → Option (List ℕ)) → WorldIs Kept → Type 0
-IsSoundWorld trusted slots held w = Sound w.frames (slots w.store) (trusted w.store) (held w.store) w.tenants w.pool w.slots w.shares.entries
+IsAnswered facts tax w w' event.Sample answer.Sampled = IsSampling w.tenants w'.tenants × SameAround w w'
+IsAnswered facts tax w w' event.Level (answer.Turned (Ok turn)) = IsTurn tax (FailsOnce facts w w') w turn w'
+IsAnswered facts tax w w' event.Level (answer.Turned (Err error)) = w' ≡ w
+IsAnswered facts tax w w' (event.Step g) answer.Blocked = IsBlocked g w w'
+IsAnswered facts tax w w' (event.Steps g count) answer.Blocked = IsBlocked g w w'
+IsAnswered facts tax w w' (event.Run g count) answer.Blocked = IsBlocked g w w'
+IsAnswered facts tax w w' e answer.Nowhere = IsNowhere w.tenants e
+IsAnswered facts tax w w' e a = ⊥
 
 -- An event has happened by the words of a generator, and left the rest of them: it is answered as `IsAnswered` has it, each log has the items more that the event adds to it, and the machines
 -- that the guests booted, their limits, how many frames and slots there are, and what the store is said to be, are as before; only a turn
 -- of the policy changes who is blocked; and where guests are admitted by their minimums each page that it needs found room. The world is
 -- sound after it.
-pub record Happens {Kept : Type 0} (trusted : Kept → Type 0) (failures : Kept → ℕ) (honest : Kept → Type 0) (slots : Kept → ℕ) (held : Kept → ℕ → Option (List ℕ)) (tax : ℕ) (words : Stream) (w : WorldIs Kept) (e : Event) (a : Answer) (rest : Stream) (w' : WorldIs Kept) : Type 0 where
-  pub answered : IsAnswered trusted failures honest tax w w' e a
-  pub by_words : GoesByWords trusted slots tax words w e a rest w'
+pub record Happens {Kept : Type 0} (facts : StoreFacts Kept) (tax : ℕ) (words : Stream) (w : WorldIs Kept) (e : Event) (a : Answer) (rest : Stream) (w' : WorldIs Kept) : Type 0 where
+  pub answered : IsAnswered facts tax w w' e a
+  pub by_words : GoesByWords facts tax words w e a rest w'
   pub logs : (h : ℕ) → log_at w'.tenants h ≡ log_at w.tenants h ++ own_items h e a
   pub boots : map boot_of w'.tenants ≡ map boot_of w.tenants
   pub limits : LimitsStay w.tenants w'.tenants
   pub blocked : NotTurned a → BlockedStay w.tenants w'.tenants
   pub frames : w'.frames ≡ w.frames
-  pub store : StoreStays slots honest trusted w.store w'.store
-  pub room : IsAdmitted w.frames (slots w.store) w.tenants → FindsRoom (FailsOnce failures w w') a
-  pub sound : IsSoundWorld trusted slots held w'
+  pub store : StoreStays facts w.store w'.store
+  pub room : IsAdmitted w.frames (facts.slots w.store) w.tenants → FindsRoom (FailsOnce facts w w') a
+  pub sound : IsSoundWorld facts w'
 
 -- events have happened one after another, each in the world that the one before it left, and by the words that it left
-abbrev pub AllHappen : {Kept : Type 0} → (trusted : Kept → Type 0) → (failures : Kept → ℕ) → (honest : Kept → Type 0) → (slots : Kept → ℕ) → (held : Kept → ℕ → Option (List ℕ)) → (tax : ℕ) → Stream → WorldIs Kept → List Event → List Answer → Stream → WorldIs Kept → Type 0
-AllHappen trusted failures honest slots held tax words w [] [] rest w' = (rest ≡ words) × (w' ≡ w)
-AllHappen trusted failures honest slots held tax words w [] (a ∷ answers) rest w' = ⊥
-AllHappen trusted failures honest slots held tax words w (e ∷ events) [] rest w' = ⊥
-AllHappen {Kept} trusted failures honest slots held tax words w (e ∷ events) (a ∷ answers) rest w' =
-    (left : Stream) × (mid : WorldIs Kept) × Happens trusted failures honest slots held tax words w e a left mid × AllHappen trusted failures honest slots held tax left mid events answers rest w'
+abbrev pub AllHappen : {Kept : Type 0} → StoreFacts Kept → (tax : ℕ) → Stream → WorldIs Kept → List Event → List Answer → Stream → WorldIs Kept → Type 0
+AllHappen facts tax words w [] [] rest w' = (rest ≡ words) × (w' ≡ w)
+AllHappen facts tax words w [] (a ∷ answers) rest w' = ⊥
+AllHappen facts tax words w (e ∷ events) [] rest w' = ⊥
+AllHappen {Kept} facts tax words w (e ∷ events) (a ∷ answers) rest w' =
+    (left : Stream) × (mid : WorldIs Kept) × Happens facts tax words w e a left mid × AllHappen facts tax left mid events answers rest w'

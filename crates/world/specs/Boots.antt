@@ -1,15 +1,10 @@
 -- Which worlds can be booted, and what they are then.
 use Rattle.std.specs.Prelude.{◌≡◌, ℕ, ◌+◌, ◌-◌, ◌<◌, ◌≤◌, true, List, [], All, length, sum_by, slice_index_or}
-use Rattle.frames.specs.Counts.{count_of}
-use Rattle.frames.specs.FreeList.{FreeList}
-use Rattle.elf32.specs.Images.{FitsPages}
-use Rattle.physmap.specs.declared.page.PageKind.TheVariants.{Private, Swapped}
-use Rattle.physmap.specs.Pages.{page_at, kind_at, slot_of}
+use Rattle.world.specs.Below.{BootError, FitsPages, FreeList, IsBooted, Private, TenantIs, count_of, kind_at, page_at, pages_in, slot_of}
+use Rattle.physmap.specs.declared.page.PageKind.TheVariants.{Swapped}
 use Rattle.world.specs.declared.boot.Config.{Config}
 use Rattle.world.specs.declared.boot.NewGuest.{NewGuest}
-use Rattle.tenant.specs.declared.loading.BootError.{BootError}
 use Rattle.tenant.specs.declared.loading.BootError.TheVariants.{Limits, Segment, AdmitFrames, AdmitSlots, Room, Store, Memory}
-use Rattle.tenant.specs.Tenants.{TenantIs, pages_in, IsBooted}
 
 -- the numbers of a guest are within their limits
 pub record IsWithinLimits (guest : NewGuest) : Type 0 where

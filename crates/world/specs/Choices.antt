@@ -1,26 +1,11 @@
 -- Which pages leave their frames so that others get one, one after another, and by which words of the generator.
 use Rattle.std.specs.Prelude.{◌≡◌, ℕ, true, false, ◌%◌, ◌<◌, ◌≤◌, ◌⊎◌, ◌↔◌, ◌++◌, Option, Some, None, List, [], ◌∷◌, length, map, slice_index_or}
-use Rattle.rand_core.specs.Stream.{Stream, next_u32}
-use Rattle.frames.specs.FreeList.{FreeList}
-use Rattle.sharetab.specs.Entries.{EntriesAre}
-use Rattle.mips_step.specs.declared.access.Why.{Why}
-use Rattle.flatvm.specs.Replies.{SomePlaceIn}
-use Rattle.physmap.specs.declared.page.PageKind.TheVariants.{Private}
-use Rattle.physmap.specs.Outline.{outline}
-use Rattle.physmap.specs.Pages.{page_at, kind_at}
-use Rattle.paging.specs.Books.{Books}
-use Rattle.paging.specs.Moves.{SameNumbers}
-use Rattle.guest.specs.Guests.{view_of, standing}
-use Rattle.taxpolicy.specs.Victim.{victim_of}
-use Rattle.tenant.specs.Tenants.{TenantIs, pages_in, stat_of, Stays}
-use Rattle.victims.specs.Victims.{IsNextResident}
-use Rattle.victims.specs.declared.spared.Spared.{Spared}
+use Rattle.world.specs.Below.{Books, EntriesAre, FreeList, IsNextResident, Private, SameNumbers, SomePlaceIn, Spared, Stays, Stream, TenantIs, Why, is_wanted, kind_at, next_u32, outline, page_at, pages_in, standing, stat_of, victim_of, view_of}
 use Rattle.victims.specs.declared.wanted.Access.{Access}
 use Rattle.victims.specs.declared.wanted.Access.TheVariants as access
 use Rattle.world.specs.declared.running.End.{End}
 use Rattle.world.specs.declared.running.End.TheVariants as ending
 use Rattle.world.specs.declared.running.RunStop.TheVariants as halted
-use Rattle.victims.specs.Wanted.{is_wanted}
 use Rattle.world.specs.Events.{steps_for}
 use Rattle.world.specs.Evictions.{IsEvicted}
 use Rattle.world.specs.Steps.{NoneNeeds}
@@ -39,6 +24,11 @@ pub record Moment : Type 0 where
 -- the moment at which a world is, with the words that a generator gives from now on
 abbrev pub moment_of : {Store : Type 0} → Stream → WorldIs Store → Moment
 moment_of words w = record { words = words; tenants = w.tenants; pool = w.pool; slots = w.slots; entries = w.shares.entries }
+
+-- a relation leads from a moment to the next one, from that to the one after it, and so on
+abbrev pub Chain : (Moment → Moment → Type 0) → Moment → List Moment → Moment → Type 0
+Chain leads m [] m' = m' ≡ m
+Chain leads m (next ∷ more) m' = leads m next × Chain leads next more m'
 
 -- the guest of a number
 abbrev pub guest_in : Moment → ℕ → TenantIs → TenantIs
@@ -76,18 +66,12 @@ pub record IsRefusal (tax : ℕ) (m m' : Moment) : Type 0 where
 abbrev pub NoneLeaves : ℕ → Moment → Moment → Type 0
 NoneLeaves tax m m' = (m' ≡ m) ⊎ IsRefusal tax m m'
 
--- pages leave one after another, each from the moment that the one before it left
-abbrev pub AreEvictions : ℕ → ℕ → ℕ → Option Spared → Moment → List Moment → Moment → Type 0
-AreEvictions frames slots tax spared m [] m' = m' ≡ m
-AreEvictions frames slots tax spared m (next ∷ more) m' =
-    IsEviction frames slots tax spared m next × AreEvictions frames slots tax spared next more m'
-
 -- Room is made: pages of victims leave their frames one after another, none while a frame is free, and then none leaves any more.
 pub record MakesRoom (frames slots tax : ℕ) (spared : Option Spared) (m m' : Moment) : Type 0 where
   -- the moments after each of them
   pub moments : List Moment
   pub last : Moment
-  pub evictions : AreEvictions frames slots tax spared m moments last
+  pub evictions : Chain (IsEviction frames slots tax spared) m moments last
   pub end : NoneLeaves tax last m'
 
 -- ---- pages that get a frame
@@ -146,18 +130,13 @@ pub record IsForStep (frames slots : ℕ) (trusted : Type 0) (tax g : ℕ) (m m'
   pub none : AreSteps frames slots trusted g 0 m between
   pub met : IsMet frames slots trusted tax g between m'
 
--- that once and again, each from the moment that the one before it left
-abbrev pub AreForStep : ℕ → ℕ → Type 0 → ℕ → ℕ → Moment → List Moment → Moment → Type 0
-AreForStep frames slots trusted tax g m [] m' = m' ≡ m
-AreForStep frames slots trusted tax g m (next ∷ more) m' = IsForStep frames slots trusted tax g m next × AreForStep frames slots trusted tax g next more m'
-
 -- pages are supplied for the next step of a guest, at most 64 of them, and then it makes so many steps, at least one
 pub record MakesSteps (frames slots : ℕ) (trusted : Type 0) (tax g count : ℕ) (m m' : Moment) : Type 0 where
   -- the moments after each of the pages
   pub moments : List Moment
   pub few : length moments ≤ 64
   pub last : Moment
-  pub supplied : AreForStep frames slots trusted tax g m moments last
+  pub supplied : Chain (IsForStep frames slots trusted tax g) m moments last
   pub some : 0 < count
   pub steps : AreSteps frames slots trusted g count last m'
 
@@ -179,14 +158,12 @@ pub record MakesNone (frames slots : ℕ) (trusted : Type 0) (tax g : ℕ) (end 
   pub moments : List Moment
   pub few : length moments ≤ 64
   pub last : Moment
-  pub supplied : AreForStep frames slots trusted tax g m moments last
+  pub supplied : Chain (IsForStep frames slots trusted tax g) m moments last
   pub stops : StopsBy frames slots trusted tax g end last m'
 
--- steps for which pages are supplied, and more of them
-abbrev pub AllMakeSteps : ℕ → ℕ → Type 0 → ℕ → ℕ → Moment → List Moment → Moment → Type 0
-AllMakeSteps frames slots trusted tax g m [] m' = m' ≡ m
-AllMakeSteps frames slots trusted tax g m (next ∷ more) m' =
-    (count : ℕ) × MakesSteps frames slots trusted tax g count m next × AllMakeSteps frames slots trusted tax g next more m'
+-- some number of steps, for which pages are supplied
+abbrev pub MakesSome : ℕ → ℕ → Type 0 → ℕ → ℕ → Moment → Moment → Type 0
+MakesSome frames slots trusted tax g m m' = (count : ℕ) × MakesSteps frames slots trusted tax g count m m'
 
 -- after the last steps nothing happens where all were made, and else no more are made
 abbrev pub EndsBy : ℕ → ℕ → Type 0 → ℕ → ℕ → End → Moment → Moment → Type 0
@@ -197,7 +174,7 @@ EndsBy frames slots trusted tax g end m m' = MakesNone frames slots trusted tax 
 pub record IsRun (frames slots : ℕ) (trusted : Type 0) (tax g : ℕ) (end : End) (m m' : Moment) : Type 0 where
   pub moments : List Moment
   pub last : Moment
-  pub steps : AllMakeSteps frames slots trusted tax g m moments last
+  pub steps : Chain (MakesSome frames slots trusted tax g) m moments last
   pub ends : EndsBy frames slots trusted tax g end last m'
 
 -- ---- what a debugger reaches

@@ -1,16 +1,10 @@
 -- What a debugger reads and writes of the guests, and the pages that this moves.
 use Rattle.std.specs.Prelude.{◌≡◌, ℕ, true, false, Result, Ok, Err, List, []}
-use Rattle.items.specs.declared.item.Item.{Item}
-use Rattle.items.specs.declared.item.What.TheVariants.{Write}
-use Rattle.physmap.specs.declared.page.Page.{Page}
-use Rattle.physmap.specs.declared.page.PageKind.TheVariants.{Private}
-use Rattle.physmap.specs.Pages.{kind_of}
+use Rattle.world.specs.Below.{Item, NothingHappens, Page, Private, TenantIs, Write, is_wanted, kind_of}
 use Rattle.victims.specs.declared.wanted.Access.{Access}
-use Rattle.victims.specs.Wanted.{is_wanted}
 use Rattle.world.specs.declared.debugging.DebugError.{DebugError}
 use Rattle.world.specs.declared.debugging.DebugError.TheVariants as debug
 use Rattle.world.specs.declared.running.RunStop.{RunStop}
-use Rattle.tenant.specs.Tenants.{TenantIs, NothingHappens}
 use Rattle.world.specs.Victims.{OnlyPagesMove}
 use Rattle.world.specs.Worlds.{Changes, item_for}
 

@@ -1,21 +1,10 @@
 -- The items that events add to the logs of guests.
 use Rattle.std.specs.Prelude.{◌≡◌, ℕ, ◌<◌, ◌≤◌, length, ◌==◌, if◌then◌else◌, false, Result, Ok, Err, List, [], ◌∷◌, ◌++◌, replicate, map, take, Contains, slice_index_or, ◌≢◌}
-use Rattle.frames.specs.FreeList.{FreeList}
-use Rattle.items.specs.declared.item.Item.{Item}
-use Rattle.items.specs.declared.item.What.TheVariants.{In}
-use Rattle.items.specs.Entries.{step_by}
-use Rattle.items.specs.Items.{is_step}
+use Rattle.world.specs.Below.{FreeList, In, Item, Private, Refused, Reply, Stat, StepOut, TenantIs, accesses, is_step, kind_at, pages_in, stat_of, step_by, view_of}
 use Rattle.guest_log.specs.declared.stop.Stop.{Stop}
 use Rattle.guest_log.specs.declared.stop.Stop.TheVariants as halt
-use Rattle.flatvm.specs.declared.reply.Reply.{Reply}
-use Rattle.mips_step.specs.declared.access.StepOut.{StepOut}
 use Rattle.mips_step.specs.declared.access.StepOut.TheVariants as out
-use Rattle.mips_step.specs.Accesses.{Access, accesses}
-use Rattle.physmap.specs.declared.page.PageKind.TheVariants.{Private}
-use Rattle.physmap.specs.Pages.{kind_at}
-use Rattle.guest.specs.Guests.{view_of}
-use Rattle.guest.specs.declared.refused.Refused.{Refused}
-use Rattle.taxpolicy.specs.declared.stat.Stat.{Stat}
+use Rattle.mips_step.specs.Accesses.{Access}
 use Rattle.world.specs.declared.events.Event.{Event}
 use Rattle.world.specs.declared.events.Event.TheVariants as event
 use Rattle.world.specs.declared.events.Answer.{Answer}
@@ -29,10 +18,10 @@ use Rattle.world.specs.declared.running.RunStop.TheVariants as stop
 use Rattle.world.specs.declared.turns.Turn.{Turn}
 use Rattle.world.specs.Turns.{aim_items}
 use Rattle.tenant.specs.declared.turning.Aim.TheVariants as aim
+use Rattle.world.specs.Damage.{FindsDamage}
 use Rattle.world.specs.Debugging.{written_items}
-use Rattle.tenant.specs.Tenants.{TenantIs, pages_in, stat_of}
 use Rattle.world.specs.Victims.{WhyLacking}
-use Rattle.world.specs.Worlds.{item_for, FailsOnce, WorldIs}
+use Rattle.world.specs.Worlds.{StoreFacts, item_for, FailsOnce, WorldIs}
 
 -- an item that is to happen is no step, and a debugger reads and writes 1 to 1,024 bytes
 abbrev pub IsProper : Event → Type 0
@@ -158,6 +147,6 @@ WhyStopped pool slots stats failed damaged _ = Unit {0}
 
 -- why many steps, or a debugger's access, for which pages are supplied one after another stopped: the last of them has no frame for a
 -- reason that `WhyStopped` has
-abbrev pub WhyHalted : {Kept : Type 0} → (Kept → ℕ) → (Kept → Type 0) → WorldIs Kept → WorldIs Kept → RunStop → Type 0
-WhyHalted failures honest w w' =
-    WhyStopped w'.pool w'.slots (map stat_of w'.tenants) (FailsOnce failures w w') (honest w.store → ⊥)
+abbrev pub WhyHalted : {Kept : Type 0} → StoreFacts Kept → ℕ → (ℕ → Type 0) → WorldIs Kept → WorldIs Kept → RunStop → Type 0
+WhyHalted facts g IsFor w w' =
+    WhyStopped w'.pool w'.slots (map stat_of w'.tenants) (FailsOnce facts w w') (FindsDamage facts g IsFor w w')

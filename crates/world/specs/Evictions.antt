@@ -1,10 +1,7 @@
 -- What becomes of a page that is to leave its frame.
 use Rattle.std.specs.Prelude.{◌≡◌, ℕ, ◌≤◌, ◌<◌, true, false, List, All, length, slice_set}
-use Rattle.sha2.specs.Sha256.{sha256}
-use Rattle.frames.specs.FreeList.{FreeList}
-use Rattle.physmap.specs.declared.page.Page.{Page}
+use Rattle.world.specs.Below.{FreeList, Page, is_resident, kind_at, page_at, sha256, shown, slot_of}
 use Rattle.physmap.specs.declared.page.Page.TheVariants.{Swapped}
-use Rattle.physmap.specs.Pages.{page_at, kind_at, is_resident, shown, slot_of}
 use Rattle.world.specs.declared.world.Evicted.{Evicted}
 use Rattle.world.specs.declared.world.Evicted.TheVariants.{Done, Skipped}
 

@@ -1,7 +1,10 @@
 pub mod Admission
+pub mod All
 pub mod Answers
+pub mod Below
 pub mod Boots
 pub mod Choices
+pub mod Damage
 pub mod Debugging
 pub mod Events
 pub mod Evictions

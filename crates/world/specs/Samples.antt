@@ -1,9 +1,7 @@
 -- What a sample of the pages of all guests does.
 use Rattle.std.specs.Prelude.{◌≡◌, ℕ, ◌*◌, ◌<◌, List, None, length, map, slice_index_or}
 use Rattle.std.proofs.Common.{lit≤}
-use Rattle.rand_core.specs.Stream.{Stream}
-use Rattle.taxpolicy.specs.Sample.{after_words}
-use Rattle.tenant.specs.Tenants.{TenantIs, IsSampled}
+use Rattle.world.specs.Below.{IsSampled, Stream, TenantIs, after_words}
 
 -- A period of each guest's sample has ended, and the next one has begun: guest after guest, each with the generator's next hundred words.
 pub record AreSampled (words : Stream) (old new : List TenantIs) : Type 0 where

@@ -1,14 +1,6 @@
 -- Steps of a guest for which no page is supplied.
 use Rattle.std.specs.Prelude.{◌≡◌, ℕ, zero, suc, ◌<◌, None, List}
-use Rattle.items.specs.Entries.{steps_of}
-use Rattle.mips_step.specs.Accesses.{accesses, first_lack}
-use Rattle.mips_step.specs.Given.{step_given}
-use Rattle.mips_step.specs.Step.{Machine}
-use Rattle.flatvm.specs.Items.{run}
-use Rattle.physmap.specs.declared.page.Page.{Page}
-use Rattle.physmap.specs.Outline.{outline}
-use Rattle.paged_bus.specs.Buses.{pages_settled}
-use Rattle.paged_bus.specs.Lacking.{lacks_in}
+use Rattle.world.specs.Below.{Machine, Page, accesses, first_lack, lacks_in, outline, pages_settled, run, step_given, steps_of}
 
 -- the pages after so many steps of a machine by seat 0, where each page that a step gave is given
 abbrev pub pages_after : ℕ → Machine → List Page → List Page

@@ -1,16 +1,6 @@
 -- What a turn of the policy does in a world (Waldspurger, OSDI 2002, section 6.3).
 use Rattle.std.specs.Prelude.{◌≡◌, ℕ, ◌+◌, ◌<◌, ◌≤◌, min, List, [], ◌∷◌, Option, Some, None, IfSome, length, map, slice_index_or}
-use Rattle.items.specs.declared.item.Item.{Item}
-use Rattle.physmap.specs.Holdings.{resident_pages}
-use Rattle.physmap.specs.Outline.{outline}
-use Rattle.reclaim.specs.Levels.{next_level_of}
-use Rattle.reclaim.specs.Plans.{actions_of}
-use Rattle.reclaim.specs.declared.turn.Action.{Action}
-use Rattle.tenant.specs.Lent.{WhyStays}
-use Rattle.tenant.specs.Tenants.{TenantIs, pages_in, stat_of}
-use Rattle.tenant.specs.Turns.{target_by_policy, IsAimed, StaysInTurn}
-use Rattle.tenant.specs.declared.moves.EvictError.{EvictError}
-use Rattle.tenant.specs.declared.turning.Aim.{Aim}
+use Rattle.world.specs.Below.{Action, Aim, EvictError, IsAimed, Item, StaysInTurn, TenantIs, WhyStays, actions_of, next_level_of, outline, pages_in, resident_pages, stat_of, target_by_policy}
 use Rattle.tenant.specs.declared.turning.Aim.TheVariants as aim
 use Rattle.world.specs.declared.turns.Turn.{Turn}
 use Rattle.world.specs.Victims.{OnlyPagesMove}

@@ -1,18 +1,11 @@
 -- Which page leaves its frame so that another gets one.
 use Rattle.std.specs.Prelude.{◌≡◌, ◌≢◌, ℕ, ◌%◌, ◌⊎◌, true, List, [], Option, Some, All, length, map, sum_by, slice_index_or}
-use Rattle.rand_core.specs.Stream.{Stream, next_u32}
-use Rattle.frames.specs.FreeList.{FreeList}
-use Rattle.physmap.specs.Pages.{page_at}
-use Rattle.physmap.specs.Holdings.{resident_pages}
-use Rattle.taxpolicy.specs.declared.stat.Stat.{Stat}
-use Rattle.taxpolicy.specs.Victim.{IsEligible, victim_of}
+use Rattle.world.specs.Below.{FreeList, IsEligible, IsNextResident, Spared, Stat, Stream, TenantIs, beside_pages, is_one_of, next_u32, page_at, pages_in, resident_pages, spared_of, stat_of, victim_of}
+use Rattle.world.specs.Damage.{FindsDamage}
 use Rattle.world.specs.Evictions.{IsEvicted}
-use Rattle.tenant.specs.Tenants.{TenantIs, pages_in, beside_pages, stat_of}
-use Rattle.victims.specs.Victims.{is_one_of, spared_of, IsNextResident}
-use Rattle.victims.specs.declared.spared.Spared.{Spared}
 use Rattle.world.specs.declared.faulting.FaultError.{FaultError}
 use Rattle.world.specs.declared.faulting.FaultError.TheVariants.{NoFrame, NoSwap, SwapRead, SwapDamaged, Memory}
-use Rattle.world.specs.Worlds.{FailsOnce, WorldIs, Changes, PagesMove}
+use Rattle.world.specs.Worlds.{StoreFacts, FailsOnce, WorldIs, Changes, PagesMove}
 
 -- The victim of the guests has lost a page: the first resident one at or after the generator's next word modulo its pages, but for
 -- those that are spared. No other page of any guest has moved.
@@ -44,8 +37,7 @@ abbrev pub all_resident : List TenantIs → ℕ
 all_resident tenants = sum_by (λ t. resident_pages (pages_in t)) tenants
 
 -- Why a page that is needed has no frame. No frame is free, and the store failed to write a page or nobody is eligible; or no slot is
--- free either; or the store failed to read the page; or what it read is not the page's, and the store isn't honest; or a request for
--- memory was refused.
+-- free either; or the store failed to read the page; or what it read is damaged; or a request for memory was refused.
 abbrev pub WhyLacking : FreeList → FreeList → List Stat → Type 0 → Type 0 → FaultError → Type 0
 WhyLacking pool slots stats failed damaged NoFrame = (pool.free ≡ []) × (failed ⊎ All (λ s. ¬ IsEligible s) stats)
 WhyLacking pool slots stats failed damaged NoSwap = (pool.free ≡ []) × (slots.free ≡ [])
@@ -53,7 +45,7 @@ WhyLacking pool slots stats failed damaged SwapRead = failed
 WhyLacking pool slots stats failed damaged SwapDamaged = damaged
 WhyLacking pool slots stats failed damaged Memory = Unit {0}
 
--- why a page that was needed has no frame, for a reason that `WhyLacking` has
-abbrev pub WhyUnsupplied : {Kept : Type 0} → (Kept → ℕ) → (Kept → Type 0) → WorldIs Kept → WorldIs Kept → FaultError → Type 0
-WhyUnsupplied failures honest w w' =
-    WhyLacking w'.pool w'.slots (map stat_of w'.tenants) (FailsOnce failures w w') (honest w.store → ⊥)
+-- why a page of a guest that was needed for this has no frame, for a reason that `WhyLacking` has
+abbrev pub WhyUnsupplied : {Kept : Type 0} → StoreFacts Kept → ℕ → (ℕ → Type 0) → WorldIs Kept → WorldIs Kept → FaultError → Type 0
+WhyUnsupplied facts g IsFor w w' =
+    WhyLacking w'.pool w'.slots (map stat_of w'.tenants) (FailsOnce facts w w') (FindsDamage facts g IsFor w w')

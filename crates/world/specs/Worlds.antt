@@ -1,19 +1,8 @@
 -- What is seen of a world, and what its guests have to do with what lies around them.
 use Rattle.std.specs.Prelude.{◌≡◌, ◌↔◌, ℕ, ◌==◌, if◌then◌else◌, List, [], ◌∷◌, Option, All, length, map, slice_set, slice_index_or}
-use Rattle.items.specs.declared.item.Item.{Item}
-use Rattle.frames.specs.FreeList.{FreeList}
-use Rattle.sharetab.specs.Entries.{EntriesAre}
-use Rattle.sharetab.specs.Shares.{SharesAre}
-use Rattle.mips_step.specs.Step.{Machine}
-use Rattle.reclaim.specs.declared.level.Level.{Level}
-use Rattle.paging.specs.Books.{Books}
-use Rattle.guest.specs.Guests.{view_of}
-use Rattle.physmap.specs.declared.page.Page.{Page}
-use Rattle.tenant.specs.Tenants.{TenantIs, pages_in, beside_pages, IsKept}
-use Rattle.swapstore.specs.Failures.{one_more}
-use Rattle.paged_bus.specs.Lacking.{lacks_in}
-use Rattle.mips_step.specs.Accesses.{accesses, first_lack}
-use Rattle.mips_step.specs.declared.access.Why.{Why}
+use Rattle.world.specs.Below.{Books, EntriesAre, FreeList, IsKept, Item, Level, Machine, Page, SharesAre, TenantIs, Why, accesses, beside_pages, first_lack, lacks_in, one_more, pages_in, view_of}
+-- what a store is said to be: whether it is honest and true to digests, what it holds and gives, its slots and its failures
+pub use Rattle.swapstore.specs.declared.store.SwapStore.{Ghosts as StoreFacts}
 
 pub record WorldIs (Store : Type 0) : Type 0 where
   -- the guests, that of number g at place g
@@ -44,14 +33,18 @@ abbrev pub needed_by : TenantIs → Option (ℕ × Why)
 needed_by t = first_lack (lacks_in (pages_in t)) (accesses (view_of t.guest))
 
 -- the count of a store's failures went up by one in an event
-abbrev pub FailsOnce : {Kept : Type 0} → (Kept → ℕ) → WorldIs Kept → WorldIs Kept → Type 0
-FailsOnce failures w w' = failures w'.store ≡ one_more (failures w.store)
+abbrev pub FailsOnce : {Kept : Type 0} → StoreFacts Kept → WorldIs Kept → WorldIs Kept → Type 0
+FailsOnce facts w w' = facts.failed w'.store ≡ one_more (facts.failed w.store)
 
 -- The books are exact: each frame is free, one page's, or an entry's whose count is how many pages name it, and each slot is free
 -- or one page's. And where the store is to be trusted, each guest is its run.
 pub record Sound (frames slots : ℕ) (trusted : Type 0) (held : ℕ → Option (List ℕ)) (tenants : List TenantIs) (pool book : FreeList) (entries : EntriesAre) : Type 0 where
   pub books : Books frames slots (map pages_in tenants) entries pool book
   pub kept : trusted → All (IsKept held) tenants
+
+-- so a world is, whose store is to be trusted where it is true to digests
+abbrev pub IsSoundWorld : {Kept : Type 0} → StoreFacts Kept → WorldIs Kept → Type 0
+IsSoundWorld facts w = Sound w.frames (facts.slots w.store) (facts.true_to_digests w.store) (facts.held w.store) w.tenants w.pool w.slots w.shares.entries
 
 -- one guest has become another, which has to do with it in some way, and no other guest has changed
 pub record Changes (how : TenantIs → TenantIs → Type 0) (g : ℕ) (tenants tenants' : List TenantIs) : Type 0 where
@@ -96,15 +89,15 @@ pub record OnlyBooksChange {Store : Type 0} (w w' : WorldIs Store) : Type 0 wher
   pub level : w'.level ≡ w.level
 
 -- a store has as many slots as before, and is honest and true to digests where it was
-pub record StoreStays {Store : Type 0} (slots_of : Store → ℕ) (is_honest is_true : Store → Type 0) (s s' : Store) : Type 0 where
-  pub slots : slots_of s' ≡ slots_of s
-  pub honest : is_honest s' ↔ is_honest s
-  pub true_to_digests : is_true s' ↔ is_true s
+pub record StoreStays {Kept : Type 0} (facts : StoreFacts Kept) (s s' : Kept) : Type 0 where
+  pub slots : facts.slots s' ≡ facts.slots s
+  pub honest : facts.honest s' ↔ facts.honest s
+  pub true_to_digests : facts.true_to_digests s' ↔ facts.true_to_digests s
 
 -- What no move of pages changes around the guests: where pages were last noted with which digests, how many frames there are, the level,
 -- and what is so of the store.
-pub record AroundStays {Store : Type 0} (slots_of : Store → ℕ) (is_honest is_true : Store → Type 0) (w w' : WorldIs Store) : Type 0 where
+pub record AroundStays {Kept : Type 0} (facts : StoreFacts Kept) (w w' : WorldIs Kept) : Type 0 where
   pub hints : w'.shares.hints ≡ w.shares.hints
   pub frames : w'.frames ≡ w.frames
   pub level : w'.level ≡ w.level
-  pub store : StoreStays slots_of is_honest is_true w.store w'.store
+  pub store : StoreStays facts w.store w'.store

@@ -14,23 +14,12 @@ use word32::Ppn;
 
 impl<S: SwapStore> World<S> {
     ghost use Rattle.std.specs.Prelude.{◌≡◌, ◌≢◌, ◌<◌, ◌≤◌, ◌++◌, ℕ, [], false, All, Some, None, IfOk, OnOk, OnErr, IsErrOf, Option, length, map, take};
-    ghost use Rattle.items.specs.declared.item.Item.{Item};
-    ghost use Rattle.items.specs.declared.item.What.{What};
-    ghost use Rattle.items.specs.Items.{is_step};
-    ghost use Rattle.guest_log.specs.Logs.{IsFull};
+    ghost use Rattle.world.specs.All.{AllHappen, AroundStays, BlockedStay, Changes, Event, GoesByWords, GuestsStay, Happens, IsAnswered, IsFeedAnswer, IsFull, IsProper, Item, LimitsStay, NotTurned, OnlyBooksChange, SameAround, Stays, StoreStays, TenantIs, What, accepts, boot_of, guest_at, input_of, inputs_for, is_step, item_for, items_fed, items_input, items_ran, items_stepped, items_turned, items_written, log_at, own, own_items, view_at};
     ghost use Rattle.guest_log.specs.declared.stop.Stop.{Stop};
-    ghost use Rattle.flatvm.specs.Items.{accepts};
-    ghost use Rattle.tenant.specs.Tenants.{TenantIs, Stays};
-    ghost use Rattle.world.specs.declared.events.Event.{Event};
-    ghost use Rattle.world.specs.Admission.{IsAdmitted, LimitsStay, BlockedStay, GuestsStay, NotTurned, FindsRoom};
-    ghost use Rattle.world.specs.Answers.{IsAnswered, IsFeedAnswer, IsSoundWorld, AllHappen};
-    ghost use Rattle.world.specs.Events.{IsProper, items_stepped, items_ran, items_input, input_of, inputs_for, items_fed, items_written, items_turned, own_items, own};
-    ghost use Rattle.world.specs.Words.{GoesByWords};
-    ghost use Rattle.world.specs.Worlds.{Changes, SameAround, OnlyBooksChange, StoreStays, AroundStays, boot_of, log_at, item_for, guest_at, view_at, FailsOnce};
 
     fn apply_step(&mut self, g: usize) -> Answer
         ensures logs { (h : ℕ) → log_at self.new.tenants h ≡ log_at self.old.tenants h ++ items_stepped h g result }
-        ensures answered { (tax : ℕ) → IsAnswered S.true_to_digests S.failed S.honest tax self.old self.new (Event.Step g) result }
+        ensures answered { (tax : ℕ) → IsAnswered S.SwapStore tax self.old self.new (Event.Step g) result }
         ensures guests { GuestsStay self.old.tenants self.new.tenants }
         ensures around { OnlyBooksChange self.old self.new }
     {
@@ -45,7 +34,7 @@ impl<S: SwapStore> World<S> {
 
     fn apply_steps(&mut self, g: usize, count: u32) -> Answer
         ensures logs { (h : ℕ) → log_at self.new.tenants h ≡ log_at self.old.tenants h ++ items_ran h g result }
-        ensures answered { (tax : ℕ) → IsAnswered S.true_to_digests S.failed S.honest tax self.old self.new (Event.Steps g count) result }
+        ensures answered { (tax : ℕ) → IsAnswered S.SwapStore tax self.old self.new (Event.Steps g count) result }
         ensures guests { GuestsStay self.old.tenants self.new.tenants }
         ensures around { OnlyBooksChange self.old self.new }
     {
@@ -67,10 +56,10 @@ impl<S: SwapStore> World<S> {
         rng: &mut R,
     ) -> Answer
         ensures logs { (h : ℕ) → log_at self.new.tenants h ≡ log_at self.old.tenants h ++ items_ran h g result }
-        ensures answered { IsAnswered S.true_to_digests S.failed S.honest tax.percent self.old self.new (Event.Run g count) result }
-        ensures by_words { GoesByWords S.true_to_digests S.slots tax.percent (R.stream rng.old) self.old (Event.Run g count) result (R.stream rng.new) self.new }
+        ensures answered { IsAnswered S.SwapStore tax.percent self.old self.new (Event.Run g count) result }
+        ensures by_words { GoesByWords S.SwapStore tax.percent (R.stream rng.old) self.old (Event.Run g count) result (R.stream rng.new) self.new }
         ensures guests { GuestsStay self.old.tenants self.new.tenants }
-        ensures around { AroundStays S.slots S.honest S.true_to_digests self.old self.new }
+        ensures around { AroundStays S.SwapStore self.old self.new }
     {
         if g >= self.count() {
             return Answer::Nowhere;
@@ -84,7 +73,7 @@ impl<S: SwapStore> World<S> {
     fn apply_input(&mut self, g: usize, item: Item) -> Answer
         requires { is_step item.what ≡ false }
         ensures logs { (h : ℕ) → log_at self.new.tenants h ≡ log_at self.old.tenants h ++ items_input h g item result }
-        ensures answered { (tax : ℕ) → IsAnswered S.true_to_digests S.failed S.honest tax self.old self.new (Event.Input g item) result }
+        ensures answered { (tax : ℕ) → IsAnswered S.SwapStore tax self.old self.new (Event.Input g item) result }
         ensures guests { GuestsStay self.old.tenants self.new.tenants }
         ensures around { SameAround self.old self.new }
     {
@@ -145,7 +134,7 @@ impl<S: SwapStore> World<S> {
 
     fn apply_feed(&mut self, g: usize, bytes: Vec<u8>) -> Answer
         ensures logs { (h : ℕ) → log_at self.new.tenants h ≡ log_at self.old.tenants h ++ items_fed h g bytes.items result }
-        ensures answered { (tax : ℕ) → IsAnswered S.true_to_digests S.failed S.honest tax self.old self.new (Event.Feed g bytes) result }
+        ensures answered { (tax : ℕ) → IsAnswered S.SwapStore tax self.old self.new (Event.Feed g bytes) result }
         ensures guests { GuestsStay self.old.tenants self.new.tenants }
         ensures around { SameAround self.old self.new }
     {
@@ -168,10 +157,10 @@ impl<S: SwapStore> World<S> {
         requires some { 0 < count }
         requires few { count ≤ 1024 }
         ensures logs { (h : ℕ) → log_at self.new.tenants h ≡ log_at self.old.tenants h ++ [] }
-        ensures answered { IsAnswered S.true_to_digests S.failed S.honest tax.percent self.old self.new (Event.Probe g address count) result }
-        ensures by_words { GoesByWords S.true_to_digests S.slots tax.percent (R.stream rng.old) self.old (Event.Probe g address count) result (R.stream rng.new) self.new }
+        ensures answered { IsAnswered S.SwapStore tax.percent self.old self.new (Event.Probe g address count) result }
+        ensures by_words { GoesByWords S.SwapStore tax.percent (R.stream rng.old) self.old (Event.Probe g address count) result (R.stream rng.new) self.new }
         ensures guests { GuestsStay self.old.tenants self.new.tenants }
-        ensures around { AroundStays S.slots S.honest S.true_to_digests self.old self.new }
+        ensures around { AroundStays S.SwapStore self.old self.new }
     {
         if g >= self.count() {
             return Answer::Nowhere;
@@ -197,10 +186,10 @@ impl<S: SwapStore> World<S> {
         requires some { 0 < length bytes.items }
         requires few { length bytes.items ≤ 1024 }
         ensures logs { (h : ℕ) → log_at self.new.tenants h ≡ log_at self.old.tenants h ++ items_written h g address bytes.items result }
-        ensures answered { IsAnswered S.true_to_digests S.failed S.honest tax.percent self.old self.new (Event.Write g address bytes) result }
-        ensures by_words { GoesByWords S.true_to_digests S.slots tax.percent (R.stream rng.old) self.old (Event.Write g address bytes) result (R.stream rng.new) self.new }
+        ensures answered { IsAnswered S.SwapStore tax.percent self.old self.new (Event.Write g address bytes) result }
+        ensures by_words { GoesByWords S.SwapStore tax.percent (R.stream rng.old) self.old (Event.Write g address bytes) result (R.stream rng.new) self.new }
         ensures guests { GuestsStay self.old.tenants self.new.tenants }
-        ensures around { AroundStays S.slots S.honest S.true_to_digests self.old self.new }
+        ensures around { AroundStays S.SwapStore self.old self.new }
     {
         if g < self.count() {
             Answer::Written(self.debug_write(alloc, g, address, bytes, tax, rng))
@@ -211,9 +200,9 @@ impl<S: SwapStore> World<S> {
 
     fn apply_supply(&mut self, alloc: Global, g: usize, p: Ppn) -> Answer
         ensures logs { (h : ℕ) → log_at self.new.tenants h ≡ log_at self.old.tenants h ++ [] }
-        ensures answered { (tax : ℕ) → IsAnswered S.true_to_digests S.failed S.honest tax self.old self.new (Event.Supply g p) result }
+        ensures answered { (tax : ℕ) → IsAnswered S.SwapStore tax self.old self.new (Event.Supply g p) result }
         ensures guests { GuestsStay self.old.tenants self.new.tenants }
-        ensures around { AroundStays S.slots S.honest S.true_to_digests self.old self.new }
+        ensures around { AroundStays S.SwapStore self.old self.new }
     {
         if g >= self.count() {
             return Answer::Nowhere;
@@ -226,10 +215,10 @@ impl<S: SwapStore> World<S> {
 
     fn apply_fault<R: Rng>(&mut self, alloc: Global, g: usize, tax: Tax, rng: &mut R) -> Answer
         ensures logs { (h : ℕ) → log_at self.new.tenants h ≡ log_at self.old.tenants h ++ [] }
-        ensures answered { IsAnswered S.true_to_digests S.failed S.honest tax.percent self.old self.new (Event.Fault g) result }
-        ensures by_words { GoesByWords S.true_to_digests S.slots tax.percent (R.stream rng.old) self.old (Event.Fault g) result (R.stream rng.new) self.new }
+        ensures answered { IsAnswered S.SwapStore tax.percent self.old self.new (Event.Fault g) result }
+        ensures by_words { GoesByWords S.SwapStore tax.percent (R.stream rng.old) self.old (Event.Fault g) result (R.stream rng.new) self.new }
         ensures guests { GuestsStay self.old.tenants self.new.tenants }
-        ensures around { AroundStays S.slots S.honest S.true_to_digests self.old self.new }
+        ensures around { AroundStays S.SwapStore self.old self.new }
     {
         if g < self.count() {
             Answer::Faulted(self.fault(alloc, g, Cause::Fault, tax, rng))
@@ -240,9 +229,9 @@ impl<S: SwapStore> World<S> {
 
     fn apply_evict(&mut self, g: usize, p: Ppn) -> Answer
         ensures logs { (h : ℕ) → log_at self.new.tenants h ≡ log_at self.old.tenants h ++ [] }
-        ensures answered { (tax : ℕ) → IsAnswered S.true_to_digests S.failed S.honest tax self.old self.new (Event.Evict g p) result }
+        ensures answered { (tax : ℕ) → IsAnswered S.SwapStore tax self.old self.new (Event.Evict g p) result }
         ensures guests { GuestsStay self.old.tenants self.new.tenants }
-        ensures around { AroundStays S.slots S.honest S.true_to_digests self.old self.new }
+        ensures around { AroundStays S.SwapStore self.old self.new }
     {
         if g < self.count() {
             Answer::Evicted(self.evict(g, p))
@@ -253,7 +242,7 @@ impl<S: SwapStore> World<S> {
 
     fn apply_scan(&mut self, g: usize, p: Ppn) -> Answer
         ensures logs { (h : ℕ) → log_at self.new.tenants h ≡ log_at self.old.tenants h ++ [] }
-        ensures answered { (tax : ℕ) → IsAnswered S.true_to_digests S.failed S.honest tax self.old self.new (Event.Scan g p) result }
+        ensures answered { (tax : ℕ) → IsAnswered S.SwapStore tax self.old self.new (Event.Scan g p) result }
         ensures guests { GuestsStay self.old.tenants self.new.tenants }
         ensures store { self.new.store ≡ self.old.store }
         ensures frames { self.new.frames ≡ self.old.frames }
@@ -270,8 +259,8 @@ impl<S: SwapStore> World<S> {
 
     fn apply_sample<R: Rng>(&mut self, rng: &mut R) -> Answer
         ensures logs { (h : ℕ) → log_at self.new.tenants h ≡ log_at self.old.tenants h ++ [] }
-        ensures answered { (tax : ℕ) → IsAnswered S.true_to_digests S.failed S.honest tax self.old self.new Event.Sample result }
-        ensures by_words { (tax : ℕ) → GoesByWords S.true_to_digests S.slots tax (R.stream rng.old) self.old Event.Sample result (R.stream rng.new) self.new }
+        ensures answered { (tax : ℕ) → IsAnswered S.SwapStore tax self.old self.new Event.Sample result }
+        ensures by_words { (tax : ℕ) → GoesByWords S.SwapStore tax (R.stream rng.old) self.old Event.Sample result (R.stream rng.new) self.new }
         ensures guests { GuestsStay self.old.tenants self.new.tenants }
         ensures around { SameAround self.old self.new }
     {
@@ -281,12 +270,12 @@ impl<S: SwapStore> World<S> {
 
     fn apply_level<R: Rng>(&mut self, alloc: Global, tax: Tax, rng: &mut R) -> Answer
         ensures logs { (h : ℕ) → log_at self.new.tenants h ≡ log_at self.old.tenants h ++ items_turned h result }
-        ensures answered { IsAnswered S.true_to_digests S.failed S.honest tax.percent self.old self.new Event.Level result }
-        ensures by_words { GoesByWords S.true_to_digests S.slots tax.percent (R.stream rng.old) self.old Event.Level result (R.stream rng.new) self.new }
+        ensures answered { IsAnswered S.SwapStore tax.percent self.old self.new Event.Level result }
+        ensures by_words { GoesByWords S.SwapStore tax.percent (R.stream rng.old) self.old Event.Level result (R.stream rng.new) self.new }
         ensures boots { map boot_of self.new.tenants ≡ map boot_of self.old.tenants }
         ensures limits { LimitsStay self.old.tenants self.new.tenants }
         ensures frames { self.new.frames ≡ self.old.frames }
-        ensures store { StoreStays S.slots S.honest S.true_to_digests self.old.store self.new.store }
+        ensures store { StoreStays S.SwapStore self.old.store self.new.store }
     {
         Answer::Turned(self.level_turn(alloc, tax, rng))
     }
@@ -295,13 +284,13 @@ impl<S: SwapStore> World<S> {
     fn apply_event<R: Rng>(&mut self, alloc: Global, event: Event, tax: Tax, rng: &mut R) -> Answer
         requires { IsProper event }
         ensures logs { (h : ℕ) → log_at self.new.tenants h ≡ log_at self.old.tenants h ++ own_items h event result }
-        ensures answered { IsAnswered S.true_to_digests S.failed S.honest tax.percent self.old self.new event result }
-        ensures by_words { GoesByWords S.true_to_digests S.slots tax.percent (R.stream rng.old) self.old event result (R.stream rng.new) self.new }
+        ensures answered { IsAnswered S.SwapStore tax.percent self.old self.new event result }
+        ensures by_words { GoesByWords S.SwapStore tax.percent (R.stream rng.old) self.old event result (R.stream rng.new) self.new }
         ensures boots { map boot_of self.new.tenants ≡ map boot_of self.old.tenants }
         ensures limits { LimitsStay self.old.tenants self.new.tenants }
         ensures blocked { NotTurned result → BlockedStay self.old.tenants self.new.tenants }
         ensures frames { self.new.frames ≡ self.old.frames }
-        ensures store { StoreStays S.slots S.honest S.true_to_digests self.old.store self.new.store }
+        ensures store { StoreStays S.SwapStore self.old.store self.new.store }
     {
         match event {
             Event::Step(g) => self.apply_step(g),
@@ -337,17 +326,7 @@ impl<S: SwapStore> World<S> {
     /// page's, unless a request for memory is refused, the store fails or a slot of it is damaged (`FindsRoom`).
     pub fn apply<R: Rng>(&mut self, alloc: Global, event: Event, tax: Tax, rng: &mut R) -> Answer
         requires { IsProper event }
-        ensures logs { (h : ℕ) → log_at self.new.tenants h ≡ log_at self.old.tenants h ++ own_items h event result }
-        ensures answered { IsAnswered S.true_to_digests S.failed S.honest tax.percent self.old self.new event result }
-        ensures by_words { GoesByWords S.true_to_digests S.slots tax.percent (R.stream rng.old) self.old event result (R.stream rng.new) self.new }
-        ensures boots { map boot_of self.new.tenants ≡ map boot_of self.old.tenants }
-        ensures limits { LimitsStay self.old.tenants self.new.tenants }
-        ensures blocked { NotTurned result → BlockedStay self.old.tenants self.new.tenants }
-        ensures room { IsAdmitted self.old.frames (S.slots self.old.store) self.old.tenants →
-            FindsRoom (FailsOnce S.failed self.old self.new) result }
-        ensures frames { self.new.frames ≡ self.old.frames }
-        ensures store { StoreStays S.slots S.honest S.true_to_digests self.old.store self.new.store }
-        ensures sound { IsSoundWorld S.true_to_digests S.slots S.held self.new }
+        ensures { Happens S.SwapStore tax.percent (R.stream rng.old) self.old event result (R.stream rng.new) self.new }
     {
         let answer = self.apply_event(alloc, event, tax, rng);
         self.is_sound();
@@ -370,7 +349,7 @@ impl<S: SwapStore> World<S> {
     ) -> Result<Vec<Answer>, AllocError>
         requires { All IsProper events.items }
         ensures logs { IfOk result (λ answers. (h : ℕ) → log_at self.new.tenants h ≡ log_at self.old.tenants h ++ own h events.items answers.items) }
-        ensures happen { IfOk result (λ answers. AllHappen S.true_to_digests S.failed S.honest S.slots S.held tax.percent (R.stream rng.old) self.old events.items answers.items
+        ensures happen { IfOk result (λ answers. AllHappen S.SwapStore tax.percent (R.stream rng.old) self.old events.items answers.items
             (R.stream rng.new) self.new) }
         ensures count { IfOk result (λ answers. length answers.items ≡ length events.items) }
         ensures unchanged { OnErr result (self.new ≡ self.old) }
@@ -378,7 +357,7 @@ impl<S: SwapStore> World<S> {
         ensures boots { map boot_of self.new.tenants ≡ map boot_of self.old.tenants }
         ensures limits { LimitsStay self.old.tenants self.new.tenants }
         ensures frames { self.new.frames ≡ self.old.frames }
-        ensures store { StoreStays S.slots S.honest S.true_to_digests self.old.store self.new.store }
+        ensures store { StoreStays S.SwapStore self.old.store self.new.store }
     {
         let mut answers = Vec::with_capacity(alloc, events.len())?;
         for event in events {

@@ -1,7 +1,6 @@
 //! What the books count.
-ghost use Rattle.std.specs.Prelude.{◌≡◌, ◌^◌, ◌<◌, sum_by, map};
-ghost use Rattle.physmap.specs.Holdings.{private_pages, shared_pages, swapped_pages};
-ghost use Rattle.tenant.specs.Tenants.{TenantIs, pages_in};
+ghost use Rattle.std.specs.Prelude.{◌≡◌, sum_by, map};
+ghost use Rattle.world.specs.Below.{TenantIs, pages_in, private_pages, shared_pages, swapped_pages};
 
 use crate::World;
 use swapstore::SwapStore;
@@ -27,46 +26,38 @@ pub struct BookCounts {
 }
 
 // How many pages of the guests are in frames of their own.
-fn private_in(tenants: &[Tenant]) -> u64
-    requires { sum_by private_pages (map pages_in tenants.now) < 2 ^ 64 }
+fn private_in(tenants: &[Tenant]) -> u128
     ensures { result ≡ sum_by private_pages (map pages_in tenants.now) }
 {
-    let mut pages: u64 = 0;
-    for tenant in tenants {
-        pages += u64::from(tenant.private());
-    }
-    pages
+    tenants
+        .iter()
+        .map(|tenant| u128::from(tenant.private()))
+        .sum()
 }
 
 // How many pages of the guests are in shared frames.
-fn shared_in(tenants: &[Tenant]) -> u64
-    requires { sum_by shared_pages (map pages_in tenants.now) < 2 ^ 64 }
+fn shared_in(tenants: &[Tenant]) -> u128
     ensures { result ≡ sum_by shared_pages (map pages_in tenants.now) }
 {
-    let mut pages: u64 = 0;
-    for tenant in tenants {
-        pages += u64::from(tenant.shared());
-    }
-    pages
+    tenants
+        .iter()
+        .map(|tenant| u128::from(tenant.shared()))
+        .sum()
 }
 
 // How many pages of the guests are in slots.
-fn swapped_in(tenants: &[Tenant]) -> u64
-    requires { sum_by swapped_pages (map pages_in tenants.now) < 2 ^ 64 }
+fn swapped_in(tenants: &[Tenant]) -> u128
     ensures { result ≡ sum_by swapped_pages (map pages_in tenants.now) }
 {
-    let mut pages: u64 = 0;
-    for tenant in tenants {
-        pages += u64::from(tenant.swapped());
-    }
-    pages
+    tenants
+        .iter()
+        .map(|tenant| u128::from(tenant.swapped()))
+        .sum()
 }
 
 impl<S: SwapStore> World<S> {
     ghost use Rattle.std.specs.Prelude.{◌≡◌, ◌+◌, ◌≤◌, length, sum_by, map};
-    ghost use Rattle.sharetab.specs.Entries.{entry_count, ticket_count};
-    ghost use Rattle.physmap.specs.Holdings.{private_pages, shared_pages, swapped_pages};
-    ghost use Rattle.tenant.specs.Tenants.{TenantIs, pages_in};
+    ghost use Rattle.world.specs.All.{TenantIs, entry_count, pages_in, private_pages, shared_pages, swapped_pages, ticket_count};
 
     /// What the books count: the free frames and the shared ones by pool and share table, and pages by the guests. They add up:
     /// the frames that are free, private and shared are all frames, as many tickets of shared frames are out as there are
@@ -90,10 +81,10 @@ impl<S: SwapStore> World<S> {
         BookCounts {
             frames: u64::from(self.frames),
             free: u64::from(self.pool.free()),
-            private: private_in(&self.tenants),
+            private: private_in(&self.tenants) as u64,
             shared: u64::from(self.shares.shared()),
-            references: shared_in(&self.tenants),
-            swapped: swapped_in(&self.tenants),
+            references: shared_in(&self.tenants) as u64,
+            swapped: swapped_in(&self.tenants) as u64,
             slots,
         }
     }

@@ -36,15 +36,7 @@ pub struct NewGuest {
 
 impl<S: SwapStore> World<S> {
     ghost use Rattle.std.specs.Prelude.{◌≡◌, ◌+◌, ◌<◌, true, All, IfOk, IfErr, None, [], length, sum_by};
-    ghost use Rattle.sharetab.specs.Maps.{at_page};
-    ghost use Rattle.sharetab.specs.declared.guest_page.GuestPage.{GuestPage};
-    ghost use Rattle.world.specs.Admission.{IsAdmitted};
-    ghost use Rattle.swapstore.specs.Failures.{one_more};
-    ghost use Rattle.world.specs.Worlds.{StoreStays, AroundStays};
-    ghost use Rattle.world.specs.Boots.{IsWithinLimits, AreWithinLimits, HoldsImage, AreAdmitted, AreBooted, FramesComeFirst, SlotsComeInOrder, WhyNotBooted};
-    ghost use Rattle.tenant.specs.Loading.{WhyNotLoaded};
-    ghost use Rattle.tenant.specs.declared.loading.BootError.{BootError};
-    ghost use Rattle.reclaim.specs.declared.level.Level.{Level};
+    ghost use Rattle.world.specs.All.{AreAdmitted, AreBooted, AreWithinLimits, AroundStays, BootError, FramesComeFirst, GuestPage, HoldsImage, IsAdmitted, IsWithinLimits, Level, SlotsComeInOrder, StoreStays, WhyNotBooted, WhyNotLoaded, at_page, one_more};
 
     // A world of no guest gets guests, in their order.
     fn with_guests(
@@ -58,13 +50,13 @@ impl<S: SwapStore> World<S> {
         requires hold { All HoldsImage guests.items }
         ensures booted { IfOk result (λ w. AreBooted log_runs guests.items w.tenants) }
         ensures shares { IfOk result (λ w. w.shares ≡ self.shares) }
-        ensures around { IfOk result (λ w. AroundStays S.slots S.honest S.true_to_digests self w) }
+        ensures around { IfOk result (λ w. AroundStays S.SwapStore self w) }
         ensures frames_first { IfOk result (λ w. FramesComeFirst w.pool w.tenants) }
         ensures slots_in_order { IfOk result (λ w. SlotsComeInOrder w.slots w.tenants) }
         ensures room { IfErr result (λ refused. refused.0 ≡ BootError.Room →
             length self.pool.free + length self.slots.free < sum_by (λ g. g.pages) guests.items) }
         ensures err { IfErr result (λ refused. WhyNotLoaded (S.failed refused.1 ≡ one_more (S.failed self.store)) refused.0) }
-        ensures back { IfErr result (λ refused. StoreStays S.slots S.honest S.true_to_digests self.store refused.1) }
+        ensures back { IfErr result (λ refused. StoreStays S.SwapStore self.store refused.1) }
     {
         let mut world = self;
         for guest in guests {
@@ -99,7 +91,7 @@ impl<S: SwapStore> World<S> {
         ensures hints { IfOk result (λ w. (page : GuestPage) → at_page w.shares.hints page ≡ None) }
         ensures frames { IfOk result (λ w. w.frames ≡ config.frames) }
         ensures level { IfOk result (λ w. w.level ≡ Level.High) }
-        ensures store { IfOk result (λ w. StoreStays S.slots S.honest S.true_to_digests store w.store) }
+        ensures store { IfOk result (λ w. StoreStays S.SwapStore store w.store) }
         ensures within { IfOk result (λ w. AreWithinLimits config (S.slots store) guests.items × All HoldsImage guests.items × AreAdmitted config (S.slots store) guests.items) }
         ensures admitted { IfOk result (λ w. config.admit ≡ true → IsAdmitted config.frames (S.slots store) w.tenants) }
         ensures frames_first { IfOk result (λ w. FramesComeFirst w.pool w.tenants) }
@@ -107,7 +99,7 @@ impl<S: SwapStore> World<S> {
         ensures err { IfErr result (λ refused. WhyNotBooted config (S.slots store) guests.items refused.0) }
         ensures failed { IfErr result (λ refused. refused.0 ≡ BootError.Store → S.failed refused.1 ≡ one_more (S.failed store)) }
         ensures admitted_find_room { IfErr result (λ refused. refused.0 ≡ BootError.Room → config.admit ≡ true → ⊥) }
-        ensures back { IfErr result (λ refused. StoreStays S.slots S.honest S.true_to_digests store refused.1) }
+        ensures back { IfErr result (λ refused. StoreStays S.SwapStore store refused.1) }
     {
         if let Some(error) = refusal(config, store.slot_count(), &guests) {
             return Err((error, store));

@@ -5,7 +5,7 @@ use swapstore::Damage;
 
 impl<S: Damage> World<S> {
     ghost use Rattle.std.specs.Prelude.{◌≡◌, ℕ, ◌<◌, ◌↔◌, List, OnOk, OnErr};
-    ghost use Rattle.swapstore.specs.Holding.{AreHeldByDigest, AllStay};
+    ghost use Rattle.world.specs.All.{AllStay, AreHeldByDigest};
     ghost use Rattle.swapstore.specs.Memories.{Inverts};
 
     /// Inverts all bits of a byte that lies in a slot of the store, and of no other. The books stay exact, and what was last written

@@ -24,22 +24,8 @@ pub enum DebugError {
 
 impl<S: SwapStore> World<S> {
     ghost use Rattle.std.specs.Prelude.{◌≡◌, ◌≢◌, ◌<◌, ◌≤◌, ◌⊎◌, ◌↔◌, ◌++◌, ℕ, true, false, Some, None, OnOk, OnErr, IfErr, IsErrOf, length};
-    ghost use Rattle.items.specs.declared.item.What.{What};
-    ghost use Rattle.guest_log.specs.Logs.{IsFull};
-    ghost use Rattle.flatvm.specs.Items.{accepts};
-    ghost use Rattle.flatvm.specs.Replies.{bytes_at, SomePlaceIn};
-    ghost use Rattle.physmap.specs.declared.page.PageKind.{PageKind};
-    ghost use Rattle.physmap.specs.Pages.{page_at, kind_at};
-    ghost use Rattle.victims.specs.Wanted.{is_wanted};
+    ghost use Rattle.world.specs.All.{AreReached, AroundStays, Changes, GuestsStay, IfStopped, IsForRoom, IsFull, IsReached, IsReady, LieIn, NothingHappens, OnlyPagesAndRoom, OnlyPagesMove, PageKind, ReachesBytes, SameAround, SomePlaceIn, Stays, TenantIs, What, WhyHalted, WhyUnsupplied, WritesBytes, accepts, bytes_at, guest_at, is_wanted, kind_at, log_at, moment_of, page_at, pages_at, standing, view_at, written_items};
     ghost use Rattle.victims.specs.declared.wanted.Access.{Access};
-    ghost use Rattle.guest.specs.Guests.{standing};
-    ghost use Rattle.world.specs.Debugging.{IsReady, IfStopped, written_items, OnlyPagesAndRoom};
-    ghost use Rattle.world.specs.Events.{IsForRoom, WhyHalted};
-    ghost use Rattle.tenant.specs.Tenants.{TenantIs, Stays, NothingHappens};
-    ghost use Rattle.world.specs.Choices.{moment_of, IsReached, AreReached, ReachesBytes, WritesBytes};
-    ghost use Rattle.world.specs.Victims.{OnlyPagesMove, WhyUnsupplied};
-    ghost use Rattle.world.specs.Admission.{GuestsStay};
-    ghost use Rattle.world.specs.Worlds.{Changes, SameAround, AroundStays, log_at, guest_at, pages_at, view_at};
 
     // One of two pages that a debugger reaches gets a frame of its own, where it is wanted, and no eviction takes either of them.
     fn supply_one<R: Rng>(
@@ -63,9 +49,9 @@ impl<S: SwapStore> World<S> {
             page_at (pages_at self.new g t) q ≡ page_at (pages_at self.old g t) q }
         ensures chosen { IsReached self.old.frames (S.slots self.old.store) tax.percent access g reached.now p
             (moment_of (R.stream rng.old) self.old) (moment_of (R.stream rng.new) self.new) }
-        ensures err { IfErr result (WhyUnsupplied S.failed S.honest self.old self.new) }
+        ensures err { IfErr result (WhyUnsupplied S.SwapStore g (λ q. q ≡ p) self.old self.new) }
         ensures no_failure { OnOk result (S.failed self.new.store ≡ S.failed self.old.store) }
-        ensures around { AroundStays S.slots S.honest S.true_to_digests self.old self.new }
+        ensures around { AroundStays S.SwapStore self.old self.new }
     {
         if !is_wanted(access, self.guest(g).kind(p)) {
             return Ok(());
@@ -98,9 +84,9 @@ impl<S: SwapStore> World<S> {
             page_at (pages_at self.new g t) q ≡ page_at (pages_at self.old g t) q }
         ensures chosen { AreReached self.old.frames (S.slots self.old.store) tax.percent access g reached.now
             (moment_of (R.stream rng.old) self.old) (moment_of (R.stream rng.new) self.new) }
-        ensures err { IfErr result (WhyUnsupplied S.failed S.honest self.old self.new) }
+        ensures err { IfErr result (WhyUnsupplied S.SwapStore g (λ q. (q ≡ reached.now.0) ⊎ (q ≡ reached.now.1)) self.old self.new) }
         ensures no_failure { OnOk result (S.failed self.new.store ≡ S.failed self.old.store) }
-        ensures around { AroundStays S.slots S.honest S.true_to_digests self.old self.new }
+        ensures around { AroundStays S.SwapStore self.old self.new }
     {
         self.supply_one(alloc, g, reached.0, reached, access, tax, rng)?;
         self.supply_one(alloc, g, reached.1, reached, access, tax, rng)
@@ -135,9 +121,9 @@ impl<S: SwapStore> World<S> {
         ensures chosen { IsErrOf result DebugError.NoPlace ⊎ ReachesBytes self.old.frames (S.slots self.old.store) tax.percent access g address count
             (moment_of (R.stream rng.old) self.old) (moment_of (R.stream rng.new) self.new) }
         ensures undrawn { IsErrOf result DebugError.NoPlace → R.stream rng.new ≡ R.stream rng.old }
-        ensures stop { IfErr result (λ error. IfStopped error (WhyHalted S.failed S.honest self.old self.new)) }
+        ensures stop { IfErr result (λ error. IfStopped error (WhyHalted S.SwapStore g (LieIn self.old g address count) self.old self.new)) }
         ensures never_full { IsErrOf result (DebugError.Stop RunStop.LogFull) → ⊥ }
-        ensures around { AroundStays S.slots S.honest S.true_to_digests self.old self.new }
+        ensures around { AroundStays S.SwapStore self.old self.new }
     {
         self.is_sound();
         self.guest(g).guest().is_sized();
@@ -187,9 +173,9 @@ impl<S: SwapStore> World<S> {
         ensures chosen { IsErrOf result DebugError.NoPlace ⊎ ReachesBytes self.old.frames (S.slots self.old.store) tax.percent Access.Read g address (length bytes.old)
             (moment_of (R.stream rng.old) self.old) (moment_of (R.stream rng.new) self.new) }
         ensures undrawn { IsErrOf result DebugError.NoPlace → R.stream rng.new ≡ R.stream rng.old }
-        ensures stop { IfErr result (λ error. IfStopped error (WhyHalted S.failed S.honest self.old self.new)) }
+        ensures stop { IfErr result (λ error. IfStopped error (WhyHalted S.SwapStore g (LieIn self.old g address (length bytes.old)) self.old self.new)) }
         ensures never_full { IsErrOf result (DebugError.Stop RunStop.LogFull) → ⊥ }
-        ensures around { AroundStays S.slots S.honest S.true_to_digests self.old self.new }
+        ensures around { AroundStays S.SwapStore self.old self.new }
     {
         let count = bytes.len() as u32;
         self.reach(alloc, g, address, count, Access::Read, tax, rng)?;
@@ -232,10 +218,10 @@ impl<S: SwapStore> World<S> {
         ensures chosen { IsErrOf result DebugError.NoPlace ⊎ WritesBytes self.old.frames (S.slots self.old.store) tax.percent g address (length bytes.items)
             (moment_of (R.stream rng.old) self.old) (moment_of (R.stream rng.new) self.new) }
         ensures undrawn { IsErrOf result DebugError.NoPlace → R.stream rng.new ≡ R.stream rng.old }
-        ensures stop { IfErr result (λ error. IfStopped error (WhyHalted S.failed S.honest self.old self.new)) }
+        ensures stop { IfErr result (λ error. IfStopped error (WhyHalted S.SwapStore g (LieIn self.old g address (length bytes.items)) self.old self.new)) }
         ensures full { IsErrOf result (DebugError.Stop RunStop.LogFull) → (t : TenantIs) → IsFull (guest_at self.old g t).guest.log }
         ensures room { OnOk result ((t : TenantIs) → IsFull (guest_at self.old g t).guest.log → ⊥) }
-        ensures around { AroundStays S.slots S.honest S.true_to_digests self.old self.new }
+        ensures around { AroundStays S.SwapStore self.old self.new }
     {
         let count = bytes.len() as u32;
         match self.reach(alloc, g, address, count, Access::Write, tax, rng) {

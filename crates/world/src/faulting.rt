@@ -1,10 +1,6 @@
 //! Pages that guests need, and frames for them.
 ghost use Rattle.std.specs.Prelude.{◌≡◌, ◌%◌, ◌<◌, ℕ, IfOk, length, map};
-ghost use Rattle.rand_core.specs.Stream.{next_u32};
-ghost use Rattle.physmap.specs.Holdings.{resident_pages};
-ghost use Rattle.tenant.specs.Tenants.{TenantIs, pages_in};
-ghost use Rattle.victims.specs.Victims.{IsNextResident};
-ghost use Rattle.tenant.specs.Tenants.{stat_of};
+ghost use Rattle.world.specs.Below.{IsNextResident, TenantIs, next_u32, pages_in, resident_pages, stat_of};
 
 use crate::World;
 use paging::{Pages, SupplyError};
@@ -55,15 +51,7 @@ pub(crate) fn stats_of(alloc: Global, tenants: &[Tenant]) -> Result<Vec<Stat>, A
 
 impl<S: SwapStore> World<S> {
     ghost use Rattle.std.specs.Prelude.{◌≡◌, ◌+◌, ◌<◌, ℕ, [], Some, None, OnOk, IfErr, OnErr, length, map};
-    ghost use Rattle.mips_step.specs.declared.access.Why.{Why};
-    ghost use Rattle.physmap.specs.declared.page.PageKind.{PageKind};
-    ghost use Rattle.physmap.specs.Pages.{kind_at};
-    ghost use Rattle.tenant.specs.Tenants.{TenantIs, pages_in};
-    ghost use Rattle.world.specs.Admission.{IsAdmitted, IsNoRoom};
-    ghost use Rattle.world.specs.Choices.{moment_of, NoneLeaves, MakesRoom, IsSuppliedFor, IsFault, IsMet};
-    ghost use Rattle.world.specs.Victims.{IsPolicys, OnlyPagesMove, SparedStay, OtherSparedStay, WhyLacking, WhyUnsupplied, all_resident};
-    ghost use Rattle.tenant.specs.Tenants.{stat_of};
-    ghost use Rattle.world.specs.Worlds.{AroundStays, guest_at, pages_at, needed_by, FailsOnce};
+    ghost use Rattle.world.specs.All.{AroundStays, FailsOnce, IsAdmitted, IsFault, IsMet, IsNeeded, IsNoRoom, IsPolicys, IsSuppliedFor, MakesRoom, NoneLeaves, OnlyPagesMove, OtherSparedStay, PageKind, SparedStay, TenantIs, Why, WhyLacking, WhyUnsupplied, all_resident, guest_at, kind_at, moment_of, needed_by, pages_at, pages_in, stat_of};
 
     /// A page of the policy's victim leaves its frame for a slot: of the guests with more resident pages than their minimum the victim
     /// is the one of the least ratio of shares to pages, taxed for idle ones, and its page is the first resident one at or after the
@@ -85,9 +73,9 @@ impl<S: SwapStore> World<S> {
         ensures stays { OnErr result (NoneLeaves tax.percent (moment_of (R.stream rng.old) self.old) (moment_of (R.stream rng.new) self.new)) }
         ensures fewer { OnOk result (all_resident self.new.tenants + 1 ≡ all_resident self.old.tenants) }
         ensures err { IfErr result
-            (WhyLacking self.new.pool self.new.slots (map stat_of self.new.tenants) (FailsOnce S.failed self.old self.new) ⊥) }
+            (WhyLacking self.new.pool self.new.slots (map stat_of self.new.tenants) (FailsOnce S.SwapStore self.old self.new) ⊥) }
         ensures no_failure { OnOk result (S.failed self.new.store ≡ S.failed self.old.store) }
-        ensures around { AroundStays S.slots S.honest S.true_to_digests self.old self.new }
+        ensures around { AroundStays S.SwapStore self.old self.new }
     {
         self.evict_sparing(alloc, &None, Cause::Order, tax, rng)
     }
@@ -109,9 +97,9 @@ impl<S: SwapStore> World<S> {
         ensures spared { SparedStay spared.now self.old.tenants self.new.tenants }
         ensures fewer { OnOk result (all_resident self.new.tenants + 1 ≡ all_resident self.old.tenants) }
         ensures err { IfErr result
-            (WhyLacking self.new.pool self.new.slots (map stat_of self.new.tenants) (FailsOnce S.failed self.old self.new) ⊥) }
+            (WhyLacking self.new.pool self.new.slots (map stat_of self.new.tenants) (FailsOnce S.SwapStore self.old self.new) ⊥) }
         ensures no_failure { OnOk result (S.failed self.new.store ≡ S.failed self.old.store) }
-        ensures around { AroundStays S.slots S.honest S.true_to_digests self.old self.new }
+        ensures around { AroundStays S.SwapStore self.old self.new }
     {
         let Ok(stats) = stats_of(alloc, self.tenants()) else {
             return Err(FaultError::Memory);
@@ -142,9 +130,9 @@ impl<S: SwapStore> World<S> {
             (moment_of (R.stream rng.old) self.old) (moment_of (R.stream rng.new) self.new) }
         ensures room { OnOk result (0 < length self.new.pool.free) }
         ensures err { IfErr result
-            (WhyLacking self.new.pool self.new.slots (map stat_of self.new.tenants) (FailsOnce S.failed self.old self.new) ⊥) }
+            (WhyLacking self.new.pool self.new.slots (map stat_of self.new.tenants) (FailsOnce S.SwapStore self.old self.new) ⊥) }
         ensures no_failure { OnOk result (S.failed self.new.store ≡ S.failed self.old.store) }
-        ensures around { AroundStays S.slots S.honest S.true_to_digests self.old self.new }
+        ensures around { AroundStays S.SwapStore self.old self.new }
     {
         while self.free() == 0 {
             self.evict_sparing(alloc, spared, cause, tax, rng)?;
@@ -172,11 +160,12 @@ impl<S: SwapStore> World<S> {
         ensures chosen { IsSuppliedFor self.old.frames (S.slots self.old.store) tax.percent spared.now g p
             (moment_of (R.stream rng.old) self.old) (moment_of (R.stream rng.new) self.new) }
         ensures others { OtherSparedStay g p spared.now self.old.tenants self.new.tenants }
-        ensures err { IfErr result (WhyUnsupplied S.failed S.honest self.old self.new) }
+        ensures err { IfErr result (WhyUnsupplied S.SwapStore g (λ q. q ≡ p) self.old self.new) }
         ensures no_failure { OnOk result (S.failed self.new.store ≡ S.failed self.old.store) }
-        ensures around { AroundStays S.slots S.honest S.true_to_digests self.old self.new }
+        ensures around { AroundStays S.SwapStore self.old self.new }
     {
         self.make_room(alloc, spared, cause, tax, rng)?;
+        self.is_sound();
         let supplied = self.supply(alloc, g, p);
         self.is_sound();
         match supplied {
@@ -217,11 +206,11 @@ impl<S: SwapStore> World<S> {
         ensures nothing { S.true_to_digests self.old.store → (t : TenantIs) →
             needed_by (guest_at self.old g t) ≡ None →
             self.new ≡ self.old }
-        ensures err { IfErr result (WhyUnsupplied S.failed S.honest self.old self.new) }
+        ensures err { IfErr result (WhyUnsupplied S.SwapStore g (IsNeeded S.SwapStore self.old g) self.old self.new) }
         ensures no_failure { OnOk result (S.failed self.new.store ≡ S.failed self.old.store) }
         ensures room { IsAdmitted self.old.frames (S.slots self.old.store) self.old.tenants →
-            IfErr result (IsNoRoom (FailsOnce S.failed self.old self.new)) }
-        ensures around { AroundStays S.slots S.honest S.true_to_digests self.old self.new }
+            IfErr result (IsNoRoom (FailsOnce S.SwapStore self.old self.new)) }
+        ensures around { AroundStays S.SwapStore self.old self.new }
     {
         self.is_sound();
         let Some(needed) = self.guest(g).need() else {

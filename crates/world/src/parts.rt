@@ -28,7 +28,7 @@ pub struct Parts<S> {
 
 impl<S: SwapStore> World<S> {
     ghost use Rattle.std.specs.Prelude.{◌≡◌};
-    ghost use Rattle.world.specs.Worlds.{Sound};
+    ghost use Rattle.world.specs.All.{Sound};
     ghost use Rattle.world.specs.Parts.{of_parts};
 
     /// Takes the world apart. Of the parts is so what is of each world: the books are exact, and while the store is true to digests each

@@ -1,6 +1,6 @@
 //! How much memory is left over by the minimums of guests that are admitted by these.
 ghost use Rattle.std.specs.Prelude.{◌≡◌, ◌+◌, ◌-◌, ◌<◌, ◌⊎◌, IfSome, IfNone, length, sum_by};
-ghost use Rattle.tenant.specs.Tenants.{TenantIs, pages_in};
+ghost use Rattle.world.specs.Below.{TenantIs, pages_in};
 
 use crate::World;
 use swapstore::SwapStore;
@@ -33,8 +33,7 @@ fn left_over(tenants: &[Tenant], frames: u32, slots: u32) -> Option<(u32, u32)>
 
 impl<S: SwapStore> World<S> {
     ghost use Rattle.std.specs.Prelude.{◌≡◌, ◌+◌, ◌-◌, IfSome, IfNone, length, sum_by};
-    ghost use Rattle.tenant.specs.Tenants.{TenantIs, pages_in};
-    ghost use Rattle.world.specs.Admission.{IsAdmitted};
+    ghost use Rattle.world.specs.All.{IsAdmitted, TenantIs, pages_in};
 
     /// How many frames and how many slots are left over where the guests are admitted by their minimums: of the frames those beside the
     /// pages that they always keep and one more for each guest, of the slots those beside one for each of their other pages. None exactly

@@ -77,18 +77,8 @@ pub(crate) fn for_room(stop: Stop) -> RunStop
 
 impl<S: SwapStore> World<S> {
     ghost use Rattle.std.specs.Prelude.{◌≡◌, ◌≢◌, ◌<◌, ◌≤◌, ◌↔◌, ◌++◌, ℕ, Some, None, IsSome, IfOk, IfErr, OnOk, OnErr, IsErrOf, length, map};
-    ghost use Rattle.items.specs.Entries.{steps_of};
-    ghost use Rattle.flatvm.specs.Items.{run};
-    ghost use Rattle.guest_log.specs.Logs.{IsFull};
-    ghost use Rattle.mips_step.specs.declared.access.Why.{Why};
-    ghost use Rattle.rand_core.specs.Stream.{Stream};
-    ghost use Rattle.world.specs.Steps.{NoneNeeds};
-    ghost use Rattle.world.specs.Choices.{moment_of, AreSteps, MakesSteps, MakesNone, IsRun};
-    ghost use Rattle.world.specs.Events.{steps_for, IfStop, IsForRoom, IsSupplied, WhyHalted};
+    ghost use Rattle.world.specs.All.{AddsSteps, AreSteps, AroundStays, Changes, GuestsStay, IfStop, IsAccessed, IsForRoom, IsFull, IsRun, IsSupplied, MakesNone, MakesSteps, NoneNeeds, NothingHappens, OnlyBooksChange, SameAround, Stays, Stream, TenantIs, Why, WhyHalted, boot_of, guest_at, log_at, moment_of, needed_by, pages_at, run, steps_for, steps_of, view_at};
     ghost use Rattle.guest_log.specs.declared.stop.Stop.{Stop};
-    ghost use Rattle.tenant.specs.Tenants.{TenantIs, Stays, AddsSteps, NothingHappens};
-    ghost use Rattle.world.specs.Admission.{GuestsStay};
-    ghost use Rattle.world.specs.Worlds.{Changes, SameAround, OnlyBooksChange, AroundStays, boot_of, log_at, guest_at, pages_at, view_at, needed_by};
 
     // At most `count` steps of a guest, up to one that needs a page or gave one to the balloon (`stepping::run_in`).
     #[inline]
@@ -222,9 +212,9 @@ impl<S: SwapStore> World<S> {
             IsSupplied p (guest_at self.new g t) }
         ensures full { IsErrOf result (End.Stop RunStop.LogFull) → (t : TenantIs) → IsFull (guest_at self.new g t).guest.log }
         ensures room { IfErr result (λ end. end ≢ End.Stop RunStop.LogFull → (t : TenantIs) → IsFull (guest_at self.new g t).guest.log → ⊥) }
-        ensures stop { IfErr result (λ end. IfStop end (WhyHalted S.failed S.honest self.old self.new)) }
+        ensures stop { IfErr result (λ end. IfStop end (WhyHalted S.SwapStore g (IsAccessed S.SwapStore self.new g) self.old self.new)) }
         ensures no_failure { OnOk result (S.failed self.new.store ≡ S.failed self.old.store) }
-        ensures around { AroundStays S.slots S.honest S.true_to_digests self.old self.new }
+        ensures around { AroundStays S.SwapStore self.old self.new }
     {
         for _ in 0..SUPPLIES_IN_A_ROW {
             match self.some_steps(g, count) {
@@ -266,8 +256,8 @@ impl<S: SwapStore> World<S> {
         ensures full { result.end ≡ End.Stop RunStop.LogFull → (t : TenantIs) → IsFull (guest_at self.new g t).guest.log }
         ensures room { result.end ≢ End.Done → result.end ≢ End.Stop RunStop.LogFull → (t : TenantIs) →
             IsFull (guest_at self.new g t).guest.log → ⊥ }
-        ensures stop { IfStop result.end (WhyHalted S.failed S.honest self.old self.new) }
-        ensures around { AroundStays S.slots S.honest S.true_to_digests self.old self.new }
+        ensures stop { IfStop result.end (WhyHalted S.SwapStore g (IsAccessed S.SwapStore self.new g) self.old self.new) }
+        ensures around { AroundStays S.SwapStore self.old self.new }
     {
         let mut steps = 0;
         while steps < count {

@@ -1,6 +1,6 @@
 //! Samples of the guests' pages.
 ghost use Rattle.std.specs.Prelude.{◌≡◌, ◌*◌, length};
-ghost use Rattle.taxpolicy.specs.Sample.{after_words};
+ghost use Rattle.world.specs.Below.{after_words};
 ghost use Rattle.world.specs.Samples.{AreSampled};
 
 use crate::World;
@@ -20,9 +20,7 @@ fn sample_each<R: Rng>(tenants: &mut [Tenant], rng: &mut R)
 
 impl<S: SwapStore> World<S> {
     ghost use Rattle.std.specs.Prelude.{◌≡◌, ◌*◌, length};
-    ghost use Rattle.taxpolicy.specs.Sample.{after_words};
-    ghost use Rattle.world.specs.Samples.{AreSampled, OnlySamplesChange};
-    ghost use Rattle.world.specs.Worlds.{SameAround};
+    ghost use Rattle.world.specs.All.{AreSampled, OnlySamplesChange, SameAround, after_words};
 
     /// Ends a period of the sample of each guest's pages and begins the next, guest after guest in the order of their numbers
     /// (`Tenant::sample`): the draws are counted whose page was accessed since it was drawn, and a hundred pages are drawn anew. No guest

@@ -1,6 +1,6 @@
 //! Turns of the policy: the level of free memory, and what is asked of each guest for it.
 ghost use Rattle.std.specs.Prelude.{◌≡◌, count_by};
-ghost use Rattle.tenant.specs.Turns.{is_left_out};
+ghost use Rattle.world.specs.Below.{is_left_out};
 
 use crate::World;
 use crate::faulting::{drawn_page, stats_of};
@@ -33,15 +33,7 @@ impl Turn {
 
 impl<S: SwapStore> World<S> {
     ghost use Rattle.std.specs.Prelude.{◌≡◌, ◌<◌, ℕ, None, IfOk, IfErr, OnOk, OnErr, length, slice_index_or};
-    ghost use Rattle.rand_core.specs.Stream.{next_u32};
-    ghost use Rattle.physmap.specs.Holdings.{resident_pages};
-    ghost use Rattle.reclaim.specs.declared.turn.Action.{Action};
-    ghost use Rattle.tenant.specs.Lent.{WhyStays};
-    ghost use Rattle.tenant.specs.Tenants.{TenantIs};
-    ghost use Rattle.world.specs.Turns.{IsTurned, AreTurned, LosesPages, MayLose, AreFewer, AreCutShort, IsTurn};
-    ghost use Rattle.world.specs.Choices.{moment_of, IsSwapOut, IsStay, SwapOuts, SwapOutsEnd, TurnsBy};
-    ghost use Rattle.world.specs.Victims.{OnlyPagesMove};
-    ghost use Rattle.world.specs.Worlds.{Changes, SameAround, AroundStays, guest_at, pages_at, FailsOnce};
+    ghost use Rattle.world.specs.All.{Action, AreCutShort, AreFewer, AreTurned, AroundStays, Changes, FailsOnce, IsStay, IsSwapOut, IsTurn, IsTurned, LosesPages, MayLose, OnlyPagesMove, SameAround, SwapOuts, SwapOutsEnd, TenantIs, TurnsBy, WhyStays, guest_at, moment_of, next_u32, pages_at, resident_pages};
 
     // What a turn does to a guest beside swapping out.
     fn turn_guest(&mut self, g: usize, action: Action) -> Aim
@@ -73,12 +65,12 @@ impl<S: SwapStore> World<S> {
         requires more { (t : TenantIs) → (guest_at self.old g t).minimum < resident_pages (pages_at self.old g t) }
         ensures loses { OnOk result (Changes (LosesPages 1) g self.old.tenants self.new.tenants) }
         ensures unchanged { OnErr result (self.new.tenants ≡ self.old.tenants) }
-        ensures err { IfErr result (WhyStays self.new.slots (FailsOnce S.failed self.old self.new)) }
+        ensures err { IfErr result (WhyStays self.new.slots (FailsOnce S.SwapStore self.old self.new)) }
         ensures no_failure { OnOk result (S.failed self.new.store ≡ S.failed self.old.store) }
         ensures out { OnOk result (IsSwapOut self.old.frames (S.slots self.old.store) g (moment_of (R.stream rng.old) self.old) (moment_of (R.stream rng.new) self.new)) }
         ensures stays { OnErr result (IsStay (moment_of (R.stream rng.old) self.old) (moment_of (R.stream rng.new) self.new)) }
         ensures rest { R.stream rng.new ≡ (next_u32 (R.stream rng.old)).1 }
-        ensures around { AroundStays S.slots S.honest S.true_to_digests self.old self.new }
+        ensures around { AroundStays S.SwapStore self.old self.new }
     {
         let p = drawn_page(self.guest(g), &None, rng);
         let swapped = self.evict_of(g, p, Cause::Level);
@@ -99,9 +91,9 @@ impl<S: SwapStore> World<S> {
         ensures fewer { OnErr result ((lost : ℕ) × (lost < count) × Changes (LosesPages lost) g self.old.tenants self.new.tenants) }
         ensures outs { OnOk result (SwapOuts self.old.frames (S.slots self.old.store) g g (moment_of (R.stream rng.old) self.old) (moment_of (R.stream rng.new) self.new)) }
         ensures end { OnErr result (SwapOutsEnd self.old.frames (S.slots self.old.store) g g (moment_of (R.stream rng.old) self.old) (moment_of (R.stream rng.new) self.new)) }
-        ensures err { IfErr result (WhyStays self.new.slots (FailsOnce S.failed self.old self.new)) }
+        ensures err { IfErr result (WhyStays self.new.slots (FailsOnce S.SwapStore self.old self.new)) }
         ensures no_failure { OnOk result (S.failed self.new.store ≡ S.failed self.old.store) }
-        ensures around { AroundStays S.slots S.honest S.true_to_digests self.old self.new }
+        ensures around { AroundStays S.SwapStore self.old self.new }
     {
         for _ in 0..count {
             self.swap_out(g, rng)?;
@@ -119,8 +111,8 @@ impl<S: SwapStore> World<S> {
         ensures short { OnErr result (AreCutShort actions.now self.old.tenants self.new.tenants) }
         ensures outs { OnOk result (SwapOuts self.old.frames (S.slots self.old.store) 0 (length self.old.tenants) (moment_of (R.stream rng.old) self.old) (moment_of (R.stream rng.new) self.new)) }
         ensures end { OnErr result (SwapOutsEnd self.old.frames (S.slots self.old.store) 0 (length self.old.tenants) (moment_of (R.stream rng.old) self.old) (moment_of (R.stream rng.new) self.new)) }
-        ensures err { IfErr result (WhyStays self.new.slots (FailsOnce S.failed self.old self.new)) }
-        ensures around { AroundStays S.slots S.honest S.true_to_digests self.old self.new }
+        ensures err { IfErr result (WhyStays self.new.slots (FailsOnce S.SwapStore self.old self.new)) }
+        ensures around { AroundStays S.SwapStore self.old self.new }
     {
         for g in 0..actions.len() {
             self.swap_out_pages(g, actions[g].swap_out, rng)?;
@@ -149,11 +141,11 @@ impl<S: SwapStore> World<S> {
         tax: Tax,
         rng: &mut R,
     ) -> Result<Turn, AllocError>
-        ensures turn { IfOk result (λ turn. IsTurn tax.percent (FailsOnce S.failed self.old self.new) self.old turn self.new) }
+        ensures turn { IfOk result (λ turn. IsTurn tax.percent (FailsOnce S.SwapStore self.old self.new) self.old turn self.new) }
         ensures unchanged { OnErr result (self.new ≡ self.old) }
         ensures by_words { OnOk result (TurnsBy self.old.frames (S.slots self.old.store) (moment_of (R.stream rng.old) self.old) (moment_of (R.stream rng.new) self.new)) }
         ensures undrawn { OnErr result (R.stream rng.new ≡ R.stream rng.old) }
-        ensures around { AroundStays S.slots S.honest S.true_to_digests (record self.old { level = self.new.level }) self.new }
+        ensures around { AroundStays S.SwapStore (record self.old { level = self.new.level }) self.new }
     {
         let stats = stats_of(alloc, self.tenants())?;
         let plan = plan(alloc, self.level, &stats, self.free(), self.frames, tax)?;

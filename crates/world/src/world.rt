@@ -66,36 +66,8 @@ fn close_parts(mut tenants: Vec<Tenant>, pool: Pool, slots: SlotBook, shares: Sh
 
 impl<S: SwapStore> World<S> {
     ghost use Rattle.std.specs.Prelude.{◌≡◌, ◌≢◌, ◌+◌, ◌<◌, ◌≤◌, ◌^◌, ◌↔◌, ℕ, true, false, IsTrue, List, [], ◌∷◌, ◌++◌, Option, None, IfOk, IfErr, OnOk, OnErr, IfSome, IfNone, IsErrOf, length, replicate, slice_index_or};
-    ghost use Rattle.sha2.specs.Sha256.{sha256};
-    ghost use Rattle.items.specs.Items.{is_step};
-    ghost use Rattle.items.specs.Entries.{step_by};
-    ghost use Rattle.elf32.specs.Images.{FitsPages};
-    ghost use Rattle.guest_log.specs.Logs.{IsFull};
+    ghost use Rattle.world.specs.All.{Adds, AllFit, Answered, AroundStays, Became, BootError, Changes, Comes, FailsOnce, FitsPages, FramesFirst, GuestPage, HasDamage, HintsAfter, IsBooted, IsFull, IsSoundWorld, Level, NonePrivate, NothingHappens, OnlyBooksChange, PageKind, PagesMove, SameAround, SameNumbers, SlotsRise, Stays, StoreStays, TenantIs, WhyAway, WhyNotLoaded, WhyStays, WorldIs, WritesTo, accepts, at_page, count_of, guest_at, is_resident, is_step, kind_at, lacks_in, need_of, needed_by, one_more, page_at, pages_at, pages_in, replied, reply, sha256, shown, slots_held, standing, step_by, view_at};
     ghost use Rattle.mips_tlb.specs.declared.kind.Kind.TheVariants.{Store};
-    ghost use Rattle.mips_step.specs.Answer.{need_of};
-    ghost use Rattle.flatvm.specs.Answers.{replied};
-    ghost use Rattle.flatvm.specs.Items.{accepts, reply};
-    ghost use Rattle.sharetab.specs.Entries.{AllFit};
-    ghost use Rattle.sharetab.specs.Maps.{at_page};
-    ghost use Rattle.sharetab.specs.declared.guest_page.GuestPage.{GuestPage};
-    ghost use Rattle.physmap.specs.declared.page.PageKind.{PageKind};
-    ghost use Rattle.physmap.specs.Pages.{page_at, kind_at, is_resident, shown};
-    ghost use Rattle.paging.specs.Moves.{SameNumbers};
-    ghost use Rattle.paging.specs.Scans.{Answered, Comes, HintsAfter};
-    ghost use Rattle.paging.specs.Supplies.{WhyAway};
-    ghost use Rattle.paged_bus.specs.Lacking.{lacks_in};
-    ghost use Rattle.paged_bus.specs.Writes.{WritesTo};
-    ghost use Rattle.guest.specs.Guests.{standing};
-    ghost use Rattle.world.specs.Evictions.{Became};
-    ghost use Rattle.tenant.specs.Lent.{WhyStays};
-    ghost use Rattle.swapstore.specs.Failures.{one_more};
-    ghost use Rattle.tenant.specs.Loading.{FramesFirst, NonePrivate, SlotsRise, WhyNotLoaded};
-    ghost use Rattle.frames.specs.Counts.{count_of};
-    ghost use Rattle.physmap.specs.Holdings.{slots_held};
-    ghost use Rattle.tenant.specs.declared.loading.BootError.{BootError};
-    ghost use Rattle.tenant.specs.Tenants.{TenantIs, pages_in, IsBooted, Stays, Adds, NothingHappens};
-    ghost use Rattle.reclaim.specs.declared.level.Level.{Level};
-    ghost use Rattle.world.specs.Worlds.{WorldIs, Sound, Changes, PagesMove, SameAround, OnlyBooksChange, StoreStays, AroundStays, guest_at, pages_at, view_at, needed_by, FailsOnce};
 
     /// A world of no guest, with this many frames, all free, and the slots of a store, all free, at the level high. The store comes back where a
     /// request for memory was refused.
@@ -162,7 +134,7 @@ impl<S: SwapStore> World<S> {
         ensures slots_taken { IfOk result (λ w. (t : TenantIs) (k : ℕ) →
             count_of k w.slots.free + slots_held k (pages_in (slice_index_or w.tenants (length self.tenants) t)) ≡ count_of k self.slots.free) }
         ensures shares { IfOk result (λ w. w.shares ≡ self.shares) }
-        ensures around { IfOk result (λ w. AroundStays S.slots S.honest S.true_to_digests self w) }
+        ensures around { IfOk result (λ w. AroundStays S.SwapStore self w) }
         ensures no_frames { IfOk result (λ w. self.pool.free ≡ [] → w.pool.free ≡ []) }
         ensures none_private { IfOk result (λ w. (t : TenantIs) → self.pool.free ≡ [] →
             NonePrivate (pages_in (slice_index_or w.tenants (length self.tenants) t))) }
@@ -170,7 +142,7 @@ impl<S: SwapStore> World<S> {
         ensures no_failure { IfOk result (λ w. S.failed w.store ≡ S.failed self.store) }
         ensures room { IfErr result (λ refused. refused.0 ≡ BootError.Room → length self.pool.free + length self.slots.free < pages) }
         ensures err { IfErr result (λ refused. WhyNotLoaded (S.failed refused.1 ≡ one_more (S.failed self.store)) refused.0) }
-        ensures back { IfErr result (λ refused. StoreStays S.slots S.honest S.true_to_digests self.store refused.1) }
+        ensures back { IfErr result (λ refused. StoreStays S.SwapStore self.store refused.1) }
     {
         let World {
             mut tenants,
@@ -228,8 +200,7 @@ impl<S: SwapStore> World<S> {
     /// the store's slots each is free or one page's. And while the store is true to digests, each guest is its run. It does
     /// nothing: its clause says what every world keeps.
     pub fn is_sound(&self)
-        ensures { Sound self.now.frames (S.slots self.now.store) (S.true_to_digests self.now.store) (S.held self.now.store)
-            self.now.tenants self.now.pool self.now.slots self.now.shares.entries }
+        ensures { IsSoundWorld S.SwapStore self.now }
     {
         // A function knows what its type keeps once it uses a field.
         let _tenants = &self.tenants;
@@ -371,13 +342,14 @@ impl<S: SwapStore> World<S> {
         ensures private { OnOk result ((t : TenantIs) → kind_at (pages_at self.new g t) p ≡ PageKind.Private) }
         ensures others { (t : TenantIs) (other : ℕ) → (other ≡ p → ⊥) →
             page_at (pages_at self.new g t) other ≡ page_at (pages_at self.old g t) other }
-        ensures err { IfErr result (WhyAway self.old.pool (FailsOnce S.failed self.old self.new) (S.honest self.old.store → ⊥)) }
+        ensures err { IfErr result (WhyAway self.old.pool (FailsOnce S.SwapStore self.old self.new)
+            (HasDamage S.SwapStore self.old.store self.old.tenants g p)) }
         ensures no_failure { OnOk result (S.failed self.new.store ≡ S.failed self.old.store) }
         ensures unchanged { OnErr result (self.new.tenants ≡ self.old.tenants) }
         ensures pool_unchanged { OnErr result (SameNumbers self.old.pool self.new.pool) }
         ensures slots_unchanged { OnErr result (self.new.slots ≡ self.old.slots) }
         ensures shares_unchanged { OnErr result (self.new.shares ≡ self.old.shares) }
-        ensures around { AroundStays S.slots S.honest S.true_to_digests self.old self.new }
+        ensures around { AroundStays S.SwapStore self.old self.new }
     {
         supply_page(
             alloc,
@@ -398,13 +370,13 @@ impl<S: SwapStore> World<S> {
         ensures moves { Changes PagesMove g self.old.tenants self.new.tenants }
         ensures page { OnOk result ((t : TenantIs) →
             Became p Evicted.Done (pages_at self.old g t) (pages_at self.new g t) self.old.slots) }
-        ensures err { IfErr result (WhyStays self.old.slots (FailsOnce S.failed self.old self.new)) }
+        ensures err { IfErr result (WhyStays self.old.slots (FailsOnce S.SwapStore self.old self.new)) }
         ensures no_failure { OnOk result (S.failed self.new.store ≡ S.failed self.old.store) }
         ensures unchanged { OnErr result (self.new.tenants ≡ self.old.tenants) }
         ensures pool_unchanged { OnErr result (self.new.pool ≡ self.old.pool) }
         ensures slots_unchanged { OnErr result (SameNumbers self.old.slots self.new.slots) }
         ensures shares_unchanged { OnErr result (self.new.shares ≡ self.old.shares) }
-        ensures around { AroundStays S.slots S.honest S.true_to_digests self.old self.new }
+        ensures around { AroundStays S.SwapStore self.old self.new }
     {
         let tenant = &mut self.tenants[g];
         evict_page(
@@ -428,13 +400,13 @@ impl<S: SwapStore> World<S> {
         ensures moves { Changes PagesMove g self.old.tenants self.new.tenants }
         ensures page { IfOk result (λ evicted. (t : TenantIs) →
             Became p evicted (pages_at self.old g t) (pages_at self.new g t) self.old.slots) }
-        ensures err { IfErr result (WhyStays self.old.slots (FailsOnce S.failed self.old self.new)) }
+        ensures err { IfErr result (WhyStays self.old.slots (FailsOnce S.SwapStore self.old self.new)) }
         ensures no_failure { OnOk result (S.failed self.new.store ≡ S.failed self.old.store) }
         ensures unchanged { OnErr result (self.new.tenants ≡ self.old.tenants) }
         ensures pool_unchanged { OnErr result (self.new.pool ≡ self.old.pool) }
         ensures slots_unchanged { OnErr result (SameNumbers self.old.slots self.new.slots) }
         ensures shares_unchanged { OnErr result (self.new.shares ≡ self.old.shares) }
-        ensures around { AroundStays S.slots S.honest S.true_to_digests self.old self.new }
+        ensures around { AroundStays S.SwapStore self.old self.new }
     {
         let Some(kind) = self.kind(g, p) else {
             return Ok(Evicted::Skipped);

@@ -147,8 +147,16 @@ fn a_world_is_refused_where_it_has_no_room_or_its_store_fails(rt: HostRuntime) {
     expect(&rt, "no third write", answer, Ok(counted(4, 4, 2, 2)));
 }
 
+// Each of these is refused, as its numbers are outside their limits.
+fn expect_limits(rt: &impl Abort, alloc: Global, wrong: &[(&'static str, Numbers)]) {
+    for (case, numbers) in wrong {
+        let answer = booted(rt, alloc, numbers, 100);
+        expect(rt, case, answer, Err(BootError::Limits));
+    }
+}
+
 #[test]
-fn numbers_have_limits(rt: HostRuntime) {
+fn numbers_of_a_world_have_limits(rt: HostRuntime) {
     let wrong = [
         ("no guest", Numbers { guests: 0, ..LEAST }),
         (
@@ -187,6 +195,13 @@ fn numbers_have_limits(rt: HostRuntime) {
                 ..LEAST
             },
         ),
+    ];
+    expect_limits(&rt, rt.alloc(), &wrong);
+}
+
+#[test]
+fn numbers_of_a_guest_have_limits(rt: HostRuntime) {
+    let wrong = [
         ("1 page", Numbers { pages: 1, ..LEAST }),
         (
             "16,385 pages",
@@ -218,10 +233,7 @@ fn numbers_have_limits(rt: HostRuntime) {
             },
         ),
     ];
-    for (case, numbers) in &wrong {
-        let answer = booted(&rt, rt.alloc(), numbers, 100);
-        expect(&rt, case, answer, Err(BootError::Limits));
-    }
+    expect_limits(&rt, rt.alloc(), &wrong);
 }
 
 #[test]

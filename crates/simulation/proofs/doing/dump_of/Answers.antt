@@ -1,10 +1,9 @@
 use Rattle.std.proofs.Common.{◌≡◌, ◌∙◌, ℕ, IfOk, None, ap, get_or, string_bytes, subst}
 use Rattle.std.proofs.lemmas.List.Elements.{All-get_or}
 use Rattle.guest_log.specs.Logs.{LogIs}
-use Rattle.guest.specs.Guests.{GuestIs, view_of}
+use Rattle.world.specs.All.{GuestIs, IsKept, TenantIs, view_of}
 use Rattle.dump.specs.Dumps.{dump_text}
 use Rattle.dump.specs.Steps.{step_count}
-use Rattle.tenant.specs.Tenants.{TenantIs, IsKept}
 use Rattle.simulation.proofs.doing.dump_of.Goals as goal
 
 pub returns : goal.returns

@@ -4,33 +4,20 @@ use Rattle.simulation.specs.declared.said.Said.TheVariants as said
 use Rattle.simulation.specs.Transcripts.{IsTold}
 use Rattle.dump.specs.Dumps.{dump_text}
 use Rattle.dump.specs.Steps.{step_count}
-use Rattle.world.specs.Worlds.{guest_at, items_of, view_at}
+use Rattle.world.specs.All.{guest_at, items_of, view_at}
 use Rattle.simulation.proofs.Playing.{beside_store, damaged, told_dump}
 use Rattle.simulation.proofs.doing.perform.Goals as goal
 
 pub returns-in-World-clause-told : goal.returns-in-World-clause-told
 returns-in-World-clause-told g c =
-    let s = g.S.SwapStore in
-    let e = c.apply.ensures in
-    subst (λ (a : Act). IsTold s.true_to_digests s.failed s.honest s.slots s.held s.gives (g.R.Rng.stream c.args.rng.now) c.args.world.now a (said.Answered c.apply.result) (g.R.Rng.stream c.apply.new.rng) c.apply.new.self) (sym c.in-World.is) (record {
-      answered = e.answered;
-      by_words = e.by_words;
-      logs = e.logs;
-      boots = e.boots;
-      limits = e.limits;
-      blocked = e.blocked;
-      frames = e.frames;
-      store = e.store;
-      room = e.room;
-      sound = e.sound;
-    })
+    subst (λ (a : Act). IsTold g.S.SwapStore (g.R.Rng.stream c.args.rng.now) c.args.world.now a (said.Answered c.apply.result) (g.R.Rng.stream c.apply.new.rng) c.apply.new.self) (sym c.in-World.is) c.apply.ensures
 
 pub returns-in-Damage-clause-told : goal.returns-in-Damage-clause-told
 returns-in-Damage-clause-told g c =
     let s = g.S.SwapStore in
     let d = c.damage-done.ensures in
     let words = g.R.Rng.stream c.args.rng.now in
-    subst (λ (a : Act). IsTold s.true_to_digests s.failed s.honest s.slots s.held s.gives words c.args.world.now a (said.Damaged c.damage-done.result) words c.damage-done.new.self) (sym c.in-Damage.is) (
+    subst (λ (a : Act). IsTold s words c.args.world.now a (said.Damaged c.damage-done.result) words c.damage-done.new.self) (sym c.in-Damage.is) (
       damaged c.damage-done.result _ _ _
           (λ inverted dishonest told. record {
             inverted = inverted;
@@ -51,7 +38,7 @@ returns-in-Dump-clause-told g c =
     let s = g.S.SwapStore in
     let w = c.args.world.now in
     let words = g.R.Rng.stream c.args.rng.now in
-    subst (λ (a : Act). IsTold s.true_to_digests s.failed s.honest s.slots s.held s.gives words w a (said.Dumped c.dump_of.result) words w) (sym c.in-Dump.is) (
+    subst (λ (a : Act). IsTold s words w a (said.Dumped c.dump_of.result) words w) (sym c.in-Dump.is) (
       told_dump c.dump_of.result (s.true_to_digests w.store)
           (λ t text. string_bytes text ≡ dump_text (view_at w c.in-Dump.g t) (step_count (items_of (guest_at w c.in-Dump.g t))) None) c.dump_of.ensures,
       refl,

@@ -2,7 +2,7 @@ use Rattle.std.proofs.Common.{suc, ◌≡◌, ℕ, ◌++◌, ◌∷◌, [], All,
 use Rattle.std.proofs.lemmas.List.{length-map}
 use Rattle.std.specs.Vec.Iter.{into_iter_items}
 use Rattle.script.specs.declared.event.Event.{Event}
-use Rattle.world.specs.Worlds.{boot_of}
+use Rattle.world.specs.All.{boot_of}
 use Rattle.simulation.specs.declared.acts.Act.{Act}
 use Rattle.simulation.specs.declared.text.Heading.{Heading}
 use Rattle.simulation.specs.Acts.{IsFor, IsDoable, act_of}
@@ -28,8 +28,8 @@ loop-event-preserved g c =
     let world = c.perform-said.new.world in
     let left = g.R.Rng.stream at.rng in
     let words = g.R.Rng.stream c.perform-said.new.rng in
-    let one : IsDone s.true_to_digests s.failed s.honest s.slots s.held s.gives left at.world (act_of e) said words world =
-    subst (λ (a : Act). IsDone s.true_to_digests s.failed s.honest s.slots s.held s.gives left at.world a said words world) c.act_of-act.ensures
+    let one : IsDone s left at.world (act_of e) said words world =
+    subst (λ (a : Act). IsDone s left at.world a said words world) c.act_of-act.ensures
     (record { told = done.told; logs = done.logs; boots = done.boots; slots_stay = done.slots; trusted_before = done.trusted_before; trust = done.trust; sound = done.sound }) in
     let counts : length now ≡ length after = omega (arith, ap length done.boots, length-map now boot_of, length-map after boot_of) in
     let kept : All (IsFor (length after) (slots c.perform-said.new.world.store)) (e ∷ rest) =
@@ -39,7 +39,7 @@ loop-event-preserved g c =
       order = append_assoc at.yielded (e ∷ []) rest ∙ ap (λ (l : List Event). at.yielded ++ l) (sym steps) ∙ at.invariant.order;
       left = omega (arith, at.invariant.left, gone, ap length steps);
       each = λ k d h. kept (suc k) d (omega (arith, h));
-      played = played_more s.true_to_digests s.failed s.honest s.slots s.held s.gives (g.R.Rng.stream c.args.rng.now) left words c.args.world.now at.world world at.yielded e said (string_bytes at.text) (string_bytes c.push_said-written.new.out)
+      played = played_more s (g.R.Rng.stream c.args.rng.now) left words c.args.world.now at.world world at.yielded e said (string_bytes at.text) (string_bytes c.push_said-written.new.out)
           at.invariant.played one
           (c.in_ok-written.ensures ∙ ap (λ (h : Heading). string_bytes at.text ++ said_text h said) (c.heading_of-heading.ensures ∙ ap heading_of c.act_of-act.ensures));
     }

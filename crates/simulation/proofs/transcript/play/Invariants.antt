@@ -10,5 +10,5 @@ invariant-loop-event g l = record {
   order : l.yielded ++ into_iter_items l.event-iterator ≡ into_iter_items l.initial.event-iterator;
   left : into_iter_len l.event-iterator ≡ length (into_iter_items l.event-iterator);
   each : All (IsFor (length l.world.tenants) (g.S.SwapStore.slots l.world.store)) (into_iter_items l.event-iterator);
-  played : IsPlayed g.S.SwapStore.true_to_digests g.S.SwapStore.failed g.S.SwapStore.honest g.S.SwapStore.slots g.S.SwapStore.held g.S.SwapStore.gives (g.R.Rng.stream l.fn.rng) l.fn.world l.yielded (g.R.Rng.stream l.rng) l.world (string_bytes l.text);
+  played : IsPlayed g.S.SwapStore (g.R.Rng.stream l.fn.rng) l.fn.world l.yielded (g.R.Rng.stream l.rng) l.world (string_bytes l.text);
 }

@@ -1,7 +1,7 @@
 use Rattle.std.proofs.Common.{ℕ, ◌≡◌, All, length, sym, ap, subst, string_bytes, ◌∙◌}
 use Rattle.rand_core.specs.Pcg32Seed.{pcg32_seed}
 use Rattle.rand_core.specs.Steps.{stream_of, steps_u32}
-use Rattle.rand_core.specs.Stream.{Stream}
+use Rattle.world.specs.All.{Stream}
 use Rattle.rand_pcg.specs.Lcg.{Lcg}
 use Rattle.rand_pcg.specs.Pcg.{pcg32, pcg32_of_seed}
 use Rattle.simulation.specs.Acts.{IsFor}
@@ -16,8 +16,8 @@ returns-clause-transcript g c =
     let rest = stream_of (steps_u32 pcg32) c.play-text.new.rng in
     let words : stream_of (steps_u32 pcg32) c.seed_from_u64-rng.result ≡ words_of c.args.seed =
     ap (λ (x : Lcg). stream_of (steps_u32 pcg32) x) (c.seed_from_u64-rng.ensures ∙ ap (λ (n : ℕ). pcg32_of_seed (pcg32_seed 16 n)) c.from.ensures) in
-    let played : IsPlayed s.true_to_digests s.failed s.honest s.slots s.held s.gives (words_of c.args.seed) c.in-Ok.world c.args.events.items rest c.play-text.new.world (string_bytes c.in_ok-text.field-0) =
-    subst (λ (from : Stream). IsPlayed s.true_to_digests s.failed s.honest s.slots s.held s.gives from c.in-Ok.world c.args.events.items rest c.play-text.new.world (string_bytes c.in_ok-text.field-0)) words
+    let played : IsPlayed s (words_of c.args.seed) c.in-Ok.world c.args.events.items rest c.play-text.new.world (string_bytes c.in_ok-text.field-0) =
+    subst (λ (from : Stream). IsPlayed s from c.in-Ok.world c.args.events.items rest c.play-text.new.world (string_bytes c.in_ok-text.field-0)) words
     c.in_ok-text.ensures in
     let events = c.args.events.items in
     let each : All (IsFor (length c.in-Ok.world.tenants) (s.slots c.in-Ok.world.store)) events =
@@ -38,5 +38,5 @@ returns-clause-transcript g c =
       };
       played = played;
       shows = λ trust any. from_boot any c.args.config.log_runs c.args.guests.items c.in-Ok.world.tenants events played.said ok.booted
-          (all_shown s.true_to_digests s.failed s.honest s.slots s.held s.gives any (words_of c.args.seed) rest c.in-Ok.world c.play-text.new.world events played.said played.done trust each);
+          (all_shown s any (words_of c.args.seed) rest c.in-Ok.world c.play-text.new.world events played.said played.done trust each);
     }

@@ -1,10 +1,9 @@
-use Rattle.std.proofs.Common.{◌^◌, ◌∙◌, arith}
-use Rattle.physmap.specs.Holdings.{swapped_pages}
-use Rattle.world.proofs.Totals.{room}
+use Rattle.std.proofs.Common.{◌≡◌, ◌∙◌, sum_by, sym, rules}
+use Rattle.world.specs.Below.{swapped_pages, pages_in}
+use Rattle.world.proofs.Totals.{sum_map}
 use Rattle.world.proofs.books.swapped_in.Goals as goal
 
-pub overflow_add-pages : goal.overflow_add-pages
-overflow_add-pages c =
-    let small = room swapped_pages c.args.tenants.now c.loop-tenant.tenant-index c.tenant-item.result c.loop-tenant.pages c.from-pages.result (2 ^ 64)
-    c.requires c.loop-tenant-test.true c.tenant-item.is c.loop-tenant.invariant (c.from-pages.ensures ∙ c.swapped.ensures) in
-    omega (arith, small)
+pub returns : goal.returns
+returns c =
+    let total : c.sum.result ≡ sum_by (λ t. swapped_pages (pages_in t)) c.args.tenants.now = search rules in
+    total ∙ sym (sum_map pages_in swapped_pages c.args.tenants.now)

@@ -1,5 +1,5 @@
 use Rattle.std.proofs.Common.{◌≡◌, ◌≤◌, map, take, length, vec_len, vec_capacity}
-use Rattle.tenant.specs.Tenants.{stat_of}
+use Rattle.world.proofs.All.{stat_of}
 use Rattle.world.proofs.faulting.stats_of.Given as goal
 
 -- what is known of the guests so far

@@ -1,5 +1,5 @@
 use Rattle.std.proofs.Common.{◌≡◌, ◌+◌, ◌-◌, length, take, sum_by}
-use Rattle.tenant.specs.Tenants.{TenantIs, pages_in}
+use Rattle.world.proofs.All.{TenantIs, pages_in}
 use Rattle.world.proofs.room.left_over.Given as goal
 
 -- what is left beside that of the guests so far

@@ -1,7 +1,6 @@
 use Rattle.std.proofs.Common.{◌<◌, length, set, refl, subst, arith, length-set}
+use Rattle.world.proofs.All.{IsSampled, TenantIs, any_default}
 use Rattle.taxpolicy.specs.Sample.{after_words}
-use Rattle.tenant.specs.Tenants.{TenantIs, IsSampled}
-use Rattle.world.proofs.Worlds.{any_default}
 use Rattle.world.proofs.Sampling.{one_more, others_stay, words_next}
 use Rattle.world.proofs.samples.sample_each.Goals as goal
 

@@ -1,6 +1,5 @@
 use Rattle.std.proofs.Common.{◌≡◌, ℕ, ◌*◌, ◌<◌, ◌≤◌, length, get_or}
-use Rattle.taxpolicy.specs.Sample.{after_words}
-use Rattle.tenant.specs.Tenants.{TenantIs, IsSampled}
+use Rattle.world.proofs.All.{IsSampled, TenantIs, after_words}
 use Rattle.world.proofs.samples.sample_each.Given as goal
 
 -- the guests so far are sampled, and the others are as they were

@@ -1,9 +1,5 @@
 use Rattle.std.proofs.Common.{ℕ, List, length, get_or, ap, sym, subst, ◌∙◌}
-use Rattle.physmap.specs.Pages.{page_at}
-use Rattle.guest.specs.Guests.{GuestIs}
-use Rattle.tenant.specs.Tenants.{TenantIs, IsBooted}
-use Rattle.world.specs.Worlds.{Sound}
-use Rattle.world.proofs.Worlds.{slots_once, tenants_of, last_tenant, sound_add_new}
+use Rattle.world.proofs.All.{GuestIs, IsBooted, Sound, TenantIs, last_tenant, page_at, slots_once, sound_add_new, tenants_of}
 use Rattle.world.proofs.world.World.add.Goals as goal
 
 pub loaded-requires-clause-once : goal.loaded-requires-clause-once

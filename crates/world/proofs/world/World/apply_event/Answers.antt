@@ -1,58 +1,37 @@
 use Rattle.std.proofs.Common.{ℕ, ◌≡◌, sym, subst}
-use Rattle.world.specs.declared.events.Answer.{Answer}
-use Rattle.world.specs.declared.events.Event.{Event}
-use Rattle.world.specs.Answers.{IsAnswered}
-use Rattle.world.specs.Words.{GoesByWords}
-use Rattle.world.specs.Worlds.{WorldIs}
+use Rattle.world.proofs.All.{Answer, Event, GoesByWords, IsAnswered, StoreFacts, WorldIs}
 use Rattle.world.proofs.world.World.apply_event.Goals as goal
 
 -- what is answered to an event whatever the tax is
-told : {Kept : Type 0} (trusted : Kept → Type 0) (failures : Kept → ℕ) (honest : Kept → Type 0) (tax : ℕ) (w w' : WorldIs Kept) {e e' : Event} (a : Answer) → e ≡ e'
-    → ((tax : ℕ) → IsAnswered trusted failures honest tax w w' e' a) → IsAnswered trusted failures honest tax w w' e a
-told trusted failures honest tax w w' a is so = subst (λ (f : Event). IsAnswered trusted failures honest tax w w' f a) (sym is) (so tax)
+told : {Kept : Type 0} (facts : StoreFacts Kept) (tax : ℕ) (w w' : WorldIs Kept) {e e' : Event} (a : Answer) → e ≡ e'
+    → ((tax : ℕ) → IsAnswered facts tax w w' e' a) → IsAnswered facts tax w w' e a
+told facts tax w w' a is so = subst (λ (f : Event). IsAnswered facts tax w w' f a) (sym is) (so tax)
 
 pub returns-in-Step-clause-answered : goal.returns-in-Step-clause-answered
-returns-in-Step-clause-answered g c =
-    let s = g.S.SwapStore in
-    told s.true_to_digests s.failed s.honest c.args.tax.percent c.args.self.now c.apply_step.new.self c.apply_step.result c.in-Step.is c.apply_step.ensures.answered
+returns-in-Step-clause-answered g c = told g.S.SwapStore c.args.tax.percent c.args.self.now c.apply_step.new.self c.apply_step.result c.in-Step.is c.apply_step.ensures.answered
 
 pub returns-in-Steps-clause-answered : goal.returns-in-Steps-clause-answered
-returns-in-Steps-clause-answered g c =
-    let s = g.S.SwapStore in
-    told s.true_to_digests s.failed s.honest c.args.tax.percent c.args.self.now c.apply_steps.new.self c.apply_steps.result c.in-Steps.is c.apply_steps.ensures.answered
+returns-in-Steps-clause-answered g c = told g.S.SwapStore c.args.tax.percent c.args.self.now c.apply_steps.new.self c.apply_steps.result c.in-Steps.is c.apply_steps.ensures.answered
 
 pub returns-in-Input-clause-answered : goal.returns-in-Input-clause-answered
-returns-in-Input-clause-answered g c =
-    let s = g.S.SwapStore in
-    told s.true_to_digests s.failed s.honest c.args.tax.percent c.args.self.now c.apply_input.new.self c.apply_input.result c.in-Input.is c.apply_input.ensures.answered
+returns-in-Input-clause-answered g c = told g.S.SwapStore c.args.tax.percent c.args.self.now c.apply_input.new.self c.apply_input.result c.in-Input.is c.apply_input.ensures.answered
 
 pub returns-in-Feed-clause-answered : goal.returns-in-Feed-clause-answered
-returns-in-Feed-clause-answered g c =
-    let s = g.S.SwapStore in
-    told s.true_to_digests s.failed s.honest c.args.tax.percent c.args.self.now c.apply_feed.new.self c.apply_feed.result c.in-Feed.is c.apply_feed.ensures.answered
+returns-in-Feed-clause-answered g c = told g.S.SwapStore c.args.tax.percent c.args.self.now c.apply_feed.new.self c.apply_feed.result c.in-Feed.is c.apply_feed.ensures.answered
 
 pub returns-in-Supply-clause-answered : goal.returns-in-Supply-clause-answered
-returns-in-Supply-clause-answered g c =
-    let s = g.S.SwapStore in
-    told s.true_to_digests s.failed s.honest c.args.tax.percent c.args.self.now c.apply_supply.new.self c.apply_supply.result c.in-Supply.is c.apply_supply.ensures.answered
+returns-in-Supply-clause-answered g c = told g.S.SwapStore c.args.tax.percent c.args.self.now c.apply_supply.new.self c.apply_supply.result c.in-Supply.is c.apply_supply.ensures.answered
 
 pub returns-in-Evict-clause-answered : goal.returns-in-Evict-clause-answered
-returns-in-Evict-clause-answered g c =
-    let s = g.S.SwapStore in
-    told s.true_to_digests s.failed s.honest c.args.tax.percent c.args.self.now c.apply_evict.new.self c.apply_evict.result c.in-Evict.is c.apply_evict.ensures.answered
+returns-in-Evict-clause-answered g c = told g.S.SwapStore c.args.tax.percent c.args.self.now c.apply_evict.new.self c.apply_evict.result c.in-Evict.is c.apply_evict.ensures.answered
 
 pub returns-in-Scan-clause-answered : goal.returns-in-Scan-clause-answered
-returns-in-Scan-clause-answered g c =
-    let s = g.S.SwapStore in
-    told s.true_to_digests s.failed s.honest c.args.tax.percent c.args.self.now c.apply_scan.new.self c.apply_scan.result c.in-Scan.is c.apply_scan.ensures.answered
+returns-in-Scan-clause-answered g c = told g.S.SwapStore c.args.tax.percent c.args.self.now c.apply_scan.new.self c.apply_scan.result c.in-Scan.is c.apply_scan.ensures.answered
 
 pub returns-in-Sample-clause-answered : goal.returns-in-Sample-clause-answered
-returns-in-Sample-clause-answered g c =
-    let s = g.S.SwapStore in
-    told s.true_to_digests s.failed s.honest c.args.tax.percent c.args.self.now c.apply_sample.new.self c.apply_sample.result c.in-Sample.is c.apply_sample.ensures.answered
+returns-in-Sample-clause-answered g c = told g.S.SwapStore c.args.tax.percent c.args.self.now c.apply_sample.new.self c.apply_sample.result c.in-Sample.is c.apply_sample.ensures.answered
 
 pub returns-in-Sample-clause-by_words : goal.returns-in-Sample-clause-by_words
 returns-in-Sample-clause-by_words g c =
-    let s = g.S.SwapStore in
-    subst (λ (e : Event). GoesByWords s.true_to_digests s.slots c.args.tax.percent (g.R.Rng.stream c.args.rng.now) c.args.self.now e c.apply_sample.result (g.R.Rng.stream c.apply_sample.new.rng) c.apply_sample.new.self)
+    subst (λ (e : Event). GoesByWords g.S.SwapStore c.args.tax.percent (g.R.Rng.stream c.args.rng.now) c.args.self.now e c.apply_sample.result (g.R.Rng.stream c.apply_sample.new.rng) c.apply_sample.new.self)
     (sym c.in-Sample.is) (c.apply_sample.ensures.by_words c.args.tax.percent)

@@ -1,6 +1,5 @@
 use Rattle.std.proofs.Common.{arith}
-use Rattle.world.proofs.Admitting.{guests_one}
-use Rattle.world.proofs.Victims.{moved_logs}
+use Rattle.world.proofs.All.{guests_one, moved_logs}
 use Rattle.world.proofs.world.World.apply_evict.Goals as goal
 
 pub returns-then-g-count-clause-logs : goal.returns-then-g-count-clause-logs

@@ -1,5 +1,4 @@
-use Rattle.world.proofs.Admitting.{guests_move}
-use Rattle.world.proofs.Victims.{fault_logs}
+use Rattle.world.proofs.All.{fault_logs, guests_move}
 use Rattle.world.proofs.world.World.apply_fault.Goals as goal
 
 pub returns-then-g-count-clause-logs : goal.returns-then-g-count-clause-logs

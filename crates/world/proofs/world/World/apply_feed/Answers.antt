@@ -1,5 +1,5 @@
 use Rattle.std.proofs.Common.{arith}
-use Rattle.world.proofs.Admitting.{guests_stay}
+use Rattle.world.proofs.All.{guests_stay}
 use Rattle.world.proofs.world.World.apply_feed.Goals as goal
 
 pub returns-then-g-count-clause-guests : goal.returns-then-g-count-clause-guests

@@ -1,6 +1,5 @@
 use Rattle.std.proofs.Common.{arith}
-use Rattle.world.proofs.Admitting.{guests_stay}
-use Rattle.world.proofs.Worlds.{input_logs}
+use Rattle.world.proofs.All.{guests_stay, input_logs}
 use Rattle.world.proofs.world.World.apply_input.Goals as goal
 
 pub returns-then-g-count-clause-logs : goal.returns-then-g-count-clause-logs

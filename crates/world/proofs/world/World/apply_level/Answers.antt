@@ -1,4 +1,4 @@
-use Rattle.world.proofs.Admitting.{done_limits}
+use Rattle.world.proofs.All.{done_limits}
 use Rattle.world.proofs.Turning.{done_logs, done_boots}
 use Rattle.world.proofs.world.World.apply_level.Goals as goal
 

@@ -1,9 +1,5 @@
 use Rattle.std.proofs.Common.{ℕ, ◌≡◌, Some, ◌++◌, get_or, take, drop, length, sym, ap, subst, ◌∙◌, arith}
-use Rattle.std.proofs.lemmas.List.{take_at}
-use Rattle.flatvm.specs.Replies.{bytes_at}
-use Rattle.guest.specs.Guests.{view_of}
-use Rattle.world.proofs.Admitting.{guests_move}
-use Rattle.world.proofs.Victims.{fault_logs}
+use Rattle.world.proofs.All.{bytes_at, fault_logs, guests_move, take_at, view_of}
 use Rattle.world.proofs.world.World.apply_probe.Goals as goal
 
 pub returns-in-Ok-debug_read-clause-logs : goal.returns-in-Ok-debug_read-clause-logs

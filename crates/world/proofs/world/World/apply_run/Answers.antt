@@ -1,5 +1,5 @@
 use Rattle.std.proofs.Common.{◌∙◌, ap, sym}
-use Rattle.tenant.specs.Tenants.{TenantIs}
+use Rattle.world.proofs.All.{TenantIs}
 use Rattle.world.proofs.world.World.apply_run.Goals as goal
 
 pub returns-clause-answered : goal.returns-clause-answered

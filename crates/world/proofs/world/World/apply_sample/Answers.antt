@@ -1,6 +1,5 @@
 use Rattle.std.proofs.Common.{sym, ◌∙◌, append-nil}
-use Rattle.world.specs.Worlds.{log_at}
-use Rattle.world.proofs.Admitting.{guests_sampled}
+use Rattle.world.proofs.All.{guests_sampled, log_at}
 use Rattle.world.proofs.Sampling.{sampled_logs}
 use Rattle.world.proofs.world.World.apply_sample.Goals as goal
 

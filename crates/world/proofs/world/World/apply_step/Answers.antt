@@ -1,6 +1,5 @@
 use Rattle.std.proofs.Common.{arith}
-use Rattle.world.proofs.Admitting.{guests_stay}
-use Rattle.world.proofs.Worlds.{step_logs}
+use Rattle.world.proofs.All.{guests_stay, step_logs}
 use Rattle.world.proofs.world.World.apply_step.Goals as goal
 
 pub returns-clause-logs : goal.returns-clause-logs

@@ -1,6 +1,5 @@
 use Rattle.std.proofs.Common.{arith}
-use Rattle.world.proofs.Admitting.{guests_one}
-use Rattle.world.proofs.Victims.{moved_logs}
+use Rattle.world.proofs.All.{guests_one, moved_logs}
 use Rattle.world.proofs.world.World.apply_supply.Goals as goal
 
 pub returns-clause-logs : goal.returns-clause-logs

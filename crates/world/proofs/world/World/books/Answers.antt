@@ -1,25 +1,17 @@
 use Rattle.std.proofs.Common.{List, map, sum_by, sym, ap, ◌∙◌, arith}
-use Rattle.sharetab.specs.Entries.{ticket_count}
-use Rattle.physmap.specs.Holdings.{private_pages, shared_pages, swapped_pages}
-use Rattle.paging.proofs.Totals.{frames_add_up, slots_add_up, slots_out_add_up, tickets_add_up}
-use Rattle.tenant.specs.Tenants.{TenantIs, pages_in}
-use Rattle.world.specs.Worlds.{WorldIs}
+use Rattle.world.proofs.All.{TenantIs, WorldIs, pages_in, private_pages, shared_pages, ticket_count}
+use Rattle.paging.proofs.Totals.{frames_add_up, slots_out_add_up, tickets_add_up}
 use Rattle.world.proofs.world.World.books.Goals as goal
 
-pub private_in-requires : goal.private_in-requires
-private_in-requires g c =
+pub overflow_cast-result : goal.overflow_cast-result
+overflow_cast-result g c =
     let w = c.self.inside in
-    omega (arith, frames_add_up w.frames (g.S.SwapStore.slots w.store) (map pages_in w.tenants.items) w.shares.entries w.pool w.slots c.self.invariant.books, c.from.ensures, c.from.type_inv, ap (λ (ts : List TenantIs). sum_by private_pages (map pages_in ts)) c.deref.ensures.value)
+    omega (arith, frames_add_up w.frames (g.S.SwapStore.slots w.store) (map pages_in w.tenants.items) w.shares.entries w.pool w.slots c.self.invariant.books, c.from.ensures, c.from.type_inv, c.private_in.ensures, ap (λ (ts : List TenantIs). sum_by private_pages (map pages_in ts)) c.deref.ensures.value)
 
-pub shared_in-requires : goal.shared_in-requires
-shared_in-requires g c =
+pub overflow_cast-result-2 : goal.overflow_cast-result-2
+overflow_cast-result-2 g c =
     let w = c.self.inside in
-    omega (arith, tickets_add_up w.frames (g.S.SwapStore.slots w.store) (map pages_in w.tenants.items) w.shares.entries w.pool w.slots c.self.invariant.books, c.tickets-tickets.ensures, c.tickets-tickets.type_inv, ap (λ (ts : List TenantIs). sum_by shared_pages (map pages_in ts)) c.deref-2.ensures.value)
-
-pub swapped_in-requires : goal.swapped_in-requires
-swapped_in-requires g c =
-    let w = c.self.inside in
-    omega (arith, slots_add_up w.frames (g.S.SwapStore.slots w.store) (map pages_in w.tenants.items) w.shares.entries w.pool w.slots c.self.invariant.books, slots_out_add_up w.frames (g.S.SwapStore.slots w.store) (map pages_in w.tenants.items) w.shares.entries w.pool w.slots c.self.invariant.books, c.total.ensures, c.from-slots.ensures, c.from-slots.type_inv, ap (λ (ts : List TenantIs). sum_by swapped_pages (map pages_in ts)) c.deref-3.ensures.value)
+    omega (arith, tickets_add_up w.frames (g.S.SwapStore.slots w.store) (map pages_in w.tenants.items) w.shares.entries w.pool w.slots c.self.invariant.books, c.tickets-tickets.ensures, c.tickets-tickets.type_inv, c.shared_in.ensures, ap (λ (ts : List TenantIs). sum_by shared_pages (map pages_in ts)) c.deref-2.ensures.value)
 
 pub returns-clause-slots : goal.returns-clause-slots
 returns-clause-slots g c =

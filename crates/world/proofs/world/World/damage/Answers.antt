@@ -1,6 +1,5 @@
 use Rattle.std.proofs.Common.{ℕ, List, OnOk, subst}
-use Rattle.swapstore.specs.Holding.{AreHeldByDigest}
-use Rattle.world.specs.Worlds.{WorldIs}
+use Rattle.world.proofs.All.{AreHeldByDigest, WorldIs}
 use Rattle.world.proofs.Damaged.{sound_damaged}
 use Rattle.world.proofs.world.World.damage.Goals as goal
 

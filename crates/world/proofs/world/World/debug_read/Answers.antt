@@ -1,14 +1,8 @@
 use Rattle.std.proofs.Common.{◌≡◌, Err, Some, None, get_or, length, refl, sym, ap, subst, ◌∙◌}
-use Rattle.flatvm.specs.Replies.{bytes_at, SomePlaceIn}
-use Rattle.guest.specs.Guests.{GuestIs, standing, view_of, Intact}
+use Rattle.world.proofs.All.{GuestIs, Intact, Machine, SomePlaceIn, bytes_at, guest_of, kept_of, kind_at, pages_in, standing, still_inside, view_of}
 use Rattle.physmap.specs.declared.page.PageKind.TheVariants.{Swapped}
-use Rattle.physmap.specs.Pages.{kind_at}
-use Rattle.tenant.specs.Tenants.{pages_in}
-use Rattle.mips_step.specs.Step.{Machine}
 use Rattle.world.proofs.Reached.{not_away}
 use Rattle.world.proofs.Runs.{moved_same}
-use Rattle.world.proofs.Victims.{still_inside}
-use Rattle.world.proofs.Worlds.{guest_of, kept_of}
 use Rattle.world.proofs.world.World.debug_read.Goals as goal
 
 pub unreachable-requires : goal.unreachable-requires

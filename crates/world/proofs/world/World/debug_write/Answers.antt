@@ -1,21 +1,9 @@
-use Rattle.world.proofs.Admitting.{guests_then, guests_move}
 use Rattle.std.proofs.Common.{ℕ, true, ◌≡◌, ◌++◌, List, get_or, length, refl, sym, ap, subst, ◌∙◌, arith}
-use Rattle.std.proofs.lemmas.Result.{on_ok_weaker}
-use Rattle.items.specs.declared.item.Item.{Item}
-use Rattle.flatvm.specs.Replies.{SomePlaceIn}
-use Rattle.guest.specs.Guests.{standing, view_of}
-use Rattle.items.specs.declared.item.What.TheVariants.{Write}
-use Rattle.mips_step.specs.Step.{Machine}
-use Rattle.flatvm.specs.Items.{accepts}
-use Rattle.guest_log.specs.Logs.{IsFull}
+use Rattle.world.proofs.All.{IsFull, Item, Machine, SomePlaceIn, TenantIs, Write, accepts, around_books, around_then, books_same, fault_logs, guests_move, guests_then, on_ok_weaker, standing, view_of, written_items}
 use Rattle.world.specs.declared.debugging.DebugError.TheVariants.{Stop}
 use Rattle.world.specs.declared.running.RunStop.TheVariants.{LogFull}
-use Rattle.world.specs.Debugging.{written_items}
-use Rattle.tenant.specs.Tenants.{TenantIs}
 use Rattle.world.proofs.Reached.{ok_not}
 use Rattle.world.proofs.Runs.{fault_stays, moved_room, moved_same}
-use Rattle.world.proofs.Victims.{fault_logs}
-use Rattle.world.proofs.Worlds.{around_then, around_books, books_same}
 use Rattle.world.proofs.world.World.debug_write.Goals as goal
 
 pub returns-in-Err-clause-logs : goal.returns-in-Err-clause-logs

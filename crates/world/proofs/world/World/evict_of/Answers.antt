@@ -1,9 +1,7 @@
 use Rattle.std.proofs.Common.{set, sym, subst}
-use Rattle.tenant.specs.Tenants.{TenantIs}
+use Rattle.world.proofs.All.{Sound, TenantIs, guest_inside, lent_of, same_guests, sound_after}
 use Rattle.tenant.proofs.Keeping.{moved_kept}
-use Rattle.world.specs.Worlds.{Sound}
 use Rattle.world.proofs.Turning.{on_err}
-use Rattle.world.proofs.Worlds.{guest_inside, lent_of, sound_after, same_guests}
 use Rattle.world.proofs.world.World.evict_of.Goals as goal
 
 pub evict_page-requires-clause-lent : goal.evict_page-requires-clause-lent

@@ -1,16 +1,5 @@
 use Rattle.std.proofs.Common.{ℕ, true, Option, ◌≡◌, ◌%◌, ◌<◌, map, length, sym, ap, subst, ◌∙◌, arith}
-use Rattle.std.proofs.lemmas.List.{length-map}
-use Rattle.rand_core.specs.Stream.{next_u32}
-use Rattle.frames.specs.FreeList.{FreeList}
-use Rattle.swapstore.specs.Failures.{one_more}
-use Rattle.taxpolicy.specs.Victim.{IsEligible, victim_of}
-use Rattle.tenant.specs.declared.moves.EvictError.{EvictError}
-use Rattle.tenant.specs.Lent.{WhyStays}
-use Rattle.tenant.specs.Tenants.{TenantIs, pages_in}
-use Rattle.victims.specs.Victims.{spared_of, may_leave, IsNextResident}
-use Rattle.tenant.specs.Tenants.{stat_of}
-use Rattle.physmap.specs.Pages.{kind_at, is_resident}
-use Rattle.world.proofs.Victims.{least_at, only_pages, fewer, none_free, evicted_spares}
+use Rattle.world.proofs.All.{EvictError, FreeList, IsEligible, IsNextResident, TenantIs, WhyStays, evicted_spares, fewer, is_resident, kind_at, least_at, length-map, may_leave, next_u32, none_free, one_more, only_pages, pages_in, spared_of, stat_of, victim_of}
 use Rattle.victims.proofs.Searching.{leaves_resident}
 use Rattle.world.proofs.world.World.evict_sparing.Goals as goal
 

@@ -1,15 +1,6 @@
-use Rattle.world.proofs.Admitting.{still_admitted, guests_move, fault_room}
-use Rattle.std.proofs.Common.{ℕ, ◌≡◌, ◌<◌, inr, Option, List, get_or, length, sym, subst, ◌∙◌}
-use Rattle.std.proofs.lemmas.Result.{on_ok_weaker}
-use Rattle.frames.specs.FreeList.{FreeList}
-use Rattle.mips_step.specs.declared.access.Why.{Why}
-use Rattle.sharetab.specs.Entries.{EntriesAre}
-use Rattle.physmap.specs.declared.page.PageKind.TheVariants.{Private}
-use Rattle.physmap.specs.Pages.{kind_at}
-use Rattle.tenant.specs.Tenants.{TenantIs, pages_in, IsKept}
-use Rattle.world.specs.Worlds.{Sound, needed_by}
-use Rattle.world.proofs.Victims.{some_none, first_of}
-use Rattle.world.proofs.Worlds.{kept_of}
+use Rattle.std.proofs.Common.{ℕ, ◌≡◌, ◌<◌, inr, refl, Option, List, get_or, length, sym, subst, ◌∙◌}
+use Rattle.world.proofs.All.{EntriesAre, FreeList, IsKept, IsNeeded, Private, Sound, TenantIs, Why, around_same, fault_room, first_of, guests_move, kept_of, kind_at, needed_by, on_ok_weaker, pages_in, some_none, still_admitted}
+use Rattle.world.proofs.Damaged.{unsupplied_if}
 use Rattle.world.proofs.world.World.fault.Goals as goal
 
 -- what a guest of a world needs, where the store is trusted
@@ -51,6 +42,14 @@ returns-clause-met g c =
       private = private;
     })) c.supply_sparing-answer.ensures.private
 
+pub returns-clause-err : goal.returns-clause-err
+returns-clause-err g c =
+    let s = g.S.SwapStore in
+    let w = c.args.self.now in
+    unsupplied_if {facts = s} c.args.g (λ q. q ≡ c.in-Some.needed.0) (IsNeeded s w c.args.g) w w c.supply_sparing-answer.new.self around_same refl
+    (λ q is. subst (IsNeeded s w c.args.g) (sym is) (λ trust t. (c.in-Some.needed.1, sym (its_need c.need.result c.is_sound.ensures c.requires c.guest.ensures c.need.ensures.need trust t) ∙ c.in-Some.is)))
+    c.supply_sparing-answer.result c.supply_sparing-answer.ensures.err
+
 pub returns-clause-nothing : goal.returns-clause-nothing
 returns-clause-nothing g c = λ trust t none.
     absurd (some_none c.in-Some.needed (sym c.in-Some.is ∙ its_need c.need.result c.is_sound.ensures c.requires c.guest.ensures c.need.ensures.need trust t ∙ none))
@@ -59,5 +58,5 @@ pub returns-clause-room : goal.returns-clause-room
 returns-clause-room g c = λ admitted.
     let s = g.S.SwapStore in
     let e = c.supply_sparing-answer.ensures in
-    fault_room s.true_to_digests s.failed s.honest s.slots s.held c.args.self.now c.supply_sparing-answer.new.self c.supply_sparing-answer.result e.err c.is_sound-2.ensures c.shared_frames_are_named.ensures
+    fault_room s c.args.g (λ q. q ≡ c.in-Some.needed.0) c.args.self.now c.supply_sparing-answer.new.self c.supply_sparing-answer.result e.err c.is_sound-2.ensures c.shared_frames_are_named.ensures
     (still_admitted e.around.frames e.around.store.slots (guests_move e.moves).limits admitted)

@@ -1,8 +1,7 @@
 use Rattle.std.proofs.Common.{arith}
-use Rattle.world.specs.Worlds.{log_at}
+use Rattle.world.proofs.All.{log_at, same_then}
 use Rattle.world.proofs.Runs.{stays_there, stays_then}
 use Rattle.world.proofs.Feeding.{taken_more}
-use Rattle.world.proofs.Worlds.{same_then}
 use Rattle.world.proofs.world.World.feed.Goals as goal
 
 pub loop-count-preserved : goal.loop-count-preserved

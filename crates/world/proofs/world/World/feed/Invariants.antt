@@ -1,7 +1,5 @@
 use Rattle.std.proofs.Common.{◌≡◌, ℕ, ◌<◌, ◌++◌, length, take}
-use Rattle.tenant.specs.Tenants.{Stays}
-use Rattle.world.specs.Events.{inputs_for}
-use Rattle.world.specs.Worlds.{Changes, SameAround, log_at}
+use Rattle.world.proofs.All.{Changes, SameAround, Stays, inputs_for, log_at}
 use Rattle.world.proofs.world.World.feed.Given as goal
 
 -- the log has the bytes so far

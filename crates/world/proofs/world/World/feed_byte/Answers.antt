@@ -1,10 +1,5 @@
 use Rattle.std.proofs.Common.{ℕ, ◌++◌, List, Err, ap, ◌∙◌}
-use Rattle.items.specs.declared.item.Item.{Item}
-use Rattle.items.specs.declared.item.What.TheVariants.{In}
-use Rattle.world.specs.Events.{input_items}
-use Rattle.world.specs.Worlds.{item_for, log_at}
-use Rattle.world.proofs.Victims.{some_tenant}
-use Rattle.world.proofs.Worlds.{input_logs, same_logs}
+use Rattle.world.proofs.All.{In, Item, input_items, input_logs, item_for, log_at, same_logs, some_tenant}
 use Rattle.world.proofs.world.World.feed_byte.Goals as goal
 
 pub unreachable-requires : goal.unreachable-requires

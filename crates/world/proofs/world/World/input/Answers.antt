@@ -1,11 +1,5 @@
 use Rattle.std.proofs.Common.{◌≡◌, true, false, sym, subst}
-use Rattle.std.proofs.lemmas.Result.{IfOk-weaker, on_ok_weaker}
-use Rattle.flatvm.specs.Answers.{replied}
-use Rattle.flatvm.specs.Items.{accepts, reply}
-use Rattle.guest.specs.Guests.{view_of}
-use Rattle.tenant.specs.Tenants.{TenantIs}
-use Rattle.world.specs.Worlds.{WorldIs}
-use Rattle.world.proofs.Worlds.{guest_inside, guest_at, kept_of, input_sound}
+use Rattle.world.proofs.All.{IfOk-weaker, TenantIs, WorldIs, accepts, guest_at, guest_inside, input_sound, kept_of, on_ok_weaker, replied, reply, view_of}
 use Rattle.world.proofs.world.World.input.Goals as goal
 
 pub invariant_of-self : goal.invariant_of-self

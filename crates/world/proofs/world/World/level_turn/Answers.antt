@@ -1,19 +1,7 @@
 use Rattle.std.proofs.Common.{◌≡◌, ◌⊎◌, ℕ, ◌<◌, List, None, false, IfErr, OnOk, OnErr, refl, length, map, get_or, ap, sym, subst, ◌∙◌}
+use Rattle.world.proofs.All.{Action, AreCutShort, AreFewer, AreTurned, Level, MayLose, OnlyPagesMove, SharesAre, SwapOuts, SwapOutsEnd, TenantIs, WhyStays, WorldIs, actions_of, moment_of, next_level_of, one_more, outline, pages_in, stat_of}
 use Rattle.taxpolicy.proofs.Allotments.{each_target}
-use Rattle.reclaim.specs.Levels.{next_level_of}
-use Rattle.reclaim.specs.Plans.{actions_of}
-use Rattle.reclaim.specs.declared.level.Level.{Level}
-use Rattle.reclaim.specs.declared.turn.Action.{Action}
-use Rattle.swapstore.specs.Failures.{one_more}
-use Rattle.tenant.specs.Lent.{WhyStays}
-use Rattle.sharetab.specs.Shares.{SharesAre}
-use Rattle.physmap.specs.Outline.{outline}
-use Rattle.tenant.specs.Tenants.{TenantIs, pages_in, stat_of}
 use Rattle.tenant.specs.declared.turning.Aim.TheVariants.{Kept}
-use Rattle.world.specs.Choices.{moment_of, SwapOuts, SwapOutsEnd}
-use Rattle.world.specs.Turns.{AreTurned, MayLose, AreFewer, AreCutShort}
-use Rattle.world.specs.Victims.{OnlyPagesMove}
-use Rattle.world.specs.Worlds.{WorldIs}
 use Rattle.world.proofs.Choices.{outs_or_end, same_around}
 use Rattle.world.proofs.Turning.{all_may, turn_of}
 use Rattle.world.proofs.world.World.level_turn.Goals as goal

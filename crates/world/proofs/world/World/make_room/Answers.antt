@@ -1,9 +1,6 @@
 use Rattle.std.proofs.Common.{◌∙◌, arith}
-use Rattle.std.proofs.lemmas.List.{nil_from_length}
-use Rattle.world.specs.Choices.{moment_of}
+use Rattle.world.proofs.All.{around_then, moment_of, nil_from_length, pages_then, spared_then}
 use Rattle.world.proofs.Choices.{booked_where, one_more_evicted}
-use Rattle.world.proofs.Victims.{pages_then, spared_then}
-use Rattle.world.proofs.Worlds.{around_then}
 use Rattle.world.proofs.world.World.make_room.Goals as goal
 
 pub loop-alloc-preserved : goal.loop-alloc-preserved

@@ -1,7 +1,5 @@
 use Rattle.std.proofs.Common.{◌≡◌}
-use Rattle.world.specs.Choices.{moment_of}
-use Rattle.world.specs.Worlds.{AroundStays}
-use Rattle.world.specs.Victims.{OnlyPagesMove, SparedStay, all_resident}
+use Rattle.world.proofs.All.{AroundStays, OnlyPagesMove, SparedStay, all_resident, moment_of}
 use Rattle.world.proofs.Choices.{Evicted}
 use Rattle.world.proofs.world.World.make_room.Given as goal
 
@@ -12,7 +10,7 @@ invariant-loop-alloc g l = record {
   spared : SparedStay l.spared l.fn.self.tenants l.self.tenants;
   evicted : Evicted l.fn.self.frames (g.S.SwapStore.slots l.fn.self.store) l.tax.percent l.spared (moment_of (g.R.Rng.stream l.fn.rng) l.fn.self) (moment_of (g.R.Rng.stream l.rng) l.self);
   failed : g.S.SwapStore.failed l.self.store ≡ g.S.SwapStore.failed l.fn.self.store;
-  around : AroundStays g.S.SwapStore.slots g.S.SwapStore.honest g.S.SwapStore.true_to_digests l.fn.self l.self;
+  around : AroundStays g.S.SwapStore l.fn.self l.self;
 }
 
 -- each turn a page of a guest has left its frame

@@ -1,8 +1,5 @@
 use Rattle.std.proofs.Common.{ℕ, ◌≡◌, List, sym, subst}
-use Rattle.frames.specs.Counts.{count_of, below}
-use Rattle.tenant.specs.Tenants.{TenantIs}
-use Rattle.world.specs.Worlds.{Sound}
-use Rattle.world.proofs.Worlds.{sound_new}
+use Rattle.world.proofs.All.{Sound, TenantIs, below, count_of, sound_new}
 use Rattle.world.proofs.world.World.new.Goals as goal
 
 pub invariant_of-result : goal.invariant_of-result

@@ -1,17 +1,10 @@
-use Rattle.std.proofs.Common.{◌≡◌, ◌⊎◌, ◌↔◌, inr, true, false, None, get_or, refl, sym, subst}
-use Rattle.flatvm.specs.Replies.{bytes_at, SomePlaceIn}
-use Rattle.guest.specs.Guests.{GuestIs, standing, without_pages, IsSized}
+use Rattle.std.proofs.Common.{◌≡◌, ◌⊎◌, ◌↔◌, inr, None, get_or, refl, sym, subst}
+use Rattle.world.proofs.All.{GuestIs, IsSized, LieIn, RunStop, SomePlaceIn, WhyHalted, around_same, bytes_at, guest_of, kept_at, no_true, page_at, pages_in, same_pages, standing, without_pages}
 use Rattle.guest.proofs.Placing.{view_none, moved_none, moved_places}
-use Rattle.physmap.specs.Pages.{page_at}
-use Rattle.tenant.specs.Tenants.{pages_in}
+use Rattle.world.proofs.Damaged.{halted_later}
 use Rattle.world.proofs.Reached.{ready_unwanted}
 use Rattle.world.proofs.Runs.{moved_same}
-use Rattle.world.proofs.Victims.{same_pages}
-use Rattle.world.proofs.Worlds.{guest_of, kept_at}
 use Rattle.world.proofs.world.World.reach.Goals as goal
-
-no_true : true ≡ false → ⊥
-no_true e = cc
 
 pub returns-in_default-clause-no_place : goal.returns-in_default-clause-no_place
 returns-in_default-clause-no_place g c = λ trust t.
@@ -41,6 +34,18 @@ returns-in-Err-clause-no_place g c = λ trust t.
           (no_true
           (c.in-Some.ensures.none.1 (subst (λ (x : GuestIs). bytes_at (standing x) c.args.address c.args.count ≡ None) (sym (guest_of c.args.self.now.tenants c.args.g c.guest-4.ensures c.guest-3.ensures t)) (seen.1 none)))),
     )
+
+pub returns-in-Err-clause-stop : goal.returns-in-Err-clause-stop
+returns-in-Err-clause-stop g c =
+    let s = g.S.SwapStore in
+    let w = c.args.self.now in
+    let new = c.supply_reached.new.self in
+    let pages = c.in-Some.pages in
+    let lies = LieIn w c.args.g c.args.address c.args.count in
+    subst (λ (why : RunStop). WhyHalted s c.args.g lies w new why) (sym c.stop_of.ensures)
+    (halted_later {facts = s} c.args.g (λ q. (q ≡ pages.0) ⊎ (q ≡ pages.1)) lies w w new around_same refl
+    (λ q which t. subst (λ (x : GuestIs). SomePlaceIn (standing x) c.args.address c.args.count q) (guest_of w.tenants c.args.g c.guest-4.ensures c.guest-3.ensures t) ((c.in-Some.ensures.reached q).1 which))
+    c.in-Err.error c.in-Err.ensures.err)
 
 pub returns-in-Ok-clause-placed : goal.returns-in-Ok-clause-placed
 returns-in-Ok-clause-placed g c = λ t none.

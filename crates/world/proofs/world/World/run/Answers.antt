@@ -1,12 +1,5 @@
 use Rattle.std.proofs.Common.{suc, ◌≡◌, ◌++◌, ◌∷◌, [], All, List, length, sym, ap, subst, ◌∙◌, append_assoc, length-append, arith}
-use Rattle.std.specs.Vec.Iter.{into_iter_items}
-use Rattle.world.specs.declared.events.Event.{Event}
-use Rattle.world.specs.declared.events.Answer.{Answer}
-use Rattle.world.specs.Answers.{AllHappen}
-use Rattle.world.specs.Events.{IsProper, own}
-use Rattle.world.specs.Worlds.{log_at}
-use Rattle.world.proofs.Admitting.{limits_then}
-use Rattle.world.proofs.Worlds.{logs_more, all_more, store_then}
+use Rattle.world.proofs.All.{AllHappen, Answer, Event, IsProper, all_more, into_iter_items, limits_then, log_at, logs_more, own, store_then}
 use Rattle.world.proofs.world.World.run.Goals as goal
 
 pub loop-event-preserved : goal.loop-event-preserved
@@ -28,9 +21,8 @@ loop-event-preserved g c =
       logs = λ h. subst (λ (l : List Answer). log_at c.apply-answer.new.self.tenants h ≡ log_at c.args.self.now.tenants h ++ own h (at.yielded ++ e ∷ []) l) (sym items)
           (logs_more h at.yielded at.answers.items e a (log_at c.args.self.now.tenants h) (log_at at.self.tenants h) (log_at c.apply-answer.new.self.tenants h)
           (sym at.invariant.count) (at.invariant.logs h) (c.apply-answer.ensures.logs h));
-      happen = subst (λ (l : List Answer). AllHappen store.true_to_digests store.failed store.honest store.slots store.held c.args.tax.percent (g.R.Rng.stream c.args.rng.now) c.args.self.now (at.yielded ++ e ∷ []) l (g.R.Rng.stream c.apply-answer.new.rng) c.apply-answer.new.self) (sym items)
-          (all_more store.true_to_digests store.failed store.honest store.slots store.held c.args.tax.percent (g.R.Rng.stream c.args.rng.now) (g.R.Rng.stream at.rng) (g.R.Rng.stream c.apply-answer.new.rng) c.args.self.now at.self c.apply-answer.new.self at.yielded at.answers.items e a at.invariant.happen
-          (record { answered = c.apply-answer.ensures.answered; by_words = c.apply-answer.ensures.by_words; logs = c.apply-answer.ensures.logs; boots = c.apply-answer.ensures.boots; limits = c.apply-answer.ensures.limits; blocked = c.apply-answer.ensures.blocked; frames = c.apply-answer.ensures.frames; store = c.apply-answer.ensures.store; room = c.apply-answer.ensures.room; sound = c.apply-answer.ensures.sound }));
+      happen = subst (λ (l : List Answer). AllHappen store c.args.tax.percent (g.R.Rng.stream c.args.rng.now) c.args.self.now (at.yielded ++ e ∷ []) l (g.R.Rng.stream c.apply-answer.new.rng) c.apply-answer.new.self) (sym items)
+          (all_more store c.args.tax.percent (g.R.Rng.stream c.args.rng.now) (g.R.Rng.stream at.rng) (g.R.Rng.stream c.apply-answer.new.rng) c.args.self.now at.self c.apply-answer.new.self at.yielded at.answers.items e a at.invariant.happen c.apply-answer.ensures);
       count = omega (arith, ap length items, longer, length-append at.yielded (e ∷ []), at.invariant.count);
       len = omega (arith, c.push_reserved.ensures.len, ap length items, longer, at.invariant.len);
       room = omega (arith, c.push_reserved.ensures.len, c.push_reserved.ensures.capacity, gone, at.invariant.room);

@@ -1,14 +1,6 @@
 use Rattle.std.proofs.Common.{ℕ, ◌≡◌, Some, IfOk, get_or, set, refl, sym, subst}
-use Rattle.std.proofs.lemmas.List.{get_or-set_same}
-use Rattle.mips_step.specs.Accesses.{accesses, first_lack}
-use Rattle.mips_step.specs.declared.access.Why.{Why}
-use Rattle.paged_bus.specs.Lacking.{lacks_in}
-use Rattle.guest.specs.Guests.{view_of}
-use Rattle.tenant.specs.Tenants.{TenantIs, pages_in}
-use Rattle.world.specs.Worlds.{WorldIs}
-use Rattle.world.specs.Steps.{NoneNeeds}
+use Rattle.world.proofs.All.{NoneNeeds, TenantIs, Why, WorldIs, accesses, first_lack, get_or-set_same, guest_at, guest_inside, kept_of, lacks_in, lent_of, pages_in, sound_after, view_of}
 use Rattle.world.proofs.Unsupplied.{one_run_ok}
-use Rattle.world.proofs.Worlds.{guest_inside, guest_at, lent_of, kept_of, sound_after}
 use Rattle.world.proofs.world.World.run_once.Goals as goal
 
 pub run_in-requires-clause-lent : goal.run_in-requires-clause-lent

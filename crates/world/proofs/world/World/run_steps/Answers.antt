@@ -1,9 +1,8 @@
 use Rattle.std.proofs.Common.{◌∙◌, Err, ap, arith}
-use Rattle.world.specs.Worlds.{log_at}
+use Rattle.world.proofs.All.{IsAccessed, around_then, guests_then, log_at}
+use Rattle.world.proofs.Damaged.{end_later}
 use Rattle.world.proofs.Choices.{makes_where, makes_none_where, more_made, run_ends, run_done}
-use Rattle.world.proofs.Admitting.{guests_then}
 use Rattle.world.proofs.Runs.{still_there, steps_join}
-use Rattle.world.proofs.Worlds.{around_then}
 use Rattle.world.proofs.world.World.run_steps.Goals as goal
 
 pub loop-steps-preserved : goal.loop-steps-preserved
@@ -33,6 +32,14 @@ returns-in-Err-clause-chosen g c = run_ends c.loop-steps.invariant.made (makes_n
 
 pub returns-clause-chosen : goal.returns-clause-chosen
 returns-clause-chosen g c = run_done c.loop-steps.invariant.made
+
+pub returns-in-Err-clause-stop : goal.returns-in-Err-clause-stop
+returns-in-Err-clause-stop g c =
+    let s = g.S.SwapStore in
+    let so = c.loop-steps.invariant in
+    let new = c.steps_supplied.new.self in
+    let accessed = IsAccessed s new c.args.g in
+    end_later {facts = s} c.args.g accessed accessed c.args.self.now c.loop-steps.self new so.around so.failed (λ q it. it) c.in-Err.end c.in-Err.ensures.stop
 
 pub returns-in-Err-clause-need : goal.returns-in-Err-clause-need
 returns-in-Err-clause-need g c = λ trust p why is t.

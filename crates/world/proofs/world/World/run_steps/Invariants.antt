@@ -1,8 +1,5 @@
 use Rattle.std.proofs.Common.{◌≡◌, ℕ, ◌-◌, ◌<◌, ◌≤◌, ◌++◌, length}
-use Rattle.world.specs.Events.{steps_for}
-use Rattle.world.specs.Choices.{moment_of}
-use Rattle.world.specs.Admission.{GuestsStay}
-use Rattle.world.specs.Worlds.{AroundStays, log_at}
+use Rattle.world.proofs.All.{AroundStays, GuestsStay, log_at, moment_of, steps_for}
 use Rattle.world.proofs.Choices.{Made}
 use Rattle.world.proofs.world.World.run_steps.Given as goal
 
@@ -15,7 +12,7 @@ invariant-loop-steps g l = record {
   made : Made l.fn.self.frames (g.S.SwapStore.slots l.fn.self.store) (g.S.SwapStore.true_to_digests l.fn.self.store) l.tax.percent l.g (moment_of (g.R.Rng.stream l.fn.rng) l.fn.self) (moment_of (g.R.Rng.stream l.rng) l.self);
   guests : GuestsStay l.fn.self.tenants l.self.tenants;
   failed : g.S.SwapStore.failed l.self.store ≡ g.S.SwapStore.failed l.fn.self.store;
-  around : AroundStays g.S.SwapStore.slots g.S.SwapStore.honest g.S.SwapStore.true_to_digests l.fn.self l.self;
+  around : AroundStays g.S.SwapStore l.fn.self l.self;
 }
 
 -- each turn makes a step or is the last

@@ -1,10 +1,7 @@
 use Rattle.std.proofs.Common.{◌≡◌, ◌++◌, ℕ, List, length, take, drop, sym, ap, subst, ◌∙◌, arith}
+use Rattle.world.proofs.All.{AreSampled, OnlySamplesChange, Sound, TenantIs, tenants_of}
 use Rattle.std.proofs.Math.Seq.{take-append_seam}
-use Rattle.tenant.specs.Tenants.{TenantIs}
-use Rattle.world.specs.Samples.{AreSampled, OnlySamplesChange}
-use Rattle.world.specs.Worlds.{Sound}
 use Rattle.world.proofs.Sampling.{only_samples, sound_sampled}
-use Rattle.world.proofs.Worlds.{tenants_of}
 use Rattle.world.proofs.world.World.sample.Goals as goal
 
 pub returns-clause-beside : goal.returns-clause-beside

@@ -1,10 +1,6 @@
 use Rattle.std.proofs.Common.{ℕ, refl, sym, subst, get_or, set}
-use Rattle.std.proofs.lemmas.List.{get_or-set_same}
-use Rattle.paging.specs.Scans.{Answered, Comes}
-use Rattle.tenant.specs.Tenants.{TenantIs, pages_in}
+use Rattle.world.proofs.All.{Answered, Comes, TenantIs, WorldIs, get_or-set_same, guest_at, guest_inside, lent_of, pages_in, sound_after}
 use Rattle.tenant.proofs.Keeping.{moved_kept}
-use Rattle.world.specs.Worlds.{WorldIs}
-use Rattle.world.proofs.Worlds.{guest_inside, guest_at, lent_of, sound_after}
 use Rattle.world.proofs.world.World.scan.Goals as goal
 
 pub scan_page-requires-clause-covered : goal.scan_page-requires-clause-covered

@@ -1,13 +1,8 @@
 use Rattle.std.proofs.Common.{ℕ, ◌≡◌, ◌++◌, get_or, refl, ap, subst, ◌∙◌, arith}
-use Rattle.paged_bus.specs.Buses.{PagedBusIs}
-use Rattle.world.specs.Choices.{moment_of}
-use Rattle.world.specs.Events.{steps_for}
-use Rattle.world.specs.Steps.{NoneNeeds}
-use Rattle.world.specs.Worlds.{log_at, pages_at, view_at}
+use Rattle.world.proofs.All.{NoneNeeds, PagedBusIs, around_books, log_at, moment_of, pages_at, same_logs, steps_for, steps_logs, view_at}
 use Rattle.world.proofs.Choices.{booked_where}
 use Rattle.world.proofs.Runs.{steps_none}
 use Rattle.world.proofs.Unsupplied.{view_moves, no_steps}
-use Rattle.world.proofs.Worlds.{same_logs, steps_logs, around_books}
 use Rattle.world.proofs.world.World.some_steps.Goals as goal
 
 pub returns-then-steps-gt0-clause-logs : goal.returns-then-steps-gt0-clause-logs
@@ -29,7 +24,7 @@ returns-in-Err-clause-none g c = λ words.
       logs = λ h. same_logs c.args.g w.tenants w'.tenants c.requires.guest c.in-Err.ensures.unchanged.0 h ∙ steps_none h c.args.g (log_at w.tenants h);
       stays = e.stays;
       needs_none = λ trust t. no_steps (view_at w c.args.g t) (pages_at w c.args.g t) (pages_at w' c.args.g t) (ap (λ (b : PagedBusIs). b.pages) (c.in-Err.ensures.unchanged.0.so t).bus);
-      booked = booked_where {slots_of = s.slots} {honest = s.honest} {trusted = s.true_to_digests} (around_books e.around) (moment_of words w') c.is_sound.ensures.books;
+      booked = booked_where {facts = s} (around_books e.around) (moment_of words w') c.is_sound.ensures.books;
     }
 
 pub returns-then-steps-gt0-clause-made : goal.returns-then-steps-gt0-clause-made
@@ -43,7 +38,7 @@ returns-then-steps-gt0-clause-made g c = λ words.
       logs = λ h. steps_logs c.args.g w.tenants w'.tenants c.in-Ok.ran.0 c.requires.guest c.in-Ok.ensures.adds h;
       stays = e.stays;
       needs_none = λ trust t. c.in-Ok.ensures.needs_none trust t;
-      booked = booked_where {slots_of = s.slots} {honest = s.honest} {trusted = s.true_to_digests} (around_books e.around) (moment_of words w') c.is_sound.ensures.books;
+      booked = booked_where {facts = s} (around_books e.around) (moment_of words w') c.is_sound.ensures.books;
     }
 
 pub returns-clause-none : goal.returns-clause-none
@@ -60,5 +55,5 @@ returns-clause-none g c = λ words.
       stays = e.stays;
       needs_none = λ trust t.
           subst (λ (n : ℕ). NoneNeeds n (view_at w c.args.g t) (pages_at w c.args.g t) (pages_at w' c.args.g t)) zero (c.in-Ok.ensures.needs_none trust t);
-      booked = booked_where {slots_of = s.slots} {honest = s.honest} {trusted = s.true_to_digests} (around_books e.around) (moment_of words w') c.is_sound.ensures.books;
+      booked = booked_where {facts = s} (around_books e.around) (moment_of words w') c.is_sound.ensures.books;
     }

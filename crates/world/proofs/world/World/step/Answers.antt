@@ -1,11 +1,5 @@
 use Rattle.std.proofs.Common.{◌≡◌, IfOk, refl, sym, subst}
-use Rattle.mips_step.specs.Accesses.{accesses, first_lack}
-use Rattle.mips_step.specs.Answer.{need_of}
-use Rattle.paged_bus.specs.Lacking.{lacks_in}
-use Rattle.guest.specs.Guests.{view_of}
-use Rattle.tenant.specs.Tenants.{TenantIs, pages_in}
-use Rattle.world.specs.Worlds.{WorldIs}
-use Rattle.world.proofs.Worlds.{guest_inside, guest_at, lent_of, kept_of, sound_after}
+use Rattle.world.proofs.All.{TenantIs, WorldIs, accesses, first_lack, guest_at, guest_inside, kept_of, lacks_in, lent_of, need_of, pages_in, sound_after, view_of}
 use Rattle.world.proofs.world.World.step.Goals as goal
 
 pub step_in-requires : goal.step_in-requires

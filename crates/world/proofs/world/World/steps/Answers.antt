@@ -1,11 +1,7 @@
 use Rattle.std.proofs.Common.{◌∙◌, Err, ap, refl, sym, subst, arith}
+use Rattle.world.proofs.All.{Machine, NoneNeeds, PagedBusIs, books_then, log_at, pages_at, same_boots, same_logs, view_at}
 use Rattle.guest.proofs.Running.{no_step}
 use Rattle.world.proofs.Runs.{stays_there, steps_join, steps_none, stays_none, stays_then}
-use Rattle.world.proofs.Worlds.{same_boots, same_logs, books_then}
-use Rattle.mips_step.specs.Step.{Machine}
-use Rattle.paged_bus.specs.Buses.{PagedBusIs}
-use Rattle.world.specs.Steps.{NoneNeeds}
-use Rattle.world.specs.Worlds.{log_at, pages_at, view_at}
 use Rattle.world.proofs.Unsupplied.{no_steps, then_more, same_places, view_on}
 use Rattle.world.proofs.world.World.steps.Goals as goal
 

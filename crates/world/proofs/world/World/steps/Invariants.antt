@@ -1,10 +1,5 @@
 use Rattle.std.proofs.Common.{◌≡◌, ℕ, ◌-◌, ◌<◌, ◌≤◌, ◌++◌, length, map}
-use Rattle.items.specs.Entries.{steps_of}
-use Rattle.flatvm.specs.Items.{run}
-use Rattle.tenant.specs.Tenants.{TenantIs, Stays}
-use Rattle.world.specs.Events.{steps_for}
-use Rattle.world.specs.Steps.{NoneNeeds}
-use Rattle.world.specs.Worlds.{Changes, OnlyBooksChange, boot_of, log_at, pages_at, view_at}
+use Rattle.world.proofs.All.{Changes, NoneNeeds, OnlyBooksChange, Stays, TenantIs, boot_of, log_at, pages_at, run, steps_for, steps_of, view_at}
 use Rattle.world.proofs.world.World.steps.Given as goal
 
 -- the log has the steps so far, and before the first nothing has happened

@@ -1,11 +1,9 @@
 use Rattle.std.proofs.Common.{◌∙◌, Err, get_or, ap, sym, subst, arith}
+use Rattle.world.proofs.All.{IsAccessed, IsNeeded, RunStop, StopsBy, WhyHalted, around_books, around_then, guests_move, guests_stay, guests_then, moment_of, same_logs}
 use Rattle.world.specs.declared.running.End.TheVariants.{Need, Stop}
-use Rattle.world.specs.declared.running.RunStop.{RunStop}
-use Rattle.world.proofs.Admitting.{guests_then, guests_stay, guests_move}
-use Rattle.world.specs.Choices.{moment_of, StopsBy}
+use Rattle.world.proofs.Damaged.{halted_later}
 use Rattle.world.proofs.Choices.{steps_where, met_where, fault_where, one_more_supplied, then_made, then_none, last_made, last_none, stop_not_done, stops_unmade, stops_faulted}
-use Rattle.world.proofs.Runs.{still_there, stays_there, fault_stays, need_not_full, moved_room, fault_ready, ready_stays, ready_supplied, not_made_on, on_err}
-use Rattle.world.proofs.Worlds.{same_logs, around_then, around_books}
+use Rattle.world.proofs.Runs.{still_accessed, still_there, stays_there, fault_stays, need_not_full, moved_room, fault_ready, ready_stays, ready_supplied, not_made_on, on_err}
 use Rattle.world.proofs.world.World.steps_supplied.Goals as goal
 
 pub returns-in-Err-Stop-clause-not_made : goal.returns-in-Err-Stop-clause-not_made
@@ -46,6 +44,22 @@ loop-preserved g c =
           fault_ready half.tenants new.tenants c.args.g c.in-Err-Need.field-0-0 c.in-Err-Need.field-0-1 t (stays_there stepped.stays so.inside) e.moves need
           (c.in_default.ensures.supplied (around.store.true_to_digests.1 trust) t c.in-Err-Need.field-0-0 c.in-Err-Need.field-0-1 need);
     }
+
+pub returns-in-Err-clause-stop : goal.returns-in-Err-clause-stop
+returns-in-Err-clause-stop g c =
+    let s = g.S.SwapStore in
+    let w = c.args.self.now in
+    let half = c.some_steps.new.self in
+    let new = c.fault.new.self in
+    let so = c.loop.invariant in
+    let stepped = c.some_steps.ensures in
+    subst (λ (why : RunStop). WhyHalted s c.args.g (IsAccessed s new c.args.g) w new why) (sym c.stop_of.ensures)
+    (halted_later {facts = s} c.args.g (IsNeeded s half c.args.g) (IsAccessed s new c.args.g) w half new
+    (around_then so.around (around_books stepped.around)) (ap s.failed stepped.around.store ∙ so.failed)
+    (λ q needed trust t.
+    let need = needed (c.fault.ensures.around.store.true_to_digests.0 trust) t in
+    still_accessed half.tenants new.tenants c.args.g q need.0 t (stays_there stepped.stays so.inside) c.fault.ensures.moves need.1)
+    c.in-Err.error c.in-Err.ensures.err)
 
 pub returns-in-Err-clause-room : goal.returns-in-Err-clause-room
 returns-in-Err-clause-room g c = λ apart t full.

@@ -1,13 +1,6 @@
-use Rattle.std.proofs.Common.{◌≡◌, Err, IfErr, subst}
-use Rattle.std.proofs.lemmas.Result.{on_err_weaker}
-use Rattle.paging.specs.declared.supply.SupplyError.TheVariants.{SwapDamaged}
-use Rattle.paging.specs.Supplies.{WhyAway}
-use Rattle.swapstore.specs.Failures.{one_more}
-use Rattle.guest.specs.Guests.{view_of}
-use Rattle.guest.specs.Views.{pages_seen}
+use Rattle.std.proofs.Common.{◌≡◌, ◌∙◌, IfErr, subst}
+use Rattle.world.proofs.All.{HasDamage, IsDamagedPage, TenantIs, WhyAway, WorldIs, any_default, guest_inside, kept_of, lent_of, on_err_weaker, one_more, page_at, pages_in, pages_seen, same_guests, sound_after, view_of, why_away}
 use Rattle.tenant.proofs.Keeping.{moved_kept}
-use Rattle.world.specs.Worlds.{WorldIs}
-use Rattle.world.proofs.Worlds.{guest_inside, lent_of, kept_of, sound_after, same_guests, why_away}
 use Rattle.world.proofs.world.World.supply.Goals as goal
 
 pub supply_page-requires-clause-lent : goal.supply_page-requires-clause-lent
@@ -27,11 +20,13 @@ returns-clause-err g c =
     let s = g.S.SwapStore in
     let w = c.self.inside in
     let e = c.supply_page.ensures in
-    let no : c.supply_page.result ≡ Err SwapDamaged → s.honest w.store → ⊥ = λ is honest.
-    let kept = kept_of c.self.invariant (guest_inside c.self.view_is c.requires.guest) c.index_mut.ensures.value (g.met.S.SwapStore.honest_is_true w.store honest) in
-    e.undamaged is honest (pages_seen (view_of c.index_mut.result.now.guest)) kept.pages in
-    subst (λ (x : WorldIs _). IfErr c.supply_page.result (WhyAway x.pool (s.failed c.supply_page.new.store ≡ one_more (s.failed x.store)) (s.honest x.store → ⊥))) c.self.view_is
-    (why_away c.supply_page.result w.pool _ _ (s.honest w.store → ⊥) no e.err)
+    let inside = guest_inside c.self.view_is c.requires.guest in
+    let its = c.index_mut.result.now in
+    subst (λ (x : WorldIs _). IfErr c.supply_page.result (WhyAway x.pool (s.failed c.supply_page.new.store ≡ one_more (s.failed x.store)) (HasDamage s x.store x.tenants c.args.g c.args.p))) c.self.view_is
+    (why_away c.supply_page.result w.pool _ _ (HasDamage s w.store w.tenants.items c.args.g c.args.p) (λ is damaged. record {
+      damaged = λ t. subst (λ (u : TenantIs). IsDamagedPage s w.store (page_at (pages_in u) c.args.p)) (c.index_mut.ensures.value ∙ any_default w.tenants.items c.args.g its t inside) damaged;
+      dishonest = λ honest. e.undamaged is honest (pages_seen (view_of its.guest)) (kept_of c.self.invariant inside c.index_mut.ensures.value (g.met.S.SwapStore.honest_is_true w.store honest)).pages;
+    }) e.err)
 
 pub returns-clause-unchanged : goal.returns-clause-unchanged
 returns-clause-unchanged g c =

@@ -1,5 +1,5 @@
 use Rattle.std.proofs.Common.{◌<◌, length, sym, subst}
-use Rattle.tenant.specs.Tenants.{TenantIs, pages_in}
+use Rattle.world.proofs.All.{TenantIs, pages_in}
 use Rattle.world.proofs.world.World.supply_one.Goals as goal
 
 pub kind-requires : goal.kind-requires

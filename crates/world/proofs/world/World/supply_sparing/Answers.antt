@@ -1,5 +1,7 @@
-use Rattle.std.proofs.Common.{ℕ, ◌<◌, sym, subst}
-use Rattle.world.proofs.Victims.{only_pages, pages_then, same_pages, still_inside, supplied_spares}
+use Rattle.std.proofs.Common.{ℕ, ◌≡◌, ◌<◌, rules, sym, subst}
+use Rattle.world.specs.All.{HasDamage}
+use Rattle.world.proofs.All.{only_pages, pages_then, same_pages, still_inside, supplied_spares}
+use Rattle.world.proofs.Damaged.{found_damage}
 use Rattle.world.proofs.world.World.supply_sparing.Goals as goal
 
 pub supply-supplied-requires-clause-page : goal.supply-supplied-requires-clause-page
@@ -14,6 +16,13 @@ returns-in-Ok-clause-moves g c =
     let mid = c.make_room.new.self.tenants in
     pages_then ts mid c.supply-supplied.new.self.tenants c.make_room.ensures.moves
     (only_pages c.args.g mid c.supply-supplied.new.self.tenants (still_inside ts mid c.args.g c.requires.guest c.make_room.ensures.moves) c.supply-supplied.ensures.moves)
+
+pub returns-in-Err-SwapDamaged-clause-err : goal.returns-in-Err-SwapDamaged-clause-err
+returns-in-Err-SwapDamaged-clause-err g c =
+    let mid = c.make_room.new.self in
+    let damage : HasDamage g.S.SwapStore mid.store mid.tenants c.args.g c.args.p = search rules in
+    let same : c.supply-supplied.new.self.tenants ≡ mid.tenants = search rules in
+    found_damage c.make_room.ensures.around c.in_ok-make_room.ensures.no_failure c.is_sound.ensures c.supply-supplied.ensures.around same c.is_sound-2.ensures damage
 
 pub returns-in-Ok-clause-others : goal.returns-in-Ok-clause-others
 returns-in-Ok-clause-others g c =

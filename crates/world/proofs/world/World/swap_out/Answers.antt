@@ -1,6 +1,5 @@
 use Rattle.std.proofs.Common.{◌<◌, sym, subst}
-use Rattle.physmap.specs.Holdings.{resident_pages}
-use Rattle.tenant.specs.Tenants.{TenantIs, pages_in}
+use Rattle.world.proofs.All.{TenantIs, pages_in, resident_pages}
 use Rattle.world.proofs.Turning.{still_err}
 use Rattle.world.proofs.world.World.swap_out.Goals as goal
 

@@ -1,10 +1,6 @@
 use Rattle.std.proofs.Common.{◌+◌, ◌<◌, ◌≤◌, None, false, length, get_or, ◌∙◌, arith}
-use Rattle.reclaim.specs.declared.turn.Action.{Action}
-use Rattle.world.specs.Choices.{moment_of}
-use Rattle.world.specs.Turns.{LosesPages}
+use Rattle.world.proofs.All.{Action, LosesPages, any_default, around_then, moment_of, some_tenant}
 use Rattle.world.proofs.Choices.{then_outs, then_end, up_to, end_up_to}
-use Rattle.world.proofs.Worlds.{any_default, around_then}
-use Rattle.world.proofs.Victims.{some_tenant}
 use Rattle.world.proofs.Turning.{next_count, others_same, fewer_more, cut_short, moves_more, on_err}
 use Rattle.world.proofs.world.World.swap_out_each.Goals as goal
 

@@ -1,8 +1,5 @@
 use Rattle.std.proofs.Common.{◌≡◌, length}
-use Rattle.world.specs.Choices.{moment_of, SwapOuts}
-use Rattle.world.specs.Turns.{AreFewer, SameFrom}
-use Rattle.world.specs.Worlds.{AroundStays}
-use Rattle.world.specs.Victims.{OnlyPagesMove}
+use Rattle.world.proofs.All.{AreFewer, AroundStays, OnlyPagesMove, SameFrom, SwapOuts, moment_of}
 use Rattle.world.proofs.world.World.swap_out_each.Given as goal
 
 -- the guests so far have lost their pages, the others are as they were, and no call of the store has failed
@@ -14,5 +11,5 @@ invariant-loop-g w l = record {
   others : SameFrom l.g l.fn.self.tenants l.self.tenants;
   outs : SwapOuts l.fn.self.frames (w.S.SwapStore.slots l.fn.self.store) 0 l.g (moment_of (w.R.Rng.stream l.fn.rng) l.fn.self) (moment_of (w.R.Rng.stream l.rng) l.self);
   failed : w.S.SwapStore.failed l.self.store ≡ w.S.SwapStore.failed l.fn.self.store;
-  around : AroundStays w.S.SwapStore.slots w.S.SwapStore.honest w.S.SwapStore.true_to_digests l.fn.self l.self;
+  around : AroundStays w.S.SwapStore l.fn.self l.self;
 }

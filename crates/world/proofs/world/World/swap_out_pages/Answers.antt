@@ -1,9 +1,7 @@
 use Rattle.std.proofs.Common.{◌∙◌, get_or, length-set, ap, length, arith}
-use Rattle.world.specs.Choices.{moment_of}
+use Rattle.world.proofs.All.{around_then, moment_of, some_tenant}
 use Rattle.world.proofs.Choices.{none_out, one_out, then_outs, then_end}
 use Rattle.world.proofs.Turning.{one_loses_more, on_err}
-use Rattle.world.proofs.Victims.{some_tenant}
-use Rattle.world.proofs.Worlds.{around_then}
 use Rattle.world.proofs.world.World.swap_out_pages.Goals as goal
 
 pub loop-preserved : goal.loop-preserved

@@ -1,10 +1,5 @@
 use Rattle.std.proofs.Common.{◌<◌, ◌∷◌, [], None, false, List, length, get_or, ap, sym, subst, arith, length-append}
-use Rattle.reclaim.specs.declared.turn.Action.{Action}
-use Rattle.tenant.specs.Tenants.{TenantIs}
-use Rattle.tenant.specs.declared.turning.Aim.{Aim}
-use Rattle.world.specs.Turns.{IsTurned}
-use Rattle.world.proofs.Worlds.{any_default, same_then}
-use Rattle.world.proofs.Victims.{some_tenant}
+use Rattle.world.proofs.All.{Action, Aim, IsTurned, TenantIs, any_default, same_then, some_tenant}
 use Rattle.world.proofs.Turning.{next_count, others_same, turned_more}
 use Rattle.world.proofs.world.World.turn_each.Goals as goal
 

@@ -1,9 +1,5 @@
 use Rattle.std.proofs.Common.{◌≡◌, ℕ, ◌<◌, ◌≤◌, length, get_or, vec_len, vec_capacity}
-use Rattle.reclaim.specs.declared.turn.Action.{Action}
-use Rattle.tenant.specs.Tenants.{TenantIs}
-use Rattle.tenant.specs.declared.turning.Aim.{Aim}
-use Rattle.world.specs.Turns.{IsTurned, SameFrom}
-use Rattle.world.specs.Worlds.{SameAround}
+use Rattle.world.proofs.All.{Action, Aim, IsTurned, SameAround, SameFrom, TenantIs}
 use Rattle.world.proofs.world.World.turn_each.Given as goal
 
 -- the guests so far are turned, and the others are as they were

@@ -1,4 +1,4 @@
-use Rattle.world.proofs.Worlds.{guest_inside, input_sound}
+use Rattle.world.proofs.All.{guest_inside, input_sound}
 use Rattle.world.proofs.world.World.turn_guest.Goals as goal
 
 pub invariant_of-self : goal.invariant_of-self

@@ -1,11 +1,7 @@
 use Rattle.std.proofs.Common.{ℕ, suc, ◌≡◌, ◌++◌, ◌∷◌, [], All, List, length, sum_by, sym, ap, subst, ◌∙◌, append_assoc, arith}
-use Rattle.std.proofs.lemmas.List.Sums.{sum_by_push, sum_by-append, sum_by-cons}
-use Rattle.std.specs.Vec.Iter.{into_iter_items}
-use Rattle.world.specs.declared.boot.NewGuest.{NewGuest}
-use Rattle.world.specs.Boots.{IsWithinLimits, HoldsImage}
+use Rattle.world.proofs.All.{HoldsImage, IsWithinLimits, NewGuest, around_then, into_iter_items, sum_by-append, sum_by-cons, sum_by_push}
 use Rattle.world.proofs.BootedGuests.{one_booted, one_more_first, if_err_and}
 use Rattle.world.proofs.SlotOrder.{one_more_in_order}
-use Rattle.world.proofs.Worlds.{around_then}
 use Rattle.world.proofs.world.World.with_guests.Goals as goal
 
 pub loop-guest-preserved : goal.loop-guest-preserved

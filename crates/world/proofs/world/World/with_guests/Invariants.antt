@@ -1,8 +1,5 @@
 use Rattle.std.proofs.Common.{◌≡◌, ◌+◌, ◌≤◌, ◌++◌, All, length, sum_by}
-use Rattle.std.specs.Vec.Iter.{into_iter_items, into_iter_len}
-use Rattle.world.specs.declared.boot.NewGuest.{NewGuest}
-use Rattle.world.specs.Boots.{IsWithinLimits, HoldsImage, AreBooted, FramesComeFirst, SlotsComeInOrder}
-use Rattle.world.specs.Worlds.{AroundStays}
+use Rattle.world.proofs.All.{AreBooted, AroundStays, FramesComeFirst, HoldsImage, IsWithinLimits, NewGuest, SlotsComeInOrder, into_iter_items, into_iter_len}
 use Rattle.world.proofs.world.World.with_guests.Given as goal
 
 -- the guests so far are booted
@@ -18,5 +15,5 @@ invariant-loop-guest g l = record {
   taken : length l.fn.self.pool.free + length l.fn.self.slots.free ≤ length l.world.pool.free + length l.world.slots.free + sum_by (λ (n : NewGuest). n.pages) l.yielded;
   no_failure : g.S.SwapStore.failed l.world.store ≡ g.S.SwapStore.failed l.fn.self.store;
   shares : l.world.shares ≡ l.fn.self.shares;
-  around : AroundStays g.S.SwapStore.slots g.S.SwapStore.honest g.S.SwapStore.true_to_digests l.fn.self l.world;
+  around : AroundStays g.S.SwapStore l.fn.self l.world;
 }

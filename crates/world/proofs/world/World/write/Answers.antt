@@ -1,18 +1,6 @@
-use Rattle.world.proofs.Admitting.{guests_stay}
 use Rattle.std.proofs.Common.{◌≡◌, ℕ, ◌++◌, List, Err, get_or, sym, ap, subst, ◌∙◌}
-use Rattle.items.specs.declared.item.Item.{Item}
-use Rattle.items.specs.declared.item.What.TheVariants.{Write}
-use Rattle.flatvm.specs.Items.{accepts}
-use Rattle.guest.specs.Guests.{standing}
-use Rattle.physmap.specs.Pages.{kind_at}
-use Rattle.world.specs.Debugging.{write_of, written_items}
-use Rattle.world.specs.Events.{input_items}
-use Rattle.tenant.specs.Tenants.{pages_in}
-use Rattle.paged_bus.specs.Writes.{WritesTo}
-use Rattle.world.specs.Worlds.{log_at, item_for}
-use Rattle.world.proofs.Victims.{some_tenant}
+use Rattle.world.proofs.All.{Item, Write, WritesTo, accepts, guests_stay, input_items, input_logs, item_for, kind_at, log_at, pages_in, some_tenant, standing, write_of, written_items}
 use Rattle.world.proofs.Reached.{accepted_where_placed, not_both, stored_to}
-use Rattle.world.proofs.Worlds.{input_logs}
 use Rattle.world.proofs.world.World.write.Goals as goal
 use Rattle.world.proofs.world.World.write.Goals.{in-Ok, in-Err-Stop-Memory, in-Err-Stop-LogFull}
 
