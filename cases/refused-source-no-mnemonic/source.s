@@ -1,2 +1,2 @@
 eret
-move $1,$2
+bgt $1,$2

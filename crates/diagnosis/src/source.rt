@@ -1,19 +1,25 @@
 //! Sources.
-ghost use Rattle.std.specs.Prelude.{◌≤◌, ◌↔◌, IsSome};
+ghost use Rattle.std.specs.Prelude.{◌≡◌, ◌≤◌, ◌↔◌, IsSome};
+ghost use Rattle.std.specs.Result.{result_err};
+ghost use Rattle.masm_lines.specs.Grammar as grammar;
 
 use crate::words::{Words, quoted};
+use masm_lines::{AsmFault, line_of};
 use std::alloc::{AllocError, Global};
+
+/// Behind the first fault so many lines are told at most.
+const MOST_LATER: usize = 19;
 
 /// What is wrong with a source, by the number of the fault, 1 to 9.
 static REASONS: [&str; 9] = [
     "a character that is no ASCII, or a first word that is neither a name nor a directive",
-    "no instruction or directive has this name (for nop write sll $0,$0,0, for move addu)",
+    "no instruction or directive has this name",
     "operands of another number or form than this instruction or directive has",
     "a number out of its range, or a target that is out of reach or no multiple of 4",
     "a name that is no label of the source",
     "an earlier line has this label already",
     "content that may not stand here: a word at no multiple of 4, an address outside 80000000 to 9fffffff, bytes over earlier bytes, or a 65th segment",
-    "the source has no content: no instruction, .word, .byte or .space",
+    "the source has no content: no instruction and no directive that puts bytes",
     "the entry is no multiple of 4, or lies in no segment: see .entry",
 ];
 
@@ -46,6 +52,62 @@ pub fn explain(
     let line = quoted(alloc, &without_tabs(alloc, line)?)?;
     let text = format!(in alloc; "{reason}: {line}")?;
     Ok(Some(Words::of(alloc, &text)?))
+}
+
+/// The fault that a line has by itself, whatever the other lines are.
+fn own_fault(line: &[u8]) -> Option<AsmFault>
+    ensures { result ≡ result_err (grammar.line_of line.now) }
+{
+    match line_of(line) {
+        Ok(_) => None,
+        Err(fault) => Some(fault),
+    }
+}
+
+/// Words for the lines behind this one, counted from 1, that are wrong by themselves: for each of the first of them, and at the
+/// end how many more there are. What is wrong with a line only because of others isn't told: it may follow from their faults.
+pub fn explain_later(alloc: Global, line: u64, source: &[u8]) -> Result<Vec<Words>, AllocError> {
+    let text = String::from_utf8_lossy(alloc, source)?;
+    let mut told = Vec::new(alloc);
+    let (mut number, mut untold) = (0u64, 0u64);
+    for later in text.lines() {
+        number = number.saturating_add(1);
+        let found = if number > line {
+            own_fault(later.as_bytes())
+        } else {
+            None
+        };
+        if let Some(fault) = found {
+            if told.len() < MOST_LATER {
+                told.push(line_words(alloc, number, fault, source)?)?;
+            } else {
+                untold = untold.saturating_add(1);
+            }
+        }
+    }
+    if untold > 0 {
+        let text = if untold == 1 {
+            format!(in alloc; "and 1 more line is wrong")?
+        } else {
+            format!(in alloc; "and {untold} more lines are wrong")?
+        };
+        told.push(Words::of(alloc, &text)?)?;
+    }
+    Ok(told)
+}
+
+/// Words for a fault of the line with this number of a source.
+fn line_words(
+    alloc: Global,
+    number: u64,
+    fault: AsmFault,
+    source: &[u8],
+) -> Result<Words, AllocError> {
+    let reason = reason(fault.number()).unwrap_or("");
+    let line = line_at(source, number).unwrap_or(&[]);
+    let line = quoted(alloc, &without_tabs(alloc, line)?)?;
+    let text = format!(in alloc; "line {number}: {reason}: {line}")?;
+    Words::of(alloc, &text)
 }
 
 /// A line without blanks at its ends, and a blank for each tab, which means the same.

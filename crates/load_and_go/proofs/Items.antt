@@ -4,7 +4,7 @@ use Rattle.std.proofs.lemmas.List.{get_or_append_left, get_or-append-add}
 use Rattle.mips_step.specs.Step.{Machine}
 use Rattle.flatvm.specs.Replies.{byte_at, bytes_at}
 use Rattle.flatvm.proofs.Replies.{read_whole}
-use Rattle.masm.specs.Meanings.{Content, Code, Bytes, item_size}
+use Rattle.masm.specs.Meanings.{Content, Code, Pair, Bytes, item_size}
 use Rattle.masm.specs.Images.{StandFor, AreBytesOf}
 use Rattle.load_and_go.specs.Holds.{HoldsItem, HoldsFrom}
 
@@ -15,6 +15,7 @@ AreAt m address bytes = (k : ℕ) → k < length bytes → byte_at m ((address +
 -- how many bytes an item has
 item_length : (item : Content) (bytes : List ℕ) → StandFor bytes item → length bytes ≡ item_size item
 item_length (Code i) bytes h = ap length h.1
+item_length (Pair i j) bytes h = ap length h.2
 item_length (Bytes written) bytes h = ap length h
 
 -- bytes at their addresses, and so those of them that stand first

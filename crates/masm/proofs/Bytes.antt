@@ -2,7 +2,7 @@
 use Rattle.std.proofs.Common.{◌≡◌, ℕ, ◌+◌, List, [], ◌∷◌, ◌++◌, length, refl, ◌∙◌, sym, ap, append_assoc, sum_by}
 use Rattle.std.proofs.lemmas.List.{append-nil, length-append}
 use Rattle.std.proofs.lemmas.List.Sums.{sum_by-cons}
-use Rattle.masm.specs.Meanings.{Content, Code, Bytes, item_size}
+use Rattle.masm.specs.Meanings.{Content, Code, Pair, Bytes, item_size}
 use Rattle.masm.specs.Images.{StandFor, AreBytesOf}
 
 -- an item at the end
@@ -14,6 +14,7 @@ bytes_append (i ∷ items) item bytes more all last =
 -- how many bytes an item has
 item_length : (item : Content) (bytes : List ℕ) → StandFor bytes item → length bytes ≡ item_size item
 item_length (Code i) bytes h = ap length h.1
+item_length (Pair i j) bytes h = ap length h.2
 item_length (Bytes written) bytes h = ap length h
 
 pub bytes_length : (items : List Content) (bytes : List ℕ) → AreBytesOf bytes items → length bytes ≡ sum_by item_size items

@@ -23,3 +23,4 @@ pub mod PrintedOperands
 pub mod PrintedRanges
 pub mod Spans
 pub mod TakenApart
+pub mod WordLists

@@ -5,11 +5,12 @@ use Rattle.std.proofs.lemmas.List.{map-append, length-replicate}
 use Rattle.std.proofs.lemmas.List.Sums.{sum_by-append, sum_by-cons}
 use Rattle.word32.specs.Zeros.{zeros}
 use Rattle.masm_lines.specs.Grammar.{Line}
-use Rattle.masm_lines.specs.Statements.{Statement, Instruction, Transfer, Word, AddressOf, Byte, Space, Org, Entry}
+use Rattle.masm_lines.specs.Statements.{Statement, Instruction, Transfer, Load, Word, AddressOf, Words, Byte, Data, Space, Org, Entry}
 use Rattle.masm.specs.Names.{Names, known_address, value_address}
 use Rattle.masm.specs.Places.{Layout, segment_at, spans, after_statement}
 use Rattle.masm_lines.specs.Statements.{size_of}
-use Rattle.masm.specs.Meanings.{Content, Code, Bytes, item_size, item_of, aimed}
+use Rattle.masm.specs.Meanings.{Content, Code, Bytes, item_size, item_of, aimed, loaded, words_bytes}
+use Rattle.masm.proofs.WordLists.{words_size}
 use Rattle.masm.specs.Listings.{Part, Output, part_size, part_at, parts_of, next_place, with_item, with_statement}
 use Rattle.masm.specs.Assembly.{Puts, ArePlaced}
 use Rattle.masm_lines.specs.Steps.{◌>>=◌}
@@ -40,11 +41,20 @@ item_sized names address (Transfer i value) item h =
     let whole = answered (aimed i address target.0) (λ whole. Ok (Code whole)) item target.2 in
     let e : Code whole.0 ≡ item = cc in
     ap item_size (sym e)
+item_sized names address (Load rt value) item h =
+    let found = answered (value_address names value) (λ n. Ok (loaded rt n)) item h in
+    let e : loaded rt found.0 ≡ item = cc in
+    ap item_size (sym e)
 item_sized names address (Word n) item h = let e : Bytes (to_le_bytes w32 n) ≡ item = cc in ap item_size (sym e)
 item_sized names address (AddressOf name) item h =
     let known = answered (known_address names name) (λ n. Ok (Bytes (to_le_bytes w32 n))) item h in
     let e : Bytes (to_le_bytes w32 known.0) ≡ item = cc in
     ap item_size (sym e)
+item_sized names address (Words values) item h =
+    let found = answered (words_bytes names values) (λ bytes. Ok (Bytes bytes)) item h in
+    let e : Bytes found.0 ≡ item = cc in
+    ap item_size (sym e) ∙ words_size names values found.0 found.1
+item_sized names address (Data alignment bytes) item h = let e : Bytes bytes ≡ item = cc in ap item_size (sym e)
 item_sized names address (Byte n) item h = let e : Bytes (n ∷ []) ≡ item = cc in ap item_size (sym e)
 item_sized names address (Space n) item h = let e : Bytes (zeros n) ≡ item = cc in ap item_size (sym e) ∙ length-replicate n 0
 item_sized names address (Org start) item h = let e : Bytes [] ≡ item = cc in ap item_size (sym e)
@@ -70,6 +80,9 @@ put_mirrors names before after (Some (Instruction i)) h = item_mirrors names bef
 put_mirrors names before after (Some (Transfer i value)) h = item_mirrors names before after (Transfer i value) h
 put_mirrors names before after (Some (Word n)) h = item_mirrors names before after (Word n) h
 put_mirrors names before after (Some (AddressOf name)) h = item_mirrors names before after (AddressOf name) h
+put_mirrors names before after (Some (Load rt value)) h = item_mirrors names before after (Load rt value) h
+put_mirrors names before after (Some (Words values)) h = item_mirrors names before after (Words values) h
+put_mirrors names before after (Some (Data alignment bytes)) h = item_mirrors names before after (Data alignment bytes) h
 put_mirrors names before after (Some (Byte n)) h = item_mirrors names before after (Byte n) h
 put_mirrors names before after (Some (Space n)) h = item_mirrors names before after (Space n) h
 put_mirrors names before after (Some (Org start)) h =

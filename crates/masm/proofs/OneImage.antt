@@ -10,7 +10,7 @@ use Rattle.masm.specs.Disassembly.{lines_at, segment_lines, image_lines, IsListi
 use Rattle.masm.specs.Executables.{IsExecutableOf}
 use Rattle.masm.specs.Images.{StandFor, AreBytesOf, IsSegmentOf, AreSegmentsOf, IsImageOf}
 use Rattle.masm.specs.Listings.{Part, Listing}
-use Rattle.masm.specs.Meanings.{Content, Code, Bytes}
+use Rattle.masm.specs.Meanings.{Content, Code, Pair, Bytes}
 use Rattle.masm.proofs.MeansWhole.{means_one}
 
 -- no two words encode one instruction
@@ -19,6 +19,8 @@ OneWord = (a b : ℕ) (i : Instr) → readings a ≡ i ∷ [] → readings b ≡
 
 item_bytes : OneWord → (item : Content) (a b : List ℕ) → StandFor a item → StandFor b item → a ≡ b
 item_bytes one (Code i) a b h k = h.1 ∙ ap (to_le_bytes w32) (one h.0 k.0 i h.2 k.2) ∙ sym k.1
+item_bytes one (Pair i j) a b h k =
+    h.2 ∙ ap (λ (bytes : List ℕ). bytes ++ to_le_bytes w32 h.1) (ap (to_le_bytes w32) (one h.0 k.0 i h.3 k.3)) ∙ ap (λ (bytes : List ℕ). to_le_bytes w32 k.0 ++ bytes) (ap (to_le_bytes w32) (one h.1 k.1 j h.4 k.4)) ∙ sym k.2
 item_bytes one (Bytes written) a b h k = h ∙ sym k
 
 same_bytes : OneWord → (items : List Content) (a b : List ℕ) → AreBytesOf a items → AreBytesOf b items → a ≡ b

@@ -3,19 +3,19 @@ use Rattle.std.proofs.Common.{◌≡◌, ℕ, ◌<◌, List, [], ◌∷◌, ◌+
 use Rattle.std.proofs.lemmas.List.{length-append}
 use Rattle.std.proofs.lemmas.List.Sums.{sum_by-cons}
 use Rattle.elf32.specs.declared.image.Segment.{Segment}
-use Rattle.masm.specs.Meanings.{Content, Code, Bytes, item_size, item_of}
+use Rattle.masm.specs.Meanings.{Content, Code, Pair, Bytes, item_size, item_of}
 use Rattle.masm.specs.Images.{StandFor, AreBytesOf, IsSegmentOf, AreSegmentsOf}
 use Rattle.masm.specs.Listings.{Part, Output, with_statement, with_item, next_place, part_size, parts_of}
 use Rattle.masm.specs.declared.output.Output.{Output as OutputCode}
-use Rattle.masm.specs.Answers.{IsOutput}
+use Rattle.masm.specs.Answers.{IsOutput, is_word}
 use Rattle.masm.specs.Names.{Names}
-use Rattle.masm_lines.specs.Statements.{alignment_of}
 use Rattle.masm_lines.specs.Steps.{◌>>=◌}
-use Rattle.masm_lines.specs.Statements.{Statement, Instruction, Transfer, Word, AddressOf, Byte, Space, Org, Entry}
+use Rattle.masm_lines.specs.Statements.{Statement, Instruction, Transfer, Load, Word, AddressOf, Words, Byte, Data, Space, Org, Entry}
 
 -- the bytes of an item are as many as its size
 stand_size : (bs : List ℕ) (i : Content) → StandFor bs i → length bs ≡ item_size i
 stand_size bs (Code i) h = ap length h.1
+stand_size bs (Pair i j) h = ap length h.2
 stand_size bs (Bytes cs) h = ap length h
 
 pub bytes_size : (bs : List ℕ) (items : List Content) → AreBytesOf bs items → length bs ≡ sum_by item_size items
@@ -66,12 +66,20 @@ parts_kept o segments bs h e n = chosen_true (λ (ps : List Part). AreSegmentsOf
     (let size = bytes_size bs o.current.items e in grind (arith, size)) h
 
 -- a statement of a word puts its item
-pub word_item : (known : Names) (o : Output) (s : Statement) → alignment_of s ≡ 4 → with_statement known o (Some s) ≡ (item_of known (next_place o) s >>= λ item. Ok (with_item o item))
+pub word_item : (known : Names) (o : Output) (s : Statement) → is_word s ≡ true → with_statement known o (Some s) ≡ (item_of known (next_place o) s >>= λ item. Ok (with_item o item))
 word_item known o (Instruction i) h = refl
 word_item known o (Transfer i v) h = refl
 word_item known o (Word n) h = refl
 word_item known o (AddressOf n) h = refl
+word_item known o (Load rt v) h = refl
+word_item known o (Words values) h = refl
 word_item known o (Byte n) h = refl
+word_item known o (Data alignment bytes) h = refl
 word_item known o (Space n) h = refl
-word_item known o (Org n) h = absurd (omega arith)
-word_item known o (Entry n) h = absurd (omega arith)
+word_item known o (Org n) h = absurd (cc)
+word_item known o (Entry n) h = absurd (cc)
+
+-- bytes behind those of the output, unless memory was refused
+pub data_pushed : {A E : Type 0} (r : Result A E) (code : OutputCode) (bytes : Vec ℕ Global) (output : Output) (cs : List ℕ) (item : Content) → OnOk r (bytes.items ≡ code.bytes.items ++ cs) → IsOutput code output → StandFor cs item → OnOk r (IsOutput (record code { bytes = bytes }) (with_item output item))
+data_pushed (Ok a) code bytes output cs item e is s = item_pushed code bytes output cs item e is s
+data_pushed (Err a) code bytes output cs item e is s = tt

@@ -10,11 +10,12 @@ use Rattle.masm.specs.Answers.{IsOutput, HasRoom, HasRoomFor, HasRoomForLine}
 use Rattle.masm.specs.Assembly.{Reading, first_step, first_reading, placed, after_line, second_step}
 use Rattle.masm_lines.specs.Grammar.{Line, line_of}
 use Rattle.masm.specs.Listings.{Output, first_output, with_statement, with_item, part_size, part_at, parts_of, next_place}
-use Rattle.masm.specs.Meanings.{Content, Code, Bytes, item_size, item_of, aimed}
+use Rattle.masm.specs.Meanings.{Content, Code, Bytes, item_size, item_of, aimed, loaded, words_bytes}
+use Rattle.masm.proofs.WordLists.{words_size}
 use Rattle.masm.specs.Names.{Names, known_address, value_address, is_double}
 use Rattle.masm.specs.Places.{Layout, next_address, after_statement, is_misplaced, has_misplaced, is_outside, overlaps, is_one_too_many}
 use Rattle.masm_lines.specs.Statements.{alignment_of, size_of}
-use Rattle.masm_lines.specs.Statements.{Statement, Instruction, Transfer, Word, AddressOf, Byte, Space, Org, Entry}
+use Rattle.masm_lines.specs.Statements.{Statement, Instruction, Transfer, Load, Word, AddressOf, Words, Byte, Data, Space, Org, Entry}
 use Rattle.masm_lines.specs.Steps.{◌>>=◌}
 use Rattle.masm_lines.specs.declared.fault.AsmFault.{AsmFault}
 use Rattle.masm_lines.specs.declared.fault.AsmFault.TheVariants as fault
@@ -70,10 +71,17 @@ item_sized known address (Transfer i v) item h =
     let target = bound (value_address known v) (λ (target : ℕ). aimed i address target >>= λ whole. Ok (Code whole)) item h in
     let whole = bound (aimed i address target.0) (λ (whole : Instr). Ok (Code whole)) item target.2 in
     sized (Code whole.0) item whole.2
+item_sized known address (Load rt v) item h =
+    let n = bound (value_address known v) (λ (n : ℕ). Ok (loaded rt n)) item h in
+    sized (loaded rt n.0) item n.2
 item_sized known address (Word n) item h = sized (Bytes (to_le_bytes w32 n)) item h
 item_sized known address (AddressOf name) item h =
     let n = bound (known_address known name) (λ (n : ℕ). Ok (Bytes (to_le_bytes w32 n))) item h in
     sized (Bytes (to_le_bytes w32 n.0)) item n.2
+item_sized known address (Words values) item h =
+    let bytes = bound (words_bytes known values) (λ (bytes : List ℕ). Ok (Bytes bytes)) item h in
+    sized (Bytes bytes.0) item bytes.2 ∙ words_size known values bytes.0 bytes.1
+item_sized known address (Data alignment bytes) item h = sized (Bytes bytes) item h
 item_sized known address (Byte n) item h = sized (Bytes (n ∷ [])) item h
 item_sized known address (Space n) item h = sized (Bytes (zeros n)) item h ∙ length-replicate n 0
 item_sized known address (Org n) item h = sized (Bytes []) item h
@@ -128,6 +136,9 @@ put_in_step known layout output next s is h e =
 statement_in_step : (known : Names) (layout : Layout) (output next : Output) (s : Statement) → InStep layout output → is_misplaced layout s ≡ false → with_statement known output (Some s) ≡ Ok next → InStep (after_statement layout (Some s)) next
 statement_in_step known layout output next (Instruction i) is h e = put_in_step known layout output next (Instruction i) is h e
 statement_in_step known layout output next (Transfer i v) is h e = put_in_step known layout output next (Transfer i v) is h e
+statement_in_step known layout output next (Load rt v) is h e = put_in_step known layout output next (Load rt v) is h e
+statement_in_step known layout output next (Words values) is h e = put_in_step known layout output next (Words values) is h e
+statement_in_step known layout output next (Data alignment bytes) is h e = put_in_step known layout output next (Data alignment bytes) is h e
 statement_in_step known layout output next (Word n) is h e = put_in_step known layout output next (Word n) is h e
 statement_in_step known layout output next (AddressOf n) is h e = put_in_step known layout output next (AddressOf n) is h e
 statement_in_step known layout output next (Byte n) is h e = put_in_step known layout output next (Byte n) is h e

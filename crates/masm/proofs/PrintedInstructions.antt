@@ -1,5 +1,7 @@
 -- Each printed line puts its instruction.
-use Rattle.std.proofs.Common.{◌≡◌, ℕ, ◌%◌, ◌^◌, ◌<◌, ◌≤◌, pos, List, [], ◌∷◌, ◌++◌, refl, arith, Ok, None, codes, decimal}
+use Rattle.std.specs.List.{list_any}
+use Rattle.masm_lines.specs.Characters.{is_comma}
+use Rattle.std.proofs.Common.{◌≡◌, false, not, ℕ, ◌%◌, ◌^◌, ◌<◌, ◌≤◌, pos, List, [], ◌∷◌, ◌++◌, refl, arith, Ok, None, codes, decimal}
 use Rattle.std.specs.Fmt.{signed_decimal}
 use Rattle.std.specs.Int.{to_le_bytes, w32}
 use Rattle.mips_instr.specs.Coprocessor.{coprocessor_word}
@@ -40,11 +42,13 @@ use Rattle.masm_lines.specs.Instructions.{with_operands}
 use Rattle.masm.specs.Laws.{HasFields, LinePuts, item_printed}
 use Rattle.masm.specs.Meanings.{Code, Bytes, item_of, aimed, branch_offset, jump_index}
 use Rattle.masm_lines.specs.Operands.{Written, Register, Plain, Number, Based, operands_in}
-use Rattle.masm_lines.specs.Statements.{Instruction, Transfer, Word, instruction_statement, directive_statement, operation_of, named_directive}
+use Rattle.masm_lines.specs.Operations.{instruction_statement, directive_statement, operation_of, named_directive, operand_form, statement_with}
+use Rattle.masm_lines.specs.declared.operation.OperandForm.TheVariants.{Separate}
+use Rattle.masm_lines.specs.Statements.{Instruction, Transfer, Word}
 use Rattle.masm_lines.specs.Tokens.{trimmed, trimmed_start}
 use Rattle.masm_lines.specs.declared.operation.Directive.TheVariants as directive
 use Rattle.masm_lines.specs.declared.operation.Operation.TheVariants as operation
-use Rattle.masm.proofs.TakenApart.{IsOperand, AreOperands, one_operand, two_operands, three_operands}
+use Rattle.masm.proofs.TakenApart.{is_solid, solid_no_comma, all_imply, none_pass, IsOperand, AreOperands, one_operand, two_operands, three_operands}
 use Rattle.masm.proofs.PrintedNames.{IsName, register_named, conditional_move_named, shift_named, shift_variable_named, count_named, move_from_named, move_to_named, multiply_named, divide_named, immediate_named, load_named, store_named, cache_named, branch_named, branch_zero_named, jump_named, trap_named, trap_immediate_named, cp0_move_named, syscall_named, break_named, sync_named, jr_named, jalr_named, lui_named, wait_named}
 use Rattle.masm.proofs.PrintedNumbers.{decimal_number, half_number, hex_half_number, hex_word_number}
 use Rattle.masm.proofs.PrintedOperands.{register_operand, number_operand, based_operand}
@@ -276,7 +280,7 @@ aimed_jump op n address is = rw is refl
 
 -- the lines of the TLB
 tlb_line : (op : TlbOp) (address : ℕ) → LinePuts (tlb_mnemonic op) address (Code (instr.Tlb op))
-unfolding item_of line_of body_of label_of statement_or_nothing statement_in trimmed trimmed_start operation_of operands_in instruction_statement with_operands named_instruction arithmetic_named memory_named control_named hi_lo_named system_named single_named named_register named_conditional_move named_shift named_shift_variable named_count named_move_from named_move_to named_multiply named_divide named_immediate named_load named_store named_cache named_branch named_branch_zero named_jump named_trap named_trap_immediate named_cp0_move named_tlb
+unfolding item_of line_of body_of label_of statement_or_nothing statement_in statement_with trimmed trimmed_start operation_of operands_in instruction_statement with_operands named_instruction arithmetic_named memory_named control_named hi_lo_named system_named single_named named_register named_conditional_move named_shift named_shift_variable named_count named_move_from named_move_to named_multiply named_divide named_immediate named_load named_store named_cache named_branch named_branch_zero named_jump named_trap named_trap_immediate named_cp0_move named_tlb
 tlb_line Tlbr address = (Instruction (instr.Tlb Tlbr), refl, λ names. refl)
 tlb_line Tlbwi address = (Instruction (instr.Tlb Tlbwi), refl, λ names. refl)
 tlb_line Tlbwr address = (Instruction (instr.Tlb Tlbwr), refl, λ names. refl)
@@ -284,7 +288,7 @@ tlb_line Tlbp address = (Instruction (instr.Tlb Tlbp), refl, λ names. refl)
 
 -- the line of `eret`
 eret_line : (address : ℕ) → LinePuts (codes "eret") address (Code instr.Eret)
-unfolding item_of line_of body_of label_of statement_or_nothing statement_in trimmed trimmed_start operation_of operands_in instruction_statement with_operands named_instruction arithmetic_named memory_named control_named hi_lo_named system_named single_named named_register named_conditional_move named_shift named_shift_variable named_count named_move_from named_move_to named_multiply named_divide named_immediate named_load named_store named_cache named_branch named_branch_zero named_jump named_trap named_trap_immediate named_cp0_move named_tlb
+unfolding item_of line_of body_of label_of statement_or_nothing statement_in statement_with trimmed trimmed_start operation_of operands_in instruction_statement with_operands named_instruction arithmetic_named memory_named control_named hi_lo_named system_named single_named named_register named_conditional_move named_shift named_shift_variable named_count named_move_from named_move_to named_multiply named_divide named_immediate named_load named_store named_cache named_branch named_branch_zero named_jump named_trap named_trap_immediate named_cp0_move named_tlb
 eret_line address = (Instruction instr.Eret, refl, λ names. refl)
 
 -- the word of an instruction of coprocessor 1 or 2 is a word
@@ -316,10 +320,13 @@ unfolding operation_of named_directive
 word_named = refl
 
 -- the line of a word
+word_form : (text : List ℕ) → list_any is_comma text ≡ false → operand_form (operation.Directive directive.Word) text ≡ Separate
+word_form text h = rw h refl
+
 word_line : (n address : ℕ) → n < 2 ^ 32 → LinePuts (codes ".word" ++ 32 ∷ operand_text (printed.Word n)) address (Bytes (to_le_bytes w32 n))
 unfolding item_of
 word_line n address h =
-    (Word n, line_read (codes ".word") (operand_text (printed.Word n)) (operation.Directive directive.Word) (Plain (Number (pos n)) ∷ []) (Word n) (omega arith) refl (word_label (operand_text (printed.Word n))) word_named (one_operand _ _ (word_operand n h)) (word_reads n h), λ names. refl)
+    (Word n, line_read (codes ".word") (operand_text (printed.Word n)) (operation.Directive directive.Word) (Plain (Number (pos n)) ∷ []) (Word n) (omega arith) refl (word_label (operand_text (printed.Word n))) word_named (word_form (operand_text (printed.Word n)) (none_pass is_comma (operand_text (printed.Word n)) (all_imply is_solid (λ c. not (is_comma c)) solid_no_comma (operand_text (printed.Word n)) (word_operand n h).solid))) (one_operand _ _ (word_operand n h)) (word_reads n h), λ names. refl)
 
 -- each printed line puts its instruction
 pub printed_line : (i : Instr) (address : ℕ) → HasFields i → address % 4 ≡ 0 → 0x80000000 ≤ address → address < 0xa0000000 → LinePuts (instr_text i address) address (item_printed i)

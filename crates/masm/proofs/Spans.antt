@@ -2,7 +2,7 @@
 use Rattle.std.proofs.Common.{◌≡◌, ℕ, zero, suc, ◌+◌, ◌<◌, ◌≤◌, ◌⊎◌, inl, inr, Bool, true, false, ◌==◌, ◌%◌, ◌&&◌, ◌||◌, not, nat_lt, nat_le, if◌then◌else◌, List, [], ◌∷◌, ◌++◌, length, length-append, refl, sym, ap, subst, arith, Option, Some, None}
 use Rattle.std.specs.List.{list_any, AllByRecursion}
 use Rattle.std.proofs.lemmas.Bool.{ltb-false}
-use Rattle.masm_lines.specs.Statements.{Statement, Instruction, Transfer, Word, AddressOf, Byte, Space, Org, Entry}
+use Rattle.masm_lines.specs.Statements.{Statement, Instruction, Transfer, Load, Word, AddressOf, Words, Byte, Data, Space, Org, Entry}
 use Rattle.masm.specs.Places.{Layout, first_layout, next_address, spans, after_statement, overlaps, is_outside, is_one_too_many, is_misplaced, has_misplaced}
 use Rattle.masm_lines.specs.Statements.{size_of, alignment_of}
 use Rattle.masm.specs.declared.layout.Span.{Span}
@@ -142,8 +142,11 @@ pub after_sound : (l : Layout) (s : Option Statement) → has_misplaced l s ≡ 
 after_sound l None fits is = is
 after_sound l (Some (Instruction i)) fits is = put_sound l (Instruction i) fits is
 after_sound l (Some (Transfer i value)) fits is = put_sound l (Transfer i value) fits is
+after_sound l (Some (Load rt value)) fits is = put_sound l (Load rt value) fits is
 after_sound l (Some (Word n)) fits is = put_sound l (Word n) fits is
 after_sound l (Some (AddressOf name)) fits is = put_sound l (AddressOf name) fits is
+after_sound l (Some (Words values)) fits is = put_sound l (Words values) fits is
+after_sound l (Some (Data alignment bytes)) fits is = put_sound l (Data alignment bytes) fits is
 after_sound l (Some (Byte n)) fits is = put_sound l (Byte n) fits is
 after_sound l (Some (Space n)) fits is = put_sound l (Space n) fits is
 after_sound l (Some (Org start)) fits is = record { earlier = spans_sound l is; room = λ h. absurd (omega (arith, h)); within = λ h. absurd (omega (arith, h)); apart = λ h. absurd (omega (arith, h)) }

@@ -1,10 +1,10 @@
 -- When the state of the code is that of the definition, and when an answer of the code is the definition's.
-use Rattle.std.specs.Prelude.{◌≡◌, ℕ, List, Option, Some, None, Result, Ok, Err, length, MatchOption, ◌+◌, ◌<◌, ◌≤◌, ◌^◌}
+use Rattle.std.specs.Prelude.{◌≡◌, ℕ, Bool, true, false, List, Option, Some, None, Result, Ok, Err, length, MatchOption, ◌+◌, ◌<◌, ◌≤◌, ◌^◌}
 use Rattle.std.specs.Cmp.Lexicographic.{slice_cmp}
 use Rattle.std.specs.Ordering.{nat_cmp}
 use Rattle.std.specs.BTreeMap.{get_by}
 use Rattle.masm.specs.Names as names
-use Rattle.masm_lines.specs.Statements.{Statement}
+use Rattle.masm_lines.specs.Statements.{Statement, Instruction, Transfer, Word, AddressOf}
 use Rattle.masm_lines.specs.Grammar.{Line, line_of}
 use Rattle.masm_lines.specs.Statements.{size_of}
 use Rattle.masm.specs.Assembly.{Reading, Located}
@@ -52,6 +52,14 @@ Gives Is (Err (error.Memory a)) found = Unit {0}
 abbrev pub fault_in : AsmError → Option (AsmFault × ℕ)
 fault_in (error.Fault f line) = Some (f, line)
 fault_in (error.Memory a) = None
+
+-- a statement that puts one word
+abbrev pub is_word : Statement → Bool
+is_word (Instruction i) = true
+is_word (Transfer i value) = true
+is_word (Word n) = true
+is_word (AddressOf name) = true
+is_word s = false
 
 -- what is put so far lies below 2^32, and a statement may stand behind it as the first pass has found
 abbrev pub HasRoomFor : Output → Statement → Type 0

@@ -4,12 +4,14 @@ use Rattle.std.specs.Int.{to_le_bytes, w32}
 use Rattle.mips_isa.specs.Table.{readings}
 use Rattle.elf32.specs.declared.image.Segment.{Segment}
 use Rattle.elf32.specs.declared.image.Image.{Image}
-use Rattle.masm.specs.Meanings.{Content, Code, Bytes}
+use Rattle.masm.specs.Meanings.{Content, Code, Pair, Bytes}
 use Rattle.masm.specs.Listings.{Part, Listing}
 
 -- the bytes of an item: those of a word that decodes to the instruction, or the bytes themselves
 abbrev pub StandFor : List ℕ → Content → Type 0
 StandFor bytes (Code i) = (w : ℕ) × (bytes ≡ to_le_bytes w32 w) × (readings w ≡ i ∷ [])
+StandFor bytes (Pair i j) =
+    (v : ℕ) × (w : ℕ) × (bytes ≡ to_le_bytes w32 v ++ to_le_bytes w32 w) × (readings v ≡ i ∷ []) × (readings w ≡ j ∷ [])
 StandFor bytes (Bytes written) = bytes ≡ written
 
 -- the bytes of items, one after the other

@@ -1,12 +1,15 @@
 -- What a statement means at its place, once all names are known.
-use Rattle.std.specs.Prelude.{ℕ, ◌-◌, ◌/◌, ◌%◌, ◌^◌, ◌==◌, ◌&&◌, nat_le, nat_lt, if◌then◌else◌, List, [], ◌∷◌, length, Result, Ok, Err}
+use Rattle.std.specs.Prelude.{ℕ, ◌-◌, ◌/◌, ◌%◌, ◌^◌, ◌==◌, ◌&&◌, nat_le, nat_lt, if◌then◌else◌, List, [], ◌∷◌, ◌++◌, length, Result, Ok, Err}
 use Rattle.std.specs.Int.{to_le_bytes, w32}
 use Rattle.word32.specs.Zeros.{zeros}
 use Rattle.mips_instr.specs.Targets.{slot_address}
 use Rattle.mips_instr.specs.declared.instr.Instr.{Instr}
 use Rattle.mips_instr.specs.declared.instr.Instr.TheVariants as instr
+use Rattle.mips_instr.specs.declared.instr.ImmediateOp.TheVariants.{Ori}
+use Rattle.masm_lines.specs.Operands.{Value, Number, Name}
+use Rattle.masm_lines.specs.Ranges.{word_bits}
 use Rattle.masm.specs.Names.{Names, known_address, value_address}
-use Rattle.masm_lines.specs.Statements.{Statement, Instruction, Transfer, Word, AddressOf, Byte, Space, Org, Entry}
+use Rattle.masm_lines.specs.Statements.{Statement, Instruction, Transfer, Load, Word, AddressOf, Words, Byte, Data, Space, Org, Entry}
 use Rattle.masm_lines.specs.Steps.{◌>>=◌}
 use Rattle.masm_lines.specs.declared.fault.AsmFault.{AsmFault}
 use Rattle.masm_lines.specs.declared.fault.AsmFault.TheVariants as fault
@@ -14,10 +17,13 @@ use Rattle.masm_lines.specs.declared.fault.AsmFault.TheVariants as fault
 -- what a listing has at an address
 pub data Content : Type 0 where
   Code : Instr → Content
+  -- two instructions, one behind the other
+  Pair : Instr → Instr → Content
   Bytes : List ℕ → Content
 
 abbrev pub item_size : Content → ℕ
 item_size (Code i) = 4
+item_size (Pair i j) = 8
 item_size (Bytes bytes) = length bytes
 
 -- how many words a target is behind a slot or before it, as 16 bits
@@ -44,13 +50,30 @@ aimed (instr.BranchZero op rs _) address target = branch_offset address target >
 aimed (instr.Jump op _) address target = jump_index address target >>= λ index. Ok (instr.Jump op index)
 aimed i address target = Ok i
 
+-- LUI and ORI: the upper half of a number, and then the lower one
+abbrev pub loaded : ℕ → ℕ → Content
+loaded rt n = Pair (instr.LoadUpper rt (n / 2 ^ 16)) (instr.Immediate Ori rt rt (n % 2 ^ 16))
+
+-- the word that a number or a name is
+abbrev pub value_word : Names → Value → Result ℕ AsmFault
+value_word names (Number n) = word_bits n
+value_word names (Name name) = known_address names name
+
+-- the bytes of words
+abbrev pub words_bytes : Names → List Value → Result (List ℕ) AsmFault
+words_bytes names [] = Ok []
+words_bytes names (value ∷ more) = value_word names value >>= λ n. words_bytes names more >>= λ bytes. Ok (to_le_bytes w32 n ++ bytes)
+
 -- what a statement puts at its place
 unfoldable pub item_of : Names → ℕ → Statement → Result Content AsmFault
 item_of names address (Instruction i) = Ok (Code i)
 item_of names address (Transfer i value) = value_address names value >>= λ target. aimed i address target >>= λ whole. Ok (Code whole)
+item_of names address (Load rt value) = value_address names value >>= λ n. Ok (loaded rt n)
 item_of names address (Word n) = Ok (Bytes (to_le_bytes w32 n))
 item_of names address (AddressOf name) = known_address names name >>= λ n. Ok (Bytes (to_le_bytes w32 n))
+item_of names address (Words values) = words_bytes names values >>= λ bytes. Ok (Bytes bytes)
 item_of names address (Byte n) = Ok (Bytes (n ∷ []))
+item_of names address (Data alignment bytes) = Ok (Bytes bytes)
 item_of names address (Space n) = Ok (Bytes (zeros n))
 item_of names address (Org start) = Ok (Bytes [])
 item_of names address (Entry name) = known_address names name >>= λ n. Ok (Bytes [])

@@ -16,6 +16,7 @@ mod layout;
 mod output;
 mod reading;
 mod target;
+mod words;
 
 pub use assembly::{assemble, assemble_image};
 pub use disassembly::{HexByte, HexWord, disassembly_of, listing};

@@ -1,23 +1,27 @@
 //! The second pass: what the statements mean, now that all names are known.
-ghost use Rattle.std.specs.Prelude.{◌≡◌, ◌+◌, ◌-◌, ◌<◌, ◌^◌, ◌∷◌, ◌&&◌, nat_le, nat_lt, [], map, vec_len, Some, OnOk, IfOk, IfErr, Ok, Err};
+ghost use Rattle.std.specs.Prelude.{◌≡◌, ◌+◌, ◌-◌, ◌<◌, ◌^◌, ◌∷◌, ◌&&◌, nat_le, nat_lt, [], flat_map, map, true, vec_len, Some, OnOk, IfOk, IfErr, Ok, Err};
 ghost use Rattle.std.specs.Int.{to_le_bytes, w32};
 ghost use Rattle.std.specs.List.{list_any};
-ghost use Rattle.masm.specs.Answers.{Knows, IsOutput, Follows, Gives, HasRoom, HasRoomFor};
+ghost use Rattle.masm.specs.Answers.{Knows, IsOutput, Follows, Gives, HasRoom, HasRoomFor, is_word};
 ghost use Rattle.masm.specs.Assembly as spec;
 ghost use Rattle.masm.specs.Images.{IsImageOf, StandFor};
 ghost use Rattle.masm.specs.Listings as listings;
 ghost use Rattle.masm.specs.Meanings as meaning;
 ghost use Rattle.masm.specs.Names as naming;
-ghost use Rattle.masm_lines.specs.Statements.{alignment_of};
-ghost use Rattle.masm_lines.specs.Views.{statement_view, text_view};
+ghost use Rattle.masm_lines.specs.Lists.{parts, half_bytes, byte_of};
+ghost use Rattle.masm_lines.specs.Statements.{Words};
+ghost use Rattle.masm_lines.specs.Texts.{bytes_in, ended};
+ghost use Rattle.masm_lines.specs.Views.{list_values, statement_view, text_view};
 ghost use Rattle.word32.specs.Zeros.{zeros};
 
 use crate::error::{AsmError, LineError};
 use crate::layout::FIRST_ADDRESS;
 use crate::reading::Names;
 use crate::target::aimed;
+use crate::words::{push_pair, push_text, push_words};
 use elf32::{Image, Segment};
-use masm_lines::{AsmFault, Statement, address_bits, line_of};
+use masm_lines::{AsmFault, List, Statement, Text, address_bits, line_of};
+use mips_instr::{ImmediateOp, Instr, Reg};
 use mips_isa::encode;
 use std::alloc::{AllocError, Global};
 
@@ -71,7 +75,13 @@ impl Output {
             Statement::Org(start) => self.begin(alloc, start)?,
             Statement::Entry(name) => self.entry = Some(names.address_of(name)?),
             Statement::Byte(byte) => self.put_byte(byte)?,
+            Statement::Halves(list) => self.put_halves(&list)?,
+            Statement::Bytes(list) => self.put_bytes(&list)?,
+            Statement::Text(text, zero) => self.put_text(&text, zero)?,
             Statement::Space(count) => self.put_zeros(count)?,
+            Statement::Words(list) => return self.put_words(names, &list),
+            Statement::Load(rt, number) => self.put_load(rt, address_bits(number)?)?,
+            Statement::LoadOf(rt, name) => self.put_load(rt, names.address_of(name)?)?,
             _ => {
                 let word = self.word_of(names, statement)?;
                 self.put_word(word)?;
@@ -80,10 +90,10 @@ impl Output {
         Ok(())
     }
 
-    /// The word that a statement of four bytes means at the next address.
+    /// The word that a statement of one word means at the next address.
     #[tactic(auto, unfolding(crate::specs::Meanings::item_of))]
     fn word_of(&self, names: &Names, statement: &Statement) -> Result<u32, AsmFault>
-        requires aligned { alignment_of (statement_view statement.now) ≡ 4 }
+        requires word { is_word (statement_view statement.now) ≡ true }
         requires room { HasRoomFor self.now (statement_view statement.now) }
         ensures ok { (known : naming.Names) (output : listings.Output) → Knows names.now known → IsOutput self.now output
             → IfOk result (λ word. (item : meaning.Content)
@@ -148,6 +158,54 @@ impl Output {
     {
         self.bytes.push(byte)?;
         Ok(())
+    }
+
+    fn put_halves(&mut self, list: &List) -> Result<(), AllocError>
+        ensures { (output : listings.Output) → IsOutput self.old output
+            → OnOk result (IsOutput self.new (listings.with_item output (meaning.Bytes (flat_map half_bytes (parts list.now.text.now))))) }
+    {
+        list.push_halves(&mut self.bytes)
+    }
+
+    fn put_bytes(&mut self, list: &List) -> Result<(), AllocError>
+        ensures { (output : listings.Output) → IsOutput self.old output
+            → OnOk result (IsOutput self.new (listings.with_item output (meaning.Bytes (flat_map byte_of (parts list.now.text.now))))) }
+    {
+        list.push_bytes(&mut self.bytes)
+    }
+
+    /// Puts a text, with a zero behind it or not.
+    fn put_text(&mut self, text: &Text, zero: bool) -> Result<(), AllocError>
+        ensures { (output : listings.Output) → IsOutput self.old output
+            → OnOk result (IsOutput self.new (listings.with_item output (meaning.Bytes (ended zero (bytes_in text.now.text.now))))) }
+    {
+        push_text(&mut self.bytes, text, zero)
+    }
+
+    /// Puts words, each a number or the address of a name.
+    fn put_words(&mut self, names: &Names, list: &List) -> Result<(), LineError>
+        ensures { (known : naming.Names) (output : listings.Output) → Knows names.now known → IsOutput self.old output
+            → Follows (IsOutput self.new) result (listings.with_statement known output (Some (Words (list_values list.now)))) }
+    {
+        push_words(&mut self.bytes, names, list)
+    }
+
+    /// Puts LUI and ORI of a number.
+    fn put_load(&mut self, rt: Reg, number: u32) -> Result<(), AllocError>
+        ensures { (output : listings.Output) → IsOutput self.old output
+            → OnOk result (IsOutput self.new (listings.with_item output (meaning.loaded rt number))) }
+    {
+        let upper = Instr::LoadUpper {
+            rt,
+            imm: (number / 0x1_0000) as u16,
+        };
+        let lower = Instr::Immediate {
+            op: ImmediateOp::Ori,
+            rt,
+            rs: rt,
+            imm: (number % 0x1_0000) as u16,
+        };
+        push_pair(&mut self.bytes, encode(upper), encode(lower))
     }
 
     fn put_zeros(&mut self, count: u32) -> Result<(), AllocError>

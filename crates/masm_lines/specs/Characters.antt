@@ -18,6 +18,14 @@ is_comma c = c == 44
 abbrev pub is_open : ℕ → Bool
 is_open c = c == 40
 
+-- `"`
+abbrev pub is_quote : ℕ → Bool
+is_quote c = c == 34
+
+-- a backslash
+abbrev pub is_backslash : ℕ → Bool
+is_backslash c = c == 92
+
 -- a letter or `_`
 abbrev pub starts_name : ℕ → Bool
 starts_name c = is_ascii_alphabetic c || c == 95

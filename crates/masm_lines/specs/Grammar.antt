@@ -2,11 +2,13 @@
 use Rattle.std.specs.Prelude.{ℕ, ◌+◌, ◌==◌, ◌&&◌, if◌then◌else◌, List, length, take, drop, slice_index, Option, Some, None, Result, Ok, Err}
 use Rattle.std.specs.List.{list_all, prefix_len, before_first}
 use Rattle.std.specs.Char.{is_ascii}
-use Rattle.masm_lines.specs.Characters.{is_blank, begins_comment, continues_name}
+use Rattle.masm_lines.specs.Characters.{is_blank, continues_name}
+use Rattle.masm_lines.specs.Comments.{uncommented}
 use Rattle.masm_lines.specs.Tokens.{trimmed_start, trimmed, is_name}
-use Rattle.masm_lines.specs.Operands.{operands_in}
-use Rattle.masm_lines.specs.Statements.{Statement, operation_of, statement_of}
+use Rattle.masm_lines.specs.Operations.{operation_of, statement_with}
+use Rattle.masm_lines.specs.Statements.{Statement}
 use Rattle.masm_lines.specs.Steps.{◌>>=◌}
+use Rattle.masm_lines.specs.declared.comment.Place.TheVariants.{Plain}
 use Rattle.masm_lines.specs.declared.fault.AsmFault.{AsmFault}
 use Rattle.masm_lines.specs.declared.fault.AsmFault.TheVariants as fault
 
@@ -16,7 +18,7 @@ pub record Line : Type 0 where
 
 -- a line without its comment and without the blanks at its ends
 unfoldable pub body_of : List ℕ → List ℕ
-body_of line = trimmed (before_first begins_comment line)
+body_of line = trimmed (take (uncommented Plain line) line)
 
 -- a name with a colon right behind it
 unfoldable pub label_of : List ℕ → Option (List ℕ)
@@ -33,7 +35,7 @@ behind_label body (Some name) = trimmed_start (drop (length name + 1) body)
 unfoldable pub statement_in : List ℕ → Result Statement AsmFault
 statement_in text =
     let word = before_first is_blank text in
-    operation_of word >>= λ operation. operands_in (trimmed_start (drop (length word) text)) >>= λ written. statement_of operation written
+    operation_of word >>= λ operation. statement_with operation (trimmed_start (drop (length word) text))
 
 -- a statement, or nothing
 unfoldable pub statement_or_nothing : List ℕ → Result (Option Statement) AsmFault

@@ -22,6 +22,10 @@ signed_half_bits n = bits_within 16 32768 32767 n
 abbrev pub half_bits : ℤ → Result ℕ AsmFault
 half_bits n = bits_within 16 0 65535 n
 
+-- a half-word, with or without sign
+abbrev pub either_half_bits : ℤ → Result ℕ AsmFault
+either_half_bits n = bits_within 16 32768 65535 n
+
 -- a word, with or without sign
 abbrev pub word_bits : ℤ → Result ℕ AsmFault
 word_bits n = bits_within 32 2147483648 4294967295 n

@@ -4,6 +4,8 @@ use Rattle.std.specs.List.{list_all, prefix_len, suffix_len}
 use Rattle.std.specs.Char.{is_digit}
 use Rattle.std.specs.Str.Parse.{digits_value}
 use Rattle.masm_lines.specs.Characters.{is_blank, starts_name, continues_name}
+use Rattle.masm_lines.specs.Mnemonics.{first_of}
+use Rattle.masm_lines.specs.Registers.{register_named}
 
 -- a text without the blanks before it
 unfoldable pub trimmed_start : List ℕ → List ℕ
@@ -43,7 +45,11 @@ is_register_number digits =
     (nat_lt 0 (length digits) && list_all (λ c. is_digit c 10) digits)
     && ((length digits == 1 || not (slice_index digits 0 == 48)) && nat_lt (digits_value 10 digits) 32)
 
--- a register: `$` and its number
+-- the register of a number
+abbrev pub register_numbered : List ℕ → Option ℕ
+register_numbered digits = if is_register_number digits then Some (digits_value 10 digits) else None
+
+-- a register: `$`, and its number or its name
 unfoldable pub register_of : List ℕ → Option ℕ
 register_of text =
-    if slice_index text 0 == 36 && is_register_number (drop 1 text) then Some (digits_value 10 (drop 1 text)) else None
+    if slice_index text 0 == 36 then first_of (register_numbered (drop 1 text)) (register_named (drop 1 text)) else None

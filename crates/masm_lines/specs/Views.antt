@@ -1,8 +1,10 @@
 -- What the values of the code say.
-use Rattle.std.specs.Prelude.{ℕ, List, [], ◌∷◌, Option, option_map}
+use Rattle.std.specs.Prelude.{ℕ, List, [], ◌∷◌, map, flat_map, Option, Some, None, option_map}
 use Rattle.std.specs.Borrow.{Bor}
 use Rattle.masm_lines.specs.Operands.{Value, Number, Name, Written, Register, Plain, Based}
+use Rattle.masm_lines.specs.Lists.{parts, value_of, half_bytes, byte_of}
 use Rattle.masm_lines.specs.Statements as statement
+use Rattle.masm_lines.specs.Texts.{bytes_in, ended}
 use Rattle.masm_lines.specs.Statements.{Statement}
 use Rattle.masm_lines.specs.Grammar.{Line}
 use Rattle.masm_lines.specs.declared.written.Value.{Value as ValueCode}
@@ -10,6 +12,7 @@ use Rattle.masm_lines.specs.declared.written.Value.TheVariants as value_code
 use Rattle.masm_lines.specs.declared.written.Written.{Written as WrittenCode}
 use Rattle.masm_lines.specs.declared.written.Written.TheVariants as written_code
 use Rattle.masm_lines.specs.declared.argument.Arguments.{Arguments}
+use Rattle.masm_lines.specs.declared.list.List.{List as ListCode}
 use Rattle.masm_lines.specs.declared.argument.Arguments.TheVariants as arguments
 use Rattle.masm_lines.specs.declared.statement.Statement.{Statement as StatementCode}
 use Rattle.masm_lines.specs.declared.statement.Statement.TheVariants as statement_code
@@ -40,13 +43,30 @@ arguments_view (arguments.Three a b c) = written_view a ∷ written_view b ∷ w
 abbrev pub first_view : WrittenCode × Option (Bor (List ℕ)) → Written × Option (List ℕ)
 first_view first = (written_view first.0, option_map text_view first.1)
 
+-- the values of a list, and of what is behind its first
+abbrev pub list_values : ListCode → List Value
+list_values list = map value_of (parts list.text.now)
+
+abbrev pub rest_values : Option ListCode → List Value
+rest_values None = []
+rest_values (Some list) = list_values list
+
+abbrev pub byte_behind : ℕ × Bor (List ℕ) → ℕ × List ℕ
+byte_behind first = (first.0, first.1.now)
+
 abbrev pub statement_view : StatementCode → Statement
 statement_view (statement_code.Instruction i) = statement.Instruction i
 statement_view (statement_code.Transfer i n) = statement.Transfer i (Number n)
 statement_view (statement_code.TransferTo i name) = statement.Transfer i (Name name.now)
+statement_view (statement_code.Load rt n) = statement.Load rt (Number n)
+statement_view (statement_code.LoadOf rt name) = statement.Load rt (Name name.now)
 statement_view (statement_code.Word n) = statement.Word n
 statement_view (statement_code.AddressOf name) = statement.AddressOf name.now
+statement_view (statement_code.Words list) = statement.Words (list_values list)
 statement_view (statement_code.Byte n) = statement.Byte n
+statement_view (statement_code.Halves list) = statement.Data 2 (flat_map half_bytes (parts list.text.now))
+statement_view (statement_code.Bytes list) = statement.Data 1 (flat_map byte_of (parts list.text.now))
+statement_view (statement_code.Text text zero) = statement.Data 1 (ended zero (bytes_in text.text.now))
 statement_view (statement_code.Space n) = statement.Space n
 statement_view (statement_code.Org n) = statement.Org n
 statement_view (statement_code.Entry name) = statement.Entry name.now

@@ -60,7 +60,7 @@ fn first_argument(text: &[u8]) -> Result<(Written<'_>, Option<&[u8]>), AsmFault>
 }
 
 /// What is behind the first comma, if there is one.
-fn behind_comma(text: &[u8]) -> Option<&[u8]>
+pub fn behind_comma(text: &[u8]) -> Option<&[u8]>
     ensures { option_map text_view result ≡ behind_comma text.now }
 {
     if text.contains(&b',') {

@@ -5,11 +5,11 @@ ghost use Rattle.masm_lines.specs.Grammar as grammar;
 ghost use Rattle.masm_lines.specs.Views.{statement_view, line_view, text_view};
 
 use crate::AsmFault;
-use crate::argument::arguments_in;
 use crate::character::Class;
+use crate::comment::uncommented_len;
 use crate::operation::operation_of;
 use crate::scan::{front_len, is_all, trimmed, trimmed_start};
-use crate::statement::{Statement, statement_of};
+use crate::statement::{Statement, statement_with};
 use crate::token::is_name;
 
 /// What a line says.
@@ -50,7 +50,7 @@ pub fn line_of(text: &[u8]) -> Result<Line<'_>, AsmFault>
 fn body_of(line: &[u8]) -> &[u8]
     ensures { result.now ≡ grammar.body_of line.now }
 {
-    trimmed(&line[..front_len(line, Class::Not(b'#'))])
+    trimmed(&line[..uncommented_len(line)])
 }
 
 /// The label at a body's start, if there is one, and what follows.
@@ -73,8 +73,5 @@ fn statement_in(text: &[u8]) -> Result<Statement<'_>, AsmFault>
 {
     let (word, rest) = text.split_at(front_len(text, Class::NoBlank));
     let operation = operation_of(word)?;
-    match arguments_in(trimmed_start(rest)) {
-        Err(fault) => Err(fault),
-        Ok(written) => statement_of(operation, &written),
-    }
+    statement_with(operation, trimmed_start(rest))
 }

@@ -1,6 +1,6 @@
 //! The ranges of numbers.
 ghost use Rattle.std.specs.Prelude.{◌≡◌, ◌<◌, ◌≤◌, ◌^◌, IfOk};
-ghost use Rattle.masm_lines.specs.Ranges.{bits_within, field_bits, signed_half_bits, half_bits, word_bits, byte_bits, address_bits};
+ghost use Rattle.masm_lines.specs.Ranges.{bits_within, field_bits, signed_half_bits, half_bits, either_half_bits, word_bits, byte_bits, address_bits};
 
 use crate::AsmFault;
 
@@ -48,6 +48,13 @@ pub fn half_bits(number: i64) -> Result<u16, AsmFault>
     ensures { result ≡ half_bits number }
 {
     Ok(bits_within(16, 0, 0xffff, number)? as u16)
+}
+
+/// A half-word, with or without sign.
+pub fn either_half_bits(number: i64) -> Result<u16, AsmFault>
+    ensures { result ≡ either_half_bits number }
+{
+    Ok(bits_within(16, 0x8000, 0xffff, number)? as u16)
 }
 
 /// A word, with or without sign.

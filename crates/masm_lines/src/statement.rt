@@ -1,18 +1,24 @@
 //! Statements.
 ghost use Rattle.std.specs.Prelude.{◌≡◌};
 ghost use Rattle.std.specs.Result.{result_map_both};
-ghost use Rattle.masm_lines.specs.Statements as spec;
+ghost use Rattle.masm_lines.specs.Operations as spec;
+ghost use Rattle.masm_lines.specs.Statements.{size_of, alignment_of};
 ghost use Rattle.masm_lines.specs.Instructions.{written_target};
 ghost use Rattle.masm_lines.specs.Views.{arguments_view, statement_view};
 
 use crate::AsmFault;
-use crate::argument::Arguments;
+use crate::argument::{Arguments, arguments_in};
+use crate::elements::list_statement;
 use crate::forms::is_well_formed;
+use crate::list::List;
 use crate::operands::{with_operands, written_target};
-use crate::operation::{Directive, Operation};
+use crate::operation::{Directive, OperandForm, Operation};
+use crate::pseudo::pseudo_statement;
+use crate::quoted::text_statement;
 use crate::range::{address_bits, byte_bits, word_bits};
+use crate::text::Text;
 use crate::written::{Value, Written};
-use mips_instr::Instr;
+use mips_instr::{Instr, Reg};
 
 /// An instruction or a directive with its operands, in which names still stand for addresses.
 #[derive(Drop)]
@@ -23,12 +29,24 @@ pub enum Statement<'a> {
     Transfer(Instr, i64),
     /// The same, to a name.
     TransferTo(Instr, &'a [u8]),
+    /// A number in a register, by LUI and ORI.
+    Load(Reg, i64),
+    /// The address of a name in a register, by LUI and ORI.
+    LoadOf(Reg, &'a [u8]),
     /// A word.
     Word(u32),
     /// A word that is the address of a name.
     AddressOf(&'a [u8]),
+    /// Words, each a number or the address of a name.
+    Words(List<'a>),
     /// A byte.
     Byte(u8),
+    /// Half-words.
+    Halves(List<'a>),
+    /// Bytes.
+    Bytes(List<'a>),
+    /// The bytes of a text, with a zero behind them or not.
+    Text(Text<'a>, bool),
     /// Zeros, this many.
     Space(u32),
     /// A new segment at this address.
@@ -40,7 +58,7 @@ pub enum Statement<'a> {
 impl Statement<'_> {
     /// How many bytes it puts at its place.
     pub fn size(&self) -> u32
-        ensures { result ≡ spec.size_of (statement_view self.now) }
+        ensures { result ≡ size_of (statement_view self.now) }
     {
         match *self {
             Statement::Instruction(_)
@@ -48,7 +66,12 @@ impl Statement<'_> {
             | Statement::TransferTo(_, _)
             | Statement::Word(_)
             | Statement::AddressOf(_) => 4,
+            Statement::Load(_, _) | Statement::LoadOf(_, _) => 8,
+            Statement::Words(list) => list.count() * 4,
             Statement::Byte(_) => 1,
+            Statement::Halves(list) => list.count() * 2,
+            Statement::Bytes(list) => list.count(),
+            Statement::Text(text, zero) => text.len() + u32::from(zero),
             Statement::Space(count) => count,
             Statement::Org(_) | Statement::Entry(_) => 0,
         }
@@ -56,21 +79,47 @@ impl Statement<'_> {
 
     /// The address where it stands is a multiple of this.
     pub fn alignment(&self) -> u32
-        ensures { result ≡ spec.alignment_of (statement_view self.now) }
+        ensures { result ≡ alignment_of (statement_view self.now) }
     {
         match *self {
             Statement::Instruction(_)
             | Statement::Transfer(_, _)
             | Statement::TransferTo(_, _)
             | Statement::Word(_)
-            | Statement::AddressOf(_) => 4,
+            | Statement::Load(_, _)
+            | Statement::LoadOf(_, _)
+            | Statement::AddressOf(_)
+            | Statement::Words(_) => 4,
+            Statement::Halves(_) => 2,
             _ => 1,
         }
     }
 }
 
+/// The statement of an operation with the text behind it, or its fault.
+#[tactic(auto, unfolding(crate::specs::Operations::statement_with))]
+pub fn statement_with(operation: Operation, text: &[u8]) -> Result<Statement<'_>, AsmFault>
+    ensures { result_map_both statement_view (λ f. f) result ≡ spec.statement_with operation text.now }
+{
+    match operation.operands(text) {
+        OperandForm::List(element) => list_statement(element, text),
+        OperandForm::Text { zero } => text_statement(zero, text),
+        OperandForm::Separate => with_arguments(operation, text),
+    }
+}
+
+/// The statement of an operation with the operands in a text, or its fault.
+fn with_arguments(operation: Operation, text: &[u8]) -> Result<Statement<'_>, AsmFault>
+    ensures { result_map_both statement_view (λ f. f) result ≡ spec.with_operands_in operation text.now }
+{
+    match arguments_in(text) {
+        Err(fault) => Err(fault),
+        Ok(written) => statement_of(operation, &written),
+    }
+}
+
 /// The statement of an operation with its operands, or its fault: the form of each operand comes before the range of any.
-pub fn statement_of<'a>(
+fn statement_of<'a>(
     operation: Operation,
     written: &Arguments<'a>,
 ) -> Result<Statement<'a>, AsmFault>
@@ -78,11 +127,12 @@ pub fn statement_of<'a>(
 {
     match operation {
         Operation::Instruction(blank) => instruction(&blank, written),
+        Operation::Pseudo(pseudo) => pseudo_statement(pseudo, written),
         Operation::Directive(directive) => directive_statement(directive, written),
     }
 }
 
-#[tactic(auto, unfolding(crate::specs::Statements::instruction_statement))]
+#[tactic(auto, unfolding(crate::specs::Operations::instruction_statement))]
 fn instruction<'a>(blank: &Instr, written: &Arguments<'a>) -> Result<Statement<'a>, AsmFault>
     ensures { result_map_both statement_view (λ f. f) result ≡ spec.instruction_statement blank.now (arguments_view written.now) }
 {
@@ -106,7 +156,7 @@ fn with_target<'a>(blank: &Instr, instr: Instr, written: &Arguments<'a>) -> Stat
     }
 }
 
-#[tactic(auto, unfolding(crate::specs::Statements::directive_statement))]
+#[tactic(auto, unfolding(crate::specs::Operations::directive_statement))]
 fn directive_statement<'a>(
     directive: Directive,
     written: &Arguments<'a>,

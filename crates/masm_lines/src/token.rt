@@ -1,10 +1,10 @@
 //! Names and registers.
-ghost use Rattle.std.specs.Prelude.{◌≡◌, if◌then◌else◌, Some, None};
-ghost use Rattle.std.specs.Str.Parse.{digits_value};
-ghost use Rattle.masm_lines.specs.Tokens.{is_name, is_directive, is_register_number, register_of};
+ghost use Rattle.std.specs.Prelude.{◌≡◌};
+ghost use Rattle.masm_lines.specs.Tokens.{is_name, is_directive, register_numbered, register_of};
 
 use crate::character::{Class, starts_name};
 use crate::numbers::natural;
+use crate::registers::register_named;
 use crate::scan::is_all;
 use mips_instr::Reg;
 
@@ -28,20 +28,23 @@ pub fn is_directive(text: &[u8]) -> bool
     }
 }
 
-/// The register that a text is: `$` and a number of 0 to 31 without leading zeros.
+/// The register that a text is: `$`, and a number of 0 to 31 without leading zeros or a name.
 #[tactic(auto, unfolding(crate::specs::Tokens::register_of))]
 pub fn register(text: &[u8]) -> Option<Reg>
     ensures { result ≡ register_of text.now }
 {
-    match text {
-        [b'$', digits @ ..] => register_number(digits),
-        _ => None,
+    let [b'$', rest @ ..] = text else {
+        return None;
+    };
+    match register_numbered(rest) {
+        Some(register) => Some(register),
+        None => register_named(rest),
     }
 }
 
 #[tactic(auto, unfolding(crate::specs::Tokens::natural_of))]
-fn register_number(digits: &[u8]) -> Option<Reg>
-    ensures { result ≡ (if is_register_number digits.now then Some (digits_value 10 digits.now) else None) }
+fn register_numbered(digits: &[u8]) -> Option<Reg>
+    ensures { result ≡ register_numbered digits.now }
 {
     if digits.len() > 1 && digits[0] == b'0' {
         return None;

@@ -1,11 +1,14 @@
 //! Sources with their words and their faults, worked out from the rules.
 mod beginnings;
 mod corners;
+mod data;
 mod executables;
 mod faults;
 mod images;
 mod instructions;
 mod memory;
+mod pseudo;
+mod registers;
 mod rows;
 
 use masm::{AsmError, assemble_image, listing};

@@ -31,7 +31,7 @@ static SHORT_RUNS: [Run; 13] = [
 
 const LONG: &str = "a: .byte 9\n.space 3\nc: beq $0,$0,ab\nab: .org 0x80000010\n.word ac\nac:\n";
 
-static LONG_RUNS: [Run; 38] = [
+static LONG_RUNS: [Run; 39] = [
     (0, 8, 0),
     (1, 2, 1),
     (2, 8, 0),
@@ -45,7 +45,9 @@ static LONG_RUNS: [Run; 38] = [
     (19, 0, 0),
     (21, 2, 3),
     (22, 0, 0),
-    (24, 2, 3),
+    // `b` is a branch, `be` nothing.
+    (24, 3, 3),
+    (25, 2, 3),
     (26, 3, 3),
     // `a` is a label, and `ab` isn't yet.
     (34, 0, 0),
