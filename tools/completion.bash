@@ -2,13 +2,14 @@
 _vmhost() {
     local word=${COMP_WORDS[COMP_CWORD]} before=${COMP_WORDS[COMP_CWORD - 1]} words
     if [ "$COMP_CWORD" = 1 ]; then
-        words='asm dis exec replay sim help --help'
+        words='asm dis exec replay sim help --help --version'
     else
         case $before in
-            --pages | --steps | --in) return ;;
+            --pages | --steps | --in | --memory) return ;;
+            --until) mapfile -t COMPREPLY < <(compgen -W 'loop exception 0x' -- "$word"); return ;;
         esac
         case ${COMP_WORDS[1]} in
-            exec) words='--raw --flat --pages --steps --in --log --help' ;;
+            exec) words='--raw --flat --pages --steps --until --in --log --all --memory --help' ;;
             replay) words='--raw --help' ;;
             asm | dis | sim) words='--help' ;;
             help) words='asm dis exec replay sim' ;;

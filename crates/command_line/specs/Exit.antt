@@ -1,5 +1,7 @@
 -- How the program ends.
-use Rattle.std.specs.Prelude.{ℕ}
+use Rattle.std.specs.Prelude.{◌≡◌, ℕ, false, All, List, String, codes, nat_eq, string_bytes}
+use Rattle.std.specs.declared.alloc.Global.{Global}
+use Rattle.std.specs.List.{starts_with}
 use Rattle.command_line.specs.declared.program.Status.{Status}
 use Rattle.command_line.specs.declared.program.Status.TheVariants.{Done, Refused, Usage, Stopped}
 
@@ -9,3 +11,7 @@ code_of Done = 0
 code_of Refused = 1
 code_of Usage = 2
 code_of Stopped = 3
+
+-- no word of a command line begins with `--until`
+abbrev pub HasNoUntil : List (String Global) → Type 0
+HasNoUntil words = All (λ (word : String Global). starts_with nat_eq (string_bytes word) (codes "--until") ≡ false) words

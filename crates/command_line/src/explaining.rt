@@ -126,6 +126,30 @@ fn source_words<R: Files + AllocGlobal>(
     source::explain(rt.alloc(), number, line, &bytes).ok()?
 }
 
+/// Words for the lines of a source behind its first fault that are wrong too; none where there can be none.
+pub fn explain_later<R: Files + AllocGlobal>(
+    rt: &R,
+    subject: Subject<'_>,
+    fault: &Fault<'_>,
+) -> Vec<Words> {
+    match later_words(rt, subject, fault) {
+        Some(words) => words,
+        None => Vec::new(rt.alloc()),
+    }
+}
+
+fn later_words<R: Files + AllocGlobal>(
+    rt: &R,
+    subject: Subject<'_>,
+    fault: &Fault<'_>,
+) -> Option<Vec<Words>> {
+    let (Subject::Asm(order), Fault::Asm { line, .. }) = (subject, *fault) else {
+        return None;
+    };
+    let bytes = contents(rt, order.source)?;
+    source::explain_later(rt.alloc(), line, &bytes).ok()
+}
+
 /// What is wrong with an executable.
 fn executable_words<R: Files + AllocGlobal>(
     rt: &R,

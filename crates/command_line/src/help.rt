@@ -4,9 +4,9 @@
 pub const REFUSALS: &str = "\
 Status:
   0  done
-  1  an input was refused: a line on standard error says which
+  1  an input was refused, or an output could not be written: a line on standard error says which
   2  the command line was refused
-  3  the guest stopped before its last step: the last line of its dump says why
+  3  the guest stopped before its last step: the line stop of its dump says why
 
 The lines of an input that was refused:
   vmhost: file NAME      the file can't be read or written
@@ -46,13 +46,29 @@ N, of a log:
   3  of another image                  4  an item that is cut off or wrong
   5  an item that the machine does not accept where it stands
 
-The last line of the dump of a guest that stopped:
+The line of the dump of a guest that stopped:
   stop 5  the host has no memory left  stop 6  the log is full";
 
-/// What a run prints.
+/// What a replay prints.
 pub const DUMP: &str = "\
 It prints the steps that were made, PC, HI and LO, the 32 general registers in rows of four, Status, Cause, EPC and BadVAddr,
 and the console's output, two hexadecimal digits a byte (- where there is none). All words are hexadecimal.";
+
+/// What a run prints.
+pub const RUN: &str = "\
+It prints the steps that were made, PC, HI and LO, the 32 general registers in rows of four, Status, Cause, EPC and BadVAddr,
+and the console's output, two hexadecimal digits a byte (- where there is none). All words are hexadecimal.
+
+The lines on standard error that say at which state of --until it ended; there is none where all steps were made:
+  vmhost: ended: a loop at PC          a branch or jump to itself with a NOP behind it, which no interrupt leaves
+  vmhost: ended: exception CODE at EPC the step before has entered an exception while EXL was clear
+  vmhost: ended: address PC            PC is the address
+
+The lines behind the dump:
+  cp0 N NAME W                         with --all the other system registers, then hi W, lo W,
+  llbit B, slot W                      whether an SC would store, what follows the delay slot that PC stands in,
+  tlb N hi W lo0 W lo1 W               and the entries of the TLB as EntryHi, EntryLo0 and EntryLo1
+  mem W HEX                            with --memory its bytes, 16 a line; mem W no place where one has no place in memory";
 
 /// What a script says, and what is replied.
 pub const EVENTS: &str = "\

@@ -1,9 +1,11 @@
 //! The command line.
-use crate::help::{DUMP, EVENTS, REFUSALS};
+use crate::help::{DUMP, EVENTS, REFUSALS, RUN};
 use clap::error::ErrorKind;
 use clap::{Arg, ArgAction, ArgMatches, Command, Error, value_parser};
 use commands::{Asm, ConsoleInput, Dis, Exec, Format, MachineKind, Replay, Sim};
 use hex::FromHexError;
+use inspection::{Extras, LONGEST_REGION, Region};
+use runs::Until;
 use std::alloc::{AllocError, Global};
 
 /// What the command line asks for.
@@ -13,20 +15,31 @@ pub enum Order<'a> {
     Asm(Asm<'a>),
     /// Print the disassembly of an executable.
     Dis(Dis<'a>),
-    /// Run an image that begins with some console input, and print the state that the machine ends in.
-    Exec(Exec<'a>, ConsoleInput),
+    /// Run an image, and print the state that the machine ends in.
+    Exec(Exec<'a>, Settings),
     /// Replay a log and print the state that the machine ends in.
     Replay(Replay<'a>),
     /// Do the events of a script in a world of several guests, and print what is replied to each.
     Sim(Sim<'a>),
 }
 
-/// What the command line asks for, with console input as its text; or what is wrong with a value that clap takes.
+/// What a run is given beside its order.
+#[derive(Drop)]
+pub struct Settings {
+    /// The console input that it begins with.
+    pub input: ConsoleInput,
+    /// The kinds of states that it is to end at.
+    pub until: Until,
+    /// What is printed of the machine behind its dump.
+    pub extras: Extras,
+}
+
+/// What the command line asks for, without what a run is given beside its order; or what is wrong with a value that clap takes.
 #[derive(Clone, Copy)]
 enum Asked<'a> {
     Asm(Asm<'a>),
     Dis(Dis<'a>),
-    Exec(Exec<'a>, &'a str),
+    Exec(Exec<'a>),
     Replay(Replay<'a>),
     Sim(Sim<'a>),
     Refused(&'static str),
@@ -51,12 +64,99 @@ fn order_in<'a>(
         Some(Asked::Dis(dis)) => Ok(Order::Dis(dis)),
         Some(Asked::Replay(replay)) => Ok(Order::Replay(replay)),
         Some(Asked::Sim(sim)) => Ok(Order::Sim(sim)),
-        Some(Asked::Exec(exec, digits)) => match console_input(alloc, digits)? {
-            Some(input) => Ok(Order::Exec(exec, input)),
-            None => Err(command.error(ErrorKind::ValueValidation, INPUT_REFUSED)?),
+        Some(Asked::Exec(exec)) => match settings_of(alloc, &matches)? {
+            Ok(settings) => Ok(Order::Exec(exec, settings)),
+            Err(reason) => Err(command.error(ErrorKind::ValueValidation, reason)?),
         },
         Some(Asked::Refused(reason)) => Err(command.error(ErrorKind::ValueValidation, reason)?),
         None => Err(command.error(ErrorKind::MissingSubcommand, "no command")?),
+    }
+}
+
+/// What a run is given beside its order, or what is wrong with it.
+fn settings_of(
+    alloc: Global,
+    matches: &ArgMatches<'_>,
+) -> Result<Result<Settings, &'static str>, AllocError> {
+    let Some((_, of_exec)) = matches.subcommand() else {
+        return Ok(Err("no command"));
+    };
+    let Some(input) = console_input(alloc, of_exec.get_str(INPUT).unwrap_or(""))? else {
+        return Ok(Err(INPUT_REFUSED));
+    };
+    let Some(until) = until_of(alloc, of_exec.get_strs(UNTIL).unwrap_or(&[]))? else {
+        return Ok(Err(UNTIL_REFUSED));
+    };
+    let Some(memory) = regions_of(alloc, of_exec.get_strs(MEMORY).unwrap_or(&[]))? else {
+        return Ok(Err(MEMORY_REFUSED));
+    };
+    let all = of_exec.get_flag(ALL);
+    Ok(Ok(Settings {
+        input,
+        until,
+        extras: Extras { all, memory },
+    }))
+}
+
+/// What is wrong with a state that a run is to end at.
+const UNTIL_REFUSED: &str =
+    "a value of '--until <WORD>' is not loop, exception, or 0x and 1 to 8 hexadecimal digits";
+
+/// The states that a run is to end at, by their words; none where one is no such word.
+fn until_of(alloc: Global, words: &[&str]) -> Result<Option<Until>, AllocError> {
+    let mut until = Until {
+        loops: false,
+        exceptions: false,
+        addresses: Vec::new(alloc),
+    };
+    for &word in words {
+        match (word, hex_word(word)) {
+            ("loop", _) => until.loops = true,
+            ("exception", _) => until.exceptions = true,
+            (_, Some(address)) => until.addresses.push(address)?,
+            (_, None) => return Ok(None),
+        }
+    }
+    Ok(Some(until))
+}
+
+/// What is wrong with bytes of memory that are to be printed.
+const MEMORY_REFUSED: &str =
+    "a value of '--memory <ADDRESS:LENGTH>' is not 0x and 1 to 8 hexadecimal digits, a colon, and 1 to 1024 in decimal digits";
+
+/// The bytes of memory that are to be printed; none where one of the words names none.
+fn regions_of(alloc: Global, words: &[&str]) -> Result<Option<Vec<Region>>, AllocError> {
+    let mut regions = Vec::new(alloc);
+    for &word in words {
+        match region_of(word) {
+            Some(region) => regions.push(region)?,
+            None => return Ok(None),
+        }
+    }
+    Ok(Some(regions))
+}
+
+fn region_of(word: &str) -> Option<Region> {
+    let (address, length) = word.split_once(':')?;
+    if !is_digits(length) {
+        return None;
+    }
+    let length = length.parse::<u32>().ok()?;
+    if (1..=LONGEST_REGION).contains(&length) {
+        let address = hex_word(address)?;
+        Some(Region { address, length })
+    } else {
+        None
+    }
+}
+
+/// The word of a processor that a word of the command line is: `0x` and 1 to 8 hexadecimal digits.
+fn hex_word(word: &str) -> Option<u32> {
+    let digits = word.strip_prefix("0x")?;
+    if digits.bytes().all(|byte| byte.is_ascii_hexdigit()) && digits.len() <= 8 {
+        u32::from_str_radix(digits, 16).ok()
+    } else {
+        None
     }
 }
 
@@ -97,7 +197,7 @@ fn exec_asked<'a>(matches: &ArgMatches<'a>) -> Option<Asked<'a>> {
     if !is_digits(matches.get_str(STEPS)?) {
         return Some(Asked::Refused(STEPS_REFUSED));
     }
-    Some(Asked::Exec(exec_of(matches)?, matches.get_str(INPUT)?))
+    Some(Asked::Exec(exec_of(matches)?))
 }
 
 /// Whether a text is decimal digits alone.
@@ -106,6 +206,8 @@ fn is_digits(text: &str) -> bool {
 }
 
 const NAME: &str = "vmhost";
+
+const VERSION: &str = "0.1";
 
 const ASM: &str = "asm";
 
@@ -119,6 +221,13 @@ const SIM: &str = "sim";
 
 /// The option that gives console input.
 const INPUT: &str = "in";
+
+/// The options that say where a run is to end, and what is printed of the machine behind its dump.
+const UNTIL: &str = "until";
+
+const ALL: &str = "all";
+
+const MEMORY: &str = "memory";
 
 /// The options that give numbers.
 const PAGES: &str = "pages";
@@ -137,6 +246,7 @@ fn whole_command<'a>(alloc: Global) -> Result<Command<'a>, AllocError> {
 fn bare_command<'a>(alloc: Global) -> Result<Command<'a>, AllocError> {
     let command = Command::new(alloc, NAME)
         .bin_name(NAME)?
+        .version(VERSION)
         .about("Assembles, disassembles and runs MIPS32 machine code in virtual machines")
         .no_binary_name(true)
         .subcommand_required(true)
@@ -168,11 +278,13 @@ fn dis_command<'a>(alloc: Global) -> Result<Command<'a>, AllocError> {
 fn exec_command<'a>(alloc: Global) -> Result<Command<'a>, AllocError> {
     let command = Command::new(alloc, EXEC)
         .about("Runs an image and prints the state that the machine ends in")
-        .after_help(DUMP);
+        .after_help(RUN);
     let command = with_flags(alloc, command)?;
     let command = with_numbers(alloc, command)?;
     let command = with_texts(alloc, command)?;
-    command.arg(file(alloc, "image", "IMAGE").help("The file of the image"))
+    command.arg(file(alloc, "image", "IMAGE").help(
+        "The file of the image, or - for standard input",
+    ))
 }
 
 fn replay_command<'a>(alloc: Global) -> Result<Command<'a>, AllocError> {
@@ -190,13 +302,20 @@ fn sim_command<'a>(alloc: Global) -> Result<Command<'a>, AllocError> {
             "Does the events of a script in a world of several guests and prints what is replied to each",
         )
         .after_help(EVENTS)
-        .arg(file(alloc, "script", "SCRIPT").help("The file of the script"))
+        .arg(file(alloc, "script", "SCRIPT").help(
+            "The file of the script, or - for standard input",
+        ))
 }
 
 fn with_flags<'a>(alloc: Global, command: Command<'a>) -> Result<Command<'a>, AllocError> {
-    command.arg(raw_flag(alloc))?.arg(flag(alloc, "flat").help(
-        "Use the table machine, which keeps no log, in place of a guest",
-    ))
+    command
+        .arg(raw_flag(alloc))?
+        .arg(flag(alloc, "flat").help(
+            "Use the table machine, which keeps no log, in place of a guest",
+        ))?
+        .arg(flag(alloc, ALL).help(
+            "Print the other system registers, HI, LO and the TLB behind the dump",
+        ))
 }
 
 fn raw_flag<'a>(alloc: Global) -> Arg<'a> {
@@ -216,7 +335,26 @@ fn with_texts<'a>(alloc: Global, command: Command<'a>) -> Result<Command<'a>, Al
     let log = Arg::new(alloc, "log").long("log").value_name("FILE").help(
         "The file that the guest's log is written to after the run",
     );
-    command.arg(input)?.arg(log)
+    let command = command.arg(input)?.arg(log)?;
+    with_lists(alloc, command)
+}
+
+/// The options that may be given more than once.
+fn with_lists<'a>(alloc: Global, command: Command<'a>) -> Result<Command<'a>, AllocError> {
+    let until = list(alloc, UNTIL, "WORD").help(
+        "End at the first state that is so: loop (a branch to itself, for ever), exception (one was entered), or an address 0xADDRESS that PC stands at; a line on standard error says which",
+    );
+    let memory = list(alloc, MEMORY, "ADDRESS:LENGTH").help(
+        "Print 1 to 1024 bytes of memory behind the dump, from a virtual address 0xADDRESS on",
+    );
+    command.arg(until)?.arg(memory)
+}
+
+fn list<'a>(alloc: Global, name: &'a str, value: &'a str) -> Arg<'a> {
+    Arg::new(alloc, name)
+        .long(name)
+        .value_name(value)
+        .action(ArgAction::Append)
 }
 
 fn with_numbers<'a>(alloc: Global, command: Command<'a>) -> Result<Command<'a>, AllocError> {
@@ -263,7 +401,7 @@ fn dis_of<'a>(matches: &ArgMatches<'a>) -> Option<Dis<'a>> {
 /// What the matches of `exec` ask for; each argument is required or has a default.
 fn exec_of<'a>(matches: &ArgMatches<'a>) -> Option<Exec<'a>> {
     Some(Exec {
-        image: matches.get_str("image")?,
+        image: file_of(matches.get_str("image")?),
         format: format_of(matches),
         kind: if matches.get_flag("flat") {
             MachineKind::Flat
@@ -288,8 +426,13 @@ fn replay_of<'a>(matches: &ArgMatches<'a>) -> Option<Replay<'a>> {
 /// What the matches of `sim` ask for; its argument is required.
 fn sim_of<'a>(matches: &ArgMatches<'a>) -> Option<Sim<'a>> {
     Some(Sim {
-        script: matches.get_str("script")?,
+        script: file_of(matches.get_str("script")?),
     })
+}
+
+/// The name of a file to be read, of which `-` is standard input.
+fn file_of<'a>(word: &'a str) -> &'a str {
+    if word == "-" { "/dev/stdin" } else { word }
 }
 
 /// How the image's file is to be read.

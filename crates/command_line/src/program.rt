@@ -1,15 +1,16 @@
 //! The program, over any files, reader and writers.
-ghost use Rattle.std.specs.Prelude.{◌≡◌, ◌≢◌, ◌<◌, ◌⊎◌, IfOk};
+ghost use Rattle.std.specs.Prelude.{◌≡◌, ◌≢◌, ◌<◌, ◌⊎◌, false, IfOk};
 ghost use Rattle.std.specs.IoError.{error_kind};
-ghost use Rattle.command_line.specs.Exit.{code_of};
+ghost use Rattle.command_line.specs.Exit.{code_of, HasNoUntil};
 
-use crate::explaining::{Subject, explain};
-use crate::parsing::{Order, parse};
+use crate::explaining::{Subject, explain, explain_later};
+use crate::parsing::{Order, Settings, parse};
 use clap::Error;
 use commands::{
-    Asm, ConsoleInput, Dis, Exec, Fault, Replay, Report, Sim, assemble_file, disassemble_file,
-    replay_log, run_image, run_script, script_text,
+    Asm, Dis, Exec, Fault, Replay, Report, Sim, assemble_file, disassemble_file, replay_log,
+    run_image, run_script, script_text,
 };
+use runs::Ending;
 use std::io::{BufRead, ErrorKind, Write};
 use std::rt::{Env, Files};
 use std::{env, io};
@@ -48,14 +49,13 @@ enum Answer {
     Nothing,
     /// A text.
     Text(String),
-    /// What a run prints, and how it went.
-    Report(Report),
 }
 
 /// Does what the words of the command line ask for, and gives the status to exit with. The name of the program is not
 /// among the words. `input` is not read yet.
 ///
-/// At least one of `out` and `err` stays as it was. Status 0: done, and `out` has what the command prints. 1: an input was
+/// At least one of `out` and `err` stays as it was, but where a word begins with `--until`: then `err` may have the line `vmhost: ended: ` with
+/// the state that a run ended at, beside what is printed. Status 0: done, and `out` has what the command prints. 1: an input was
 /// refused, and the line `vmhost: ` with the fault stands in `err`, and words for it may stand behind that; or `out` or `err` could not be written. 2: the command
 /// line was refused, and `err` has the reason. 3: the machine stopped before its last step; the last line in `out` says why.
 pub fn program<R, I, O, E>(rt: &R, words: &[String], input: &mut I, out: &mut O, err: &mut E) -> u8
@@ -67,14 +67,15 @@ where
     ensures range { result < 4 }
     ensures input { input.new ≡ input.old }
     ensures usage { result ≡ 2 → out.new ≡ out.old }
-    ensures done { result ≡ 0 → err.new ≡ err.old }
+    ensures done { result ≡ 0 → HasNoUntil words.now → err.new ≡ err.old }
     ensures stopped { result ≡ 3 → err.new ≡ err.old }
-    ensures one_output { (out.new ≡ out.old) ⊎ (err.new ≡ err.old) }
+    ensures one_output { HasNoUntil words.now → (out.new ≡ out.old) ⊎ (err.new ≡ err.old) }
 {
     // No command reads standard input.
     let _ = input;
+    let tells = mentions_until(words);
     let written = match parse(rt.alloc(), words) {
-        Ok(order) => answer_order(rt, order, out, err),
+        Ok(order) => answer_order(rt, order, tells, out, err),
         Err(error) => write_error(&error, out, err),
     };
     let status = match written {
@@ -84,29 +85,47 @@ where
     status.code()
 }
 
-fn answer_order<R, O, E>(rt: &R, order: Order<'_>, out: &mut O, err: &mut E) -> io::Result<Status>
+/// Whether a word begins with `--until`, so that it may be told what a run ended at.
+fn mentions_until(words: &[String]) -> bool
+    ensures { HasNoUntil words.now → result ≡ false }
+{
+    for word in words {
+        if word.as_bytes().starts_with(UNTIL_OPTION) {
+            return true;
+        }
+    }
+    false
+}
+
+/// The words that ask for a state that a run is to end at begin so.
+const UNTIL_OPTION: &[u8] = b"--until";
+
+/// Does what was asked for. Where `tells` says so, the state that a run ended at is told in `err`.
+fn answer_order<R, O, E>(
+    rt: &R,
+    order: Order<'_>,
+    tells: bool,
+    out: &mut O,
+    err: &mut E,
+) -> io::Result<Status>
 where
     R: Files + AllocGlobal,
     O: Write,
     E: Write,
     ensures usage { IfOk result (λ s. code_of s ≢ 2) }
     ensures refused { IfOk result (λ s. code_of s ≡ 1 → out.new ≡ out.old) }
-    ensures carried_out { IfOk result (λ s. code_of s ≢ 1 → err.new ≡ err.old) }
-    ensures one_output { (out.new ≡ out.old) ⊎ (err.new ≡ err.old) }
+    ensures done { IfOk result (λ s. code_of s ≡ 0 → tells ≡ false → err.new ≡ err.old) }
+    ensures stopped { IfOk result (λ s. code_of s ≡ 3 → err.new ≡ err.old) }
+    ensures one_output { tells ≡ false → (out.new ≡ out.old) ⊎ (err.new ≡ err.old) }
 {
     match order {
         Order::Asm(order) => write_answer(rt, Subject::Asm(order), assembled(rt, order), out, err),
         Order::Dis(order) => {
             write_answer(rt, Subject::Dis(order), disassembled(rt, order), out, err)
         }
-        Order::Exec(order, input) => {
-            write_answer(
-                rt,
-                Subject::Exec(order),
-                executed(rt, order, &input),
-                out,
-                err,
-            )
+        Order::Exec(order, settings) => {
+            let answered = executed(rt, order, &settings);
+            write_run(rt, Subject::Exec(order), answered, tells, out, err)
         }
         Order::Replay(order) => {
             write_answer(rt, Subject::Replay(order), replayed(rt, order), out, err)
@@ -145,9 +164,14 @@ fn disassembled<'a, R: Files + AllocGlobal>(rt: &R, order: Dis<'a>) -> Result<An
 fn executed<'a, R: Files + AllocGlobal>(
     rt: &R,
     order: Exec<'a>,
-    input: &ConsoleInput,
-) -> Result<Answer, Fault<'a>> {
-    Ok(Answer::Report(run_image(rt, order, input)?))
+    settings: &Settings,
+) -> Result<Report, Fault<'a>> {
+    let Settings {
+        input,
+        until,
+        extras,
+    } = settings;
+    run_image(rt, order, input, until, extras)
 }
 
 fn replayed<'a, R: Files + AllocGlobal>(rt: &R, order: Replay<'a>) -> Result<Answer, Fault<'a>> {
@@ -191,15 +215,54 @@ fn print_answer<O: Write>(answer: &Answer, out: &mut O) -> io::Result<Status>
             write_text(out, text)?;
             Ok(Status::Done)
         }
-        Answer::Report(report) => {
-            write_text(out, &report.text)?;
-            Ok(if report.ran.stop.is_none() {
-                Status::Done
-            } else {
-                Status::Stopped
-            })
-        }
     }
+}
+
+/// Writes what a run answered: what it prints and, where that is to be told, the state that it ended at; or its fault.
+fn write_run<R, O, E>(
+    rt: &R,
+    subject: Subject<'_>,
+    answered: Result<Report, Fault<'_>>,
+    tells: bool,
+    out: &mut O,
+    err: &mut E,
+) -> io::Result<Status>
+where
+    R: Files + AllocGlobal,
+    O: Write,
+    E: Write,
+    ensures usage { IfOk result (λ s. code_of s ≢ 2) }
+    ensures refused { IfOk result (λ s. code_of s ≡ 1 → out.new ≡ out.old) }
+    ensures done { IfOk result (λ s. code_of s ≡ 0 → tells ≡ false → err.new ≡ err.old) }
+    ensures stopped { IfOk result (λ s. code_of s ≡ 3 → err.new ≡ err.old) }
+    ensures one_output { tells ≡ false → (out.new ≡ out.old) ⊎ (err.new ≡ err.old) }
+{
+    match answered {
+        Ok(report) => {
+            write_text(out, &report.text)?;
+            if report.ran.stop.is_some() {
+                return Ok(Status::Stopped);
+            }
+            if tells {
+                write_ending(report.ran.ending, err)?;
+            }
+            Ok(Status::Done)
+        }
+        Err(refused) => write_refusal(rt, subject, &refused, err),
+    }
+}
+
+/// Writes the state that a run ended at, if it ended at one.
+fn write_ending<E: Write>(ending: Option<Ending>, err: &mut E) -> io::Result<()> {
+    match ending {
+        Some(Ending::Loop(at)) => writeln!(err, "vmhost: ended: a loop at {at:08x}")?,
+        Some(Ending::Exception(code, at)) => {
+            writeln!(err, "vmhost: ended: exception {code} at {at:08x}")?
+        }
+        Some(Ending::Address(at)) => writeln!(err, "vmhost: ended: address {at:08x}")?,
+        None => return Ok(()),
+    }
+    err.flush()
 }
 
 fn write_text<O: Write>(out: &mut O, text: &str) -> io::Result<()> {
@@ -207,7 +270,8 @@ fn write_text<O: Write>(out: &mut O, text: &str) -> io::Result<()> {
     out.flush()
 }
 
-/// Writes the fault of what was asked for, and words for it in a line of their own, where there are any.
+/// Writes the fault of what was asked for, and words for it in a line of their own, where there are any; of a source one for
+/// each line that is wrong too.
 fn write_refusal<R: Files + AllocGlobal, E: Write>(
     rt: &R,
     subject: Subject<'_>,
@@ -219,6 +283,9 @@ fn write_refusal<R: Files + AllocGlobal, E: Write>(
     let status = write_fault(fault, err)?;
     if let Some(words) = explain(rt, subject, fault) {
         writeln!(err, "  {words}")?;
+        for words in &explain_later(rt, subject, fault) {
+            writeln!(err, "  {words}")?;
+        }
         err.flush()?;
     }
     Ok(status)

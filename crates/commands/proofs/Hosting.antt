@@ -30,12 +30,12 @@ use Rattle.frames.specs.Frames.{SharedIs}
 use Rattle.physmap.specs.declared.page.Page.{Page}
 use Rattle.physmap.specs.declared.page.Page.TheVariants as page
 use Rattle.physmap.specs.declared.page.PageKind.{PageKind}
-use Rattle.physmap.specs.declared.page.PageKind.TheVariants.{Private}
+use Rattle.physmap.specs.declared.page.PageKind.TheVariants.{Private, Swapped}
 use Rattle.physmap.specs.Pages.{page_at, kind_of, kind_at}
-use Rattle.physmap.specs.Holdings.{one_private, one_shared, private_pages, shared_pages}
-use Rattle.paging.proofs.Totals.{frames_add_up, tickets_add_up}
+use Rattle.physmap.specs.Holdings.{one_private, one_shared, one_swapped, private_pages, shared_pages, swapped_pages}
+use Rattle.paging.proofs.Totals.{frames_add_up, slots_out_add_up, tickets_add_up}
 use Rattle.paged_bus.specs.Lacking.{lack_of, lacks_in}
-use Rattle.guest.specs.Guests.{view_of}
+use Rattle.guest.specs.Guests.{Intact, view_of}
 use Rattle.guest.proofs.Reaching.{accesses_inside}
 use Rattle.swapstore.specs.Memories.{MemoryIs}
 use Rattle.guest.specs.declared.refused.Refused.{Refused}
@@ -50,7 +50,8 @@ use Rattle.world.specs.Events.{steps_for}
 use Rattle.tenant.specs.Tenants.{TenantIs, pages_in, IsKept, Stays, Adds, NothingHappens}
 use Rattle.world.specs.Worlds.{WorldIs, Sound, Changes, PagesMove, boot_of, log_at}
 use Rattle.commands.specs.Hosted.{HostedIs, hosted_of, first_pages, IsAlone, IsLacking}
-use Rattle.commands.specs.Runs.{after_steps, MayStop}
+use Rattle.commands.specs.Runs.{MayStop}
+use Rattle.runs.specs.Runs.{after_steps}
 
 -- ---- steps, one after another
 
@@ -290,15 +291,16 @@ lacking trusted held frames slots pool book es (t ∷ ts) p why one trust s need
 -- ---- a world of one guest stays one
 
 pub alone_after : (w w' : WorldIs MemoryIs) → IsAlone w → length w'.tenants ≡ 1
-    → length (hosted_of w'.tenants).machine.world.memory ≡ length (hosted_of w.tenants).machine.world.memory → w'.frames ≡ w.frames → w'.store.damaged ≡ false → IsAlone w'
-alone_after w w' alone one size frames sound = record { one = one; room = omega (arith, alone.room, size, frames); sound = sound }
+    → length (hosted_of w'.tenants).machine.world.memory ≡ length (hosted_of w.tenants).machine.world.memory → w'.frames ≡ w.frames → length w'.store.pages ≡ length w.store.pages
+    → w'.store.damaged ≡ false → IsAlone w'
+alone_after w w' alone one size frames slots sound = record { one = one; room = omega (arith, alone.room, size, frames); slots = slots ∙ alone.slots; sound = sound }
 
 pub alone_stepped : (w w' : WorldIs MemoryIs) (k : ℕ) → IsAlone w → log_at w'.tenants 0 ≡ log_at w.tenants 0 ++ steps_for 0 0 k → map boot_of w'.tenants ≡ map boot_of w.tenants
     → w'.store ≡ w.store → w'.frames ≡ w.frames → IsAlone w'
 alone_stepped w w' k alone logs boots store frames =
     alone_after w w' alone (still_one w.tenants w'.tenants alone.one boots)
     (ap (λ (m : Machine). length m.world.memory) (stepped w.tenants w'.tenants k alone.one logs boots) ∙ steps_size k (hosted_of w.tenants).machine) frames
-    (ap (λ (s : MemoryIs). s.damaged) store ∙ alone.sound)
+    (ap (λ (s : MemoryIs). length s.pages) store) (ap (λ (s : MemoryIs). s.damaged) store ∙ alone.sound)
 
 pub lacking_still : (ts ts' : List TenantIs) (p : ℕ) → length ts ≡ 1 → Changes NothingHappens 0 ts ts' → IsLacking ts p → IsLacking ts' p
 lacking_still ts ts' p one nothing lacks =
@@ -513,9 +515,41 @@ booted runs guests guest ts is b = by ts (subst (λ (gs : List NewGuest). AreBoo
 
 -- its world has a frame more than it has pages
 pub booted_alone : (trusted : Type 0) (held : ℕ → Option (List ℕ)) (slots pages : ℕ) (w : WorldIs MemoryIs) → length w.tenants ≡ 1 → trusted
-    → Sound w.frames slots trusted held w.tenants w.pool w.slots w.shares.entries → length (first_pages w.tenants) ≡ pages → pages < w.frames → w.store.damaged ≡ false → IsAlone w
-booted_alone trusted held slots pages w one trust s size room sound = record {
+    → Sound w.frames slots trusted held w.tenants w.pool w.slots w.shares.entries → length (first_pages w.tenants) ≡ pages → pages < w.frames → length w.store.pages ≡ 0 → w.store.damaged ≡ false → IsAlone w
+booted_alone trusted held slots pages w one trust s size room none sound = record {
   one = one;
   room = omega (arith, memory_size trusted held w.frames slots w.pool w.slots w.shares.entries w.tenants one trust s, size, room);
+  slots = none;
   sound = sound;
 }
+
+-- ---- a guest that is read
+
+pub intact_one : (trusted : Type 0) (held : ℕ → Option (List ℕ)) (frames slots : ℕ) (pool book : FreeList) (es : EntriesAre) (ts : List TenantIs) (t : TenantIs) → length ts ≡ 1 → trusted
+    → Sound frames slots trusted held ts pool book es → Intact (get_or ts 0 t).guest
+intact_one trusted held frames slots pool book es [] t one trust s = absurd (omega (arith, one))
+intact_one trusted held frames slots pool book es (u ∷ ts) t one trust s = (All-head (IsKept held) u ts (s.kept trust)).intact
+
+pub first_view : (ts : List TenantIs) (t : TenantIs) → length ts ≡ 1 → view_of (get_or ts 0 t).guest ≡ (hosted_of ts).machine
+first_view [] t one = absurd (omega (arith, one))
+first_view (u ∷ ts) t one = refl
+
+swapped_one : (p : Page) → kind_of p ≡ Swapped → one_swapped p ≡ 1
+swapped_one page.Zero e = absurd (cc)
+swapped_one page.Given e = absurd (cc)
+swapped_one (page.Private frame) e = absurd (cc)
+swapped_one (page.Shared share ticket) e = absurd (cc)
+swapped_one (page.Swapped slot digest) e = refl
+
+none_swapped : (ps : List Page) (n : ℕ) → swapped_pages ps ≡ 0 → kind_at ps n ≡ Swapped → ⊥
+none_swapped [] n none e = absurd (cc)
+none_swapped (p ∷ ps) zero none e = absurd (omega (arith, sum_by-cons one_swapped p ps, none, swapped_one p e))
+none_swapped (p ∷ ps) (suc n) none e = none_swapped ps n (omega (arith, sum_by-cons one_swapped p ps, none)) e
+
+-- where there is no slot, no page is in one
+pub none_away : (trusted : Type 0) (held : ℕ → Option (List ℕ)) (frames slots : ℕ) (pool book : FreeList) (es : EntriesAre) (ts : List TenantIs) (t : TenantIs) (n : ℕ) → length ts ≡ 1 → slots ≡ 0
+    → Sound frames slots trusted held ts pool book es → kind_at (pages_in (get_or ts 0 t)) n ≡ Swapped → ⊥
+none_away trusted held frames slots pool book es [] t n one none s e = absurd (omega (arith, one))
+none_away trusted held frames slots pool book es (u ∷ []) t n one none s e =
+    none_swapped (pages_in u) n (omega (arith, slots_out_add_up frames slots (map pages_in (u ∷ [])) es pool book s.books, s.books.slots_out, sum_by-cons swapped_pages (pages_in u) [], none)) e
+none_away trusted held frames slots pool book es (u ∷ v ∷ ts) t n one none s e = absurd (omega (arith, one))

@@ -1,4 +1,3 @@
-mod Feeding
 mod Hosting
 mod Reading
 mod Replaying

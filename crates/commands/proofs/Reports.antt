@@ -12,14 +12,16 @@ use Rattle.commands.specs.declared.exec.Report.{Report}
 use Rattle.commands.specs.declared.order.Exec.{Exec}
 use Rattle.commands.specs.declared.order.Replay.{Replay}
 use Rattle.dump.specs.Dumps.{dump_text}
+use Rattle.inspection.specs.declared.extras.Extras.{Extras}
+use Rattle.runs.specs.declared.ending.Until.{Until}
 use Rattle.dump.specs.Steps.{step_count}
 use Rattle.commands.specs.Replays.{IsReplay}
 use Rattle.commands.specs.Runs.{IsImageOf, IsReport, IsReportOf}
 
 -- a report of a run of the image that was loaded, whether or not the file's bytes are known
-pub report_of_file : (file : Option (List ℕ)) (order : Exec) (input : List ℕ) (image : Image) (report : Report) → IfSome file (λ all. IsImageOf order.format order.pages all image) → IsReport (boot_machine image order.pages) input order.steps report → IfSome file (λ all. IsReportOf all order input report)
-report_of_file None order input image report stands ran = tt
-report_of_file (Some all) order input image report stands ran = record { image = image; stands = stands; ran = ran }
+pub report_of_file : (file : Option (List ℕ)) (order : Exec) (input : List ℕ) (until : Until) (extras : Extras) (image : Image) (report : Report) → IfSome file (λ all. IsImageOf order.format order.pages all image) → IsReport (boot_machine image order.pages) input order.steps until extras report → IfSome file (λ all. IsReportOf all order input until extras report)
+report_of_file None order input until extras image report stands ran = tt
+report_of_file (Some all) order input until extras image report stands ran = record { image = image; stands = stands; ran = ran }
 
 -- what a replay prints, by its steps: the header, the image, the entries, the boot, their run, and the dump
 pub replay_of_files : (all log : List ℕ) (order : Replay) (pages : ℕ) (image : Image) (entries : List Entry) (flat after : Machine) (steps : ℕ) (text : List ℕ)

@@ -30,10 +30,11 @@ abbrev pub first_pages : List TenantIs → List Page
 first_pages [] = []
 first_pages (t ∷ ts) = pages_in t
 
--- a world has one guest, whose memory is less than the frames are, and no slot of its store was damaged
+-- a world has one guest, whose memory is less than the frames are, and a store without slots, which none can have damaged
 pub record IsAlone (w : WorldIs MemoryIs) : Type 0 where
   pub one : length w.tenants ≡ 1
   pub room : length (hosted_of w.tenants).machine.world.memory < w.frames * 4096
+  pub slots : length w.store.pages ≡ 0
   pub sound : w.store.damaged ≡ false
 
 -- a page is one of the first guest's, and has no frame of its own

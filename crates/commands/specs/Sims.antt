@@ -10,6 +10,7 @@ use Rattle.script.specs.Views.{script_view}
 use Rattle.world.specs.declared.boot.Config.{Config}
 use Rattle.world.specs.declared.boot.NewGuest.{NewGuest}
 use Rattle.world.specs.Boots.{AreAdmitted, AreWithinLimits}
+use Rattle.world.specs.Worlds.{StoreFacts}
 use Rattle.simulation.specs.Transcripts.{IsTranscript}
 use Rattle.swapstore.specs.Faults.{store_of, left_of, with_fault}
 use Rattle.swapstore.specs.Memories.{MemoryIs, AreTold, stored_at}
@@ -43,20 +44,33 @@ slot_in store slot = Some (stored_at store.pages slot).last
 abbrev pub IsGiven : MemoryIs → ℕ → List ℕ → Type 0
 IsGiven store slot bytes = bytes ≡ (stored_at store.pages slot).lies
 
+-- what is said of such a store, and of one of which one call fails
+abbrev pub in_memory : StoreFacts MemoryIs
+in_memory = record { held = slot_in; gives = IsGiven; honest = IsWhole; true_to_digests = AreTold; slots = λ s. length s.pages; failed = λ s. 0 }
+
+abbrev pub in_failing : StoreFacts (FaultStore MemoryIs)
+in_failing = record {
+  held = λ s. slot_in (store_of s);
+  gives = λ s. IsGiven (store_of s);
+  honest = λ s. IsWhole (store_of s);
+  true_to_digests = λ s. AreTold (store_of s);
+  slots = λ s. length (store_of s).pages;
+  failed = λ s. with_fault (left_of s) 0;
+}
+
 -- the text is what events say by the words of a seed in a world over a store in memory that is whole and has so many slots
 pub record IsOverMemory (config : Config) (seed slots : ℕ) (guests : List NewGuest) (events : List Event) (text : List ℕ) : Type 0 where
   pub store : MemoryIs
   pub whole : IsWhole store
   pub count : length store.pages ≡ slots
-  pub transcript : IsTranscript AreTold (λ s. 0) IsWhole (λ s. length s.pages) slot_in IsGiven config seed guests store events text
+  pub transcript : IsTranscript in_memory config seed guests store events text
 
 -- the same over such a store of which one call fails
 pub record IsOverFailing (config : Config) (seed slots : ℕ) (guests : List NewGuest) (events : List Event) (text : List ℕ) : Type 0 where
   pub store : FaultStore MemoryIs
   pub whole : IsWhole (store_of store)
   pub count : length (store_of store).pages ≡ slots
-  pub transcript : IsTranscript (λ (s : FaultStore MemoryIs). AreTold (store_of s)) (λ (s : FaultStore MemoryIs). with_fault (left_of s) 0) (λ (s : FaultStore MemoryIs). IsWhole (store_of s))
-      (λ (s : FaultStore MemoryIs). length (store_of s).pages) (λ (s : FaultStore MemoryIs). slot_in (store_of s)) (λ (s : FaultStore MemoryIs). IsGiven (store_of s)) config seed guests store events text
+  pub transcript : IsTranscript in_failing config seed guests store events text
 
 -- over a store of which no call fails, or the one that a header names
 abbrev pub IsOver : Option Fail → Config → ℕ → ℕ → List NewGuest → List Event → List ℕ → Type 0

@@ -5,19 +5,19 @@ ghost use Rattle.elf32.specs.declared.image.Image.{Image};
 ghost use Rattle.elf32.specs.Files.{StandsFor};
 ghost use Rattle.elf32.specs.Images.{FitsPages};
 ghost use Rattle.flatvm.specs.Boot.{boot_machine};
-ghost use Rattle.dump.specs.Dumps.{dump_text};
 ghost use Rattle.commands.specs.Faults.{IsElfRunFault, IsExecFault, IsImageFault, IsRunFault, IsWant};
 ghost use Rattle.commands.specs.Raw.{IsPageCount};
-ghost use Rattle.commands.specs.Runs.{after_run, IsImageOf, IsReport, IsReportOf};
+ghost use Rattle.commands.specs.Runs.{IsImageOf, IsReport, IsReportOf, report_text};
+ghost use Rattle.runs.specs.Runs.{after_run};
 
 use crate::fault::{Fault, LogRefusal, of_boot, of_file};
 use crate::hosted::HostedGuest;
 use crate::image_file::{Loaded, elf_image, is_page_count, raw_image};
 use crate::log_file::write_log;
-use crate::machine::{Ran, Runnable, run};
 use crate::order::{ConsoleInput, Exec, Format, MachineKind};
 use dump::dump;
-use flatvm::Flat;
+use inspection::{Extras, push_extras};
+use runs::{Ran, Runnable, Table, Until, run};
 use std::alloc::{AllocError, Global};
 use std::fs::File;
 use std::io::Read;
@@ -27,7 +27,7 @@ use tenant::BootError;
 /// What a run prints, and how it went.
 #[derive(Drop)]
 pub struct Report {
-    /// The dump.
+    /// The dump, and behind it what else was wanted of the machine.
     pub text: String,
     /// How the run went.
     pub ran: Ran,
@@ -44,7 +44,7 @@ pub struct Done {
     pub digest: [u8; 32],
 }
 
-/// Runs the image of a file, which begins with this console input. A fault of the file comes before one of the boot; where
+/// Runs the image of a file, which begins with this console input, up to the first state that it is to end at, if it comes to one. A fault of the file comes before one of the boot; where
 /// a log is asked of the table machine, or is to be written over the image, that comes before any file is read. The log is
 /// written after the run.
 ///
@@ -56,8 +56,10 @@ pub fn run_image<'a, R: Files + AllocGlobal>(
     rt: &R,
     order: Exec<'a>,
     input: &ConsoleInput,
+    until: &Until,
+    extras: &Extras,
 ) -> Result<Report, Fault<'a>>
-    ensures report { IfOk result (λ r. (image : Image) × IsReport (boot_machine image order.entry.pages) input.now order.entry.steps r) }
+    ensures report { IfOk result (λ r. (image : Image) × IsReport (boot_machine image order.entry.pages) input.now order.entry.steps until.now extras.now r) }
     ensures legal { IfOk result (λ r. IsPageCount order.entry.pages) }
     ensures log { IfOk result (λ r. order.entry.kind ≡ MachineKind.Flat → order.entry.log ≡ None) }
     ensures apart { IfOk result (λ r. order.entry.log ≢ Some order.entry.image) }
@@ -65,7 +67,7 @@ pub fn run_image<'a, R: Files + AllocGlobal>(
 {
     log_can_be_kept(order)?;
     let file = of_file(order.image, File::open(rt, order.image))?;
-    let done = run_file(rt.alloc(), file, order, input)?;
+    let done = run_file(rt.alloc(), file, order, input, until, extras)?;
     write_order(rt, order, &done)?;
     Ok(done.report)
 }
@@ -100,10 +102,12 @@ pub fn run_file<'a, F: Read + Drop>(
     file: F,
     order: Exec<'a>,
     input: &ConsoleInput,
+    until: &Until,
+    extras: &Extras,
 ) -> Result<Done, Fault<'a>>
-    ensures report { IfSome (F.remaining file) (λ all. IfOk result (λ done. IsReportOf all order.entry input.now done.report)) }
+    ensures report { IfSome (F.remaining file) (λ all. IfOk result (λ done. IsReportOf all order.entry input.now until.now extras.now done.report)) }
     ensures digest { IfSome (F.remaining file) (λ all. IfOk result (λ done. done.digest ≡ sha256 all)) }
-    ensures some_image { IfOk result (λ done. (image : Image) × IsReport (boot_machine image order.entry.pages) input.now order.entry.steps done.report) }
+    ensures some_image { IfOk result (λ done. (image : Image) × IsReport (boot_machine image order.entry.pages) input.now order.entry.steps until.now extras.now done.report) }
     ensures guest { IfOk result (λ done. order.entry.kind ≡ MachineKind.Guest → done.runner ≢ None) }
     ensures flat_never_stops { IfOk result (λ done. order.entry.kind ≡ MachineKind.Flat → done.report.ran.stop ≡ None) }
     ensures legal { IfOk result (λ done. IsPageCount order.entry.pages) }
@@ -111,8 +115,8 @@ pub fn run_file<'a, F: Read + Drop>(
 {
     let loaded = load(alloc, file, order)?;
     match order.kind {
-        MachineKind::Guest => Ok(run_guest(alloc, loaded, order, input)?),
-        MachineKind::Flat => Ok(run_flat(alloc, loaded, order, input)?),
+        MachineKind::Guest => Ok(run_guest(alloc, loaded, order, input, until, extras)?),
+        MachineKind::Flat => Ok(run_flat(alloc, loaded, order, input, until, extras)?),
     }
 }
 
@@ -123,10 +127,12 @@ fn run_guest<'a>(
     loaded: Loaded,
     order: Exec<'a>,
     input: &ConsoleInput,
+    until: &Until,
+    extras: &Extras,
 ) -> Result<Done, Fault<'a>>
     requires fits { FitsPages loaded.image order.pages }
     requires legal { IsPageCount order.pages }
-    ensures report { IfOk result (λ done. IsReport (boot_machine loaded.image order.entry.pages) input.now order.entry.steps done.report) }
+    ensures report { IfOk result (λ done. IsReport (boot_machine loaded.image order.entry.pages) input.now order.entry.steps until.now extras.now done.report) }
     ensures digest { IfOk result (λ done. done.digest ≡ loaded.digest) }
     ensures guest { IfOk result
         (λ done. IfSome done.runner (λ r. r.machine ≡ after_run done.report.ran input.now (boot_machine loaded.image order.entry.pages))) }
@@ -135,8 +141,8 @@ fn run_guest<'a>(
 {
     let Loaded { image, digest } = loaded;
     let mut runner = of_boot(HostedGuest::boot(alloc, image, order.pages))?;
-    let ran = run(&mut runner, input.as_slice(), order.steps);
-    let report = report_of(alloc, &runner, ran)?;
+    let ran = run(&mut runner, input.as_slice(), order.steps, until);
+    let report = report_of(alloc, &runner, ran, extras)?;
     Ok(Done {
         report,
         runner: Some(runner),
@@ -150,17 +156,19 @@ fn run_flat<'a>(
     loaded: Loaded,
     order: Exec<'a>,
     input: &ConsoleInput,
+    until: &Until,
+    extras: &Extras,
 ) -> Result<Done, Fault<'a>>
     requires fits { FitsPages loaded.image order.pages }
     requires legal { IsPageCount order.pages }
-    ensures report { IfOk result (λ done. IsReport (boot_machine loaded.image order.entry.pages) input.now order.entry.steps done.report) }
+    ensures report { IfOk result (λ done. IsReport (boot_machine loaded.image order.entry.pages) input.now order.entry.steps until.now extras.now done.report) }
     ensures digest { IfOk result (λ done. done.digest ≡ loaded.digest) }
     ensures never_stops { IfOk result (λ done. done.report.ran.stop ≡ None) }
     ensures faults { IfErr result IsWant }
 {
-    let mut machine = of_boot(Flat::boot(alloc, &loaded.image, order.pages))?;
-    let ran = run(&mut machine, input.as_slice(), order.steps);
-    let report = report_of(alloc, &machine, ran)?;
+    let mut machine = of_boot(Table::boot(alloc, &loaded.image, order.pages))?;
+    let ran = run(&mut machine, input.as_slice(), order.steps, until);
+    let report = report_of(alloc, &machine, ran, extras)?;
     Ok(Done {
         report,
         runner: None,
@@ -169,11 +177,17 @@ fn run_flat<'a>(
 }
 
 /// What is printed of a machine after a run.
-fn report_of<M: Runnable>(alloc: Global, machine: &M, ran: Ran) -> Result<Report, AllocError>
+fn report_of<M: Runnable>(
+    alloc: Global,
+    machine: &M,
+    ran: Ran,
+    extras: &Extras,
+) -> Result<Report, AllocError>
     ensures ran { IfOk result (λ r. r.ran ≡ ran) }
-    ensures text { IfOk result (λ r. string_bytes r.text ≡ dump_text (M.state machine.now) ran.steps ran.stop) }
+    ensures text { IfOk result (λ r. string_bytes r.text ≡ report_text extras.now ran (M.state machine.now)) }
 {
-    let text = dump(alloc, machine.view(), u64::from(ran.steps), ran.stop)?;
+    let mut text = dump(alloc, machine.view(), u64::from(ran.steps), ran.stop)?;
+    push_extras(alloc, &mut text, machine, extras)?;
     Ok(Report { text, ran })
 }
 

@@ -1,5 +1,5 @@
 //! A guest in a world of its own.
-ghost use Rattle.std.specs.Prelude.{◌≡◌, ◌+◌, ◌≤◌, ◌<◌, ◌↔◌, [], None, length, IfErr, IfOk, IfSome, OnErr, OnOk, IsErrOf};
+ghost use Rattle.std.specs.Prelude.{◌≡◌, ◌+◌, ◌≤◌, ◌<◌, ◌↔◌, [], None, Some, length, IfErr, IfOk, IfSome, OnErr, OnOk, IsErrOf};
 ghost use Rattle.elf32.specs.Images.{FitsPages};
 ghost use Rattle.items.specs.declared.item.What.TheVariants.{In};
 ghost use Rattle.mips_step.specs.Step.{step};
@@ -12,15 +12,17 @@ ghost use Rattle.world.specs.Events.{IsForRoom};
 ghost use Rattle.world.specs.declared.running.RunStop.TheVariants as why;
 ghost use Rattle.commands.specs.Hosted.{first_pages, hosted_of, IsAlone, IsLacking};
 ghost use Rattle.commands.specs.Raw.{IsPageCount};
-ghost use Rattle.commands.specs.Runs.{after_steps, MayStop};
+ghost use Rattle.commands.specs.Runs.{MayStop};
+ghost use Rattle.flatvm.specs.Replies.{bytes_at};
+ghost use Rattle.runs.specs.Runs.{after_steps};
 
-use crate::machine::Runnable;
 use elf32::Image;
 use flatvm::View;
 use guest::{Log, Refused, Stop};
 use items::{Item, SeatNo, What};
 use mips_step::{Ppn, StepOut};
 use paging::SupplyError;
+use runs::{NoPlace, Runnable};
 use std::alloc::{AllocError, Global};
 use std::marker::Model;
 use std::sync::Arc;
@@ -110,6 +112,10 @@ impl Runnable for HostedGuest {
         self.world.is_sound();
         self.world.guest(0).guest().view()
     }
+
+    fn read(&self, address: u32, bytes: &mut [u8]) -> Result<(), NoPlace> {
+        read_bytes(&self.world, address, bytes)
+    }
 }
 
 /// A world of one guest as its image boots.
@@ -189,6 +195,22 @@ fn step_supplied(alloc: Global, world: &mut World<MemStore>, page: Ppn) -> Resul
             StepOut::Done => return Ok(()),
             StepOut::Need(next, _) => needed = next,
         }
+    }
+}
+
+/// Reads bytes of the guest as a debugger does. No page of it is in a slot, since there is none.
+fn read_bytes(world: &World<MemStore>, address: u32, bytes: &mut [u8]) -> Result<(), NoPlace>
+    requires { IsAlone world.now }
+    ensures read { OnOk result (bytes_at (hosted_of world.now.tenants).machine address (length bytes.old) ≡ Some bytes.new) }
+    ensures no_place { OnErr result (bytes_at (hosted_of world.now.tenants).machine address (length bytes.old) ≡ None) }
+    ensures length { length bytes.new ≡ length bytes.old }
+{
+    world.is_sound();
+    match world.guest(0).guest().debug_read(address, bytes) {
+        Ok(()) => Ok(()),
+        Err(Refused::Machine) => Err(NoPlace),
+        Err(Refused::Away(_)) => unreachable!(),
+        Err(Refused::Stop(_)) => unreachable!(),
     }
 }
 

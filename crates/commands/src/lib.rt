@@ -3,8 +3,9 @@
 //!
 //! `assemble_file`, `disassemble_file`, `run_image`, `replay_log` and `run_script` do what an order says, over any files. `run_file` joins a
 //! file, a machine and a text: what it reports is the dump (`dump`) of the machine that the image boots for which the file's
-//! bytes stand, after the input that was taken and the steps that were made. `machine::run` says how far a run goes and why it
-//! ends before its last step; the guest that `exec` runs is a `hosted::HostedGuest`, which has a world of its own.
+//! bytes stand, after the input that was taken and the steps that were made, and behind it what else is wanted of that machine
+//! (`inspection`). `runs::run` says how far a run goes, and why it ends before its last step; the guest that `exec` runs is a
+//! `hosted::HostedGuest`, which has a world of its own.
 //! `asm::executable_of` is the executable that a source means, `dis::disassembly` the lines of the image that a file stands for.
 //! What no contract says, the order of what fails and what stands in the files that are opened by their names, the cases of
 //! `vmhost` try.
@@ -17,7 +18,6 @@ pub mod fault;
 pub mod hosted;
 pub mod image_file;
 pub mod log_file;
-pub mod machine;
 pub mod order;
 pub mod replay;
 pub mod sim;

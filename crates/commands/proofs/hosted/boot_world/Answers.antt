@@ -1,6 +1,6 @@
-use Rattle.std.proofs.Common.{ap, ◌∙◌, arith}
+use Rattle.std.proofs.Common.{List, ap, length, ◌∙◌, arith}
 use Rattle.elf32.specs.declared.image.Image.{Image}
-use Rattle.swapstore.specs.Memories.{sound_are_told}
+use Rattle.swapstore.specs.Memories.{sound_are_told, StoredIs}
 use Rattle.flatvm.specs.Boot.{boot_machine}
 use Rattle.commands.proofs.Hosting.{booted, booted_alone, booted_one}
 use Rattle.commands.proofs.hosted.boot_world.Goals as goal
@@ -12,7 +12,7 @@ returns-in-Ok-clause-alone c =
     let at = booted 1048576 c.in_ok-guests.guests.items _ w.tenants items c.in-Ok.ensures.booted in
     let sound = c.in-Ok.ensures.store.honest.1 c.in_ok-store.ensures.sound in
     booted_alone _ _ _ c.args.pages w (booted_one 1048576 c.in_ok-guests.guests.items _ w.tenants items c.in-Ok.ensures.booted) (sound_are_told w.store sound) c.is_sound.ensures at.count
-    (omega (arith, c.in-Ok.ensures.frames)) sound
+    (omega (arith, c.in-Ok.ensures.frames)) (c.in-Ok.ensures.store.slots ∙ ap (λ (ps : List StoredIs). length ps) c.in_ok-store.ensures.pages) sound
 
 pub returns-in-Ok-clause-machine : goal.returns-in-Ok-clause-machine
 returns-in-Ok-clause-machine c =

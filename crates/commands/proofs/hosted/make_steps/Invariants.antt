@@ -1,6 +1,6 @@
 use Rattle.std.proofs.Common.{◌≡◌, ◌-◌, ◌≤◌}
 use Rattle.commands.specs.Hosted.{hosted_of, IsAlone}
-use Rattle.commands.specs.Runs.{after_steps}
+use Rattle.runs.specs.Runs.{after_steps}
 use Rattle.commands.proofs.hosted.make_steps.Given as goal
 
 -- the steps so far were made

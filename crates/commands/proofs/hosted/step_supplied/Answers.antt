@@ -19,7 +19,8 @@ loop-world-preserved c =
     let same = unmoved ts ts' alone.one nothing c.step.ensures.stays in
     record {
       alone = alone_after c.supply.new.world c.step.new.self alone (one_left Stays ts ts' alone.one c.step.ensures.stays)
-          (ap (λ (m : Machine). length m.world.memory) same) c.step.ensures.around.frames (ap (λ (s : MemoryIs). s.damaged) c.step.ensures.around.store ∙ alone.sound);
+          (ap (λ (m : Machine). length m.world.memory) same) c.step.ensures.around.frames (ap (λ (s : MemoryIs). length s.pages) c.step.ensures.around.store)
+          (ap (λ (s : MemoryIs). s.damaged) c.step.ensures.around.store ∙ alone.sound);
       lacking = lacking_still ts ts' c.in-Need.next alone.one nothing
           (lacking _ _ _ _ _ _ _ ts c.in-Need.next _ alone.one (sound_are_told c.supply.new.world.store alone.sound) c.is_sound.ensures
           (λ t. its_need _ _ _ _ c.in-Need.is (c.in_ok-step.ensures.need (sound_are_told c.supply.new.world.store alone.sound) t)));
@@ -49,7 +50,7 @@ returns-in-Done-clause-alone c =
     let alone = c.supply.ensures.alone in
     let made = step_added ts ts' alone.one (done_then _ c.in-Done.is c.in_ok-step.ensures.adds) c.step.ensures.stays in
     alone_after c.supply.new.world c.step.new.self alone (one_left Stays ts ts' alone.one c.step.ensures.stays)
-    (ap (λ (m : Machine). length m.world.memory) made ∙ (step_stays (hosted_of ts).machine 0).size) c.step.ensures.around.frames
+    (ap (λ (m : Machine). length m.world.memory) made ∙ (step_stays (hosted_of ts).machine 0).size) c.step.ensures.around.frames (ap (λ (s : MemoryIs). length s.pages) c.step.ensures.around.store)
     (ap (λ (s : MemoryIs). s.damaged) c.step.ensures.around.store ∙ alone.sound)
 
 pub returns-in-Done-clause-made : goal.returns-in-Done-clause-made
@@ -66,7 +67,8 @@ returns-in_err-step-clause-alone c =
     let alone = c.supply.ensures.alone in
     let same = unmoved ts ts' alone.one c.in_err-step.ensures.unchanged.0 c.step.ensures.stays in
     alone_after c.supply.new.world c.step.new.self alone (one_left Stays ts ts' alone.one c.step.ensures.stays)
-    (ap (λ (m : Machine). length m.world.memory) same) c.step.ensures.around.frames (ap (λ (s : MemoryIs). s.damaged) c.step.ensures.around.store ∙ alone.sound)
+    (ap (λ (m : Machine). length m.world.memory) same) c.step.ensures.around.frames (ap (λ (s : MemoryIs). length s.pages) c.step.ensures.around.store)
+    (ap (λ (s : MemoryIs). s.damaged) c.step.ensures.around.store ∙ alone.sound)
 
 pub returns-in_err-step-clause-stopped : goal.returns-in_err-step-clause-stopped
 returns-in_err-step-clause-stopped c =

@@ -15,7 +15,7 @@ pub unreachable-requires-in-Err-SwapRead : goal.unreachable-requires-in-Err-Swap
 unreachable-requires-in-Err-SwapRead c = let failed = rw c.in-Err-SwapRead.field-0-is at c.in-Err-SwapRead.ensures.err in absurd (omega (arith, failed.1))
 
 pub unreachable-requires-in-Err-SwapDamaged : goal.unreachable-requires-in-Err-SwapDamaged
-unreachable-requires-in-Err-SwapDamaged c = let damaged = rw c.in-Err-SwapDamaged.field-0-is at c.in-Err-SwapDamaged.ensures.err in damaged.1 c.requires.alone.sound
+unreachable-requires-in-Err-SwapDamaged c = let damaged = rw c.in-Err-SwapDamaged.field-0-is at c.in-Err-SwapDamaged.ensures.err in damaged.1.dishonest c.requires.alone.sound
 
 pub returns-in-Ok-clause-alone : goal.returns-in-Ok-clause-alone
 returns-in-Ok-clause-alone c =
@@ -23,7 +23,8 @@ returns-in-Ok-clause-alone c =
     let ts' = c.supply.new.self.tenants in
     let alone = c.requires.alone in
     alone_after c.args.world.now c.supply.new.self alone (one_left PagesMove ts ts' alone.one c.supply.ensures.moves)
-    (ap (λ (h : HostedIs). length h.machine.world.memory) (moved ts ts' alone.one c.supply.ensures.moves)) c.supply.ensures.around.frames (c.supply.ensures.around.store.honest.1 alone.sound)
+    (ap (λ (h : HostedIs). length h.machine.world.memory) (moved ts ts' alone.one c.supply.ensures.moves)) c.supply.ensures.around.frames c.supply.ensures.around.store.slots
+    (c.supply.ensures.around.store.honest.1 alone.sound)
 
 pub returns-in-Ok-clause-same : goal.returns-in-Ok-clause-same
 returns-in-Ok-clause-same c = moved c.args.world.now.tenants c.supply.new.self.tenants c.requires.alone.one c.supply.ensures.moves

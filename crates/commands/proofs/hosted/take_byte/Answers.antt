@@ -25,7 +25,8 @@ returns-in-Ok-clause-alone c =
     let alone = c.requires.alone in
     alone_after c.args.world.now c.input.new.self alone (one_left Stays ts ts' alone.one c.input.ensures.stays)
     (ap (λ (m : Machine). length m.world.memory) (added ts ts' _ alone.one c.in-Ok.ensures.adds c.input.ensures.stays))
-    c.input.ensures.around.frames (ap (λ (s : MemoryIs). s.damaged) c.input.ensures.around.store ∙ alone.sound)
+    c.input.ensures.around.frames (ap (λ (s : MemoryIs). length s.pages) c.input.ensures.around.store)
+    (ap (λ (s : MemoryIs). s.damaged) c.input.ensures.around.store ∙ alone.sound)
 
 pub returns-in-Ok-clause-fed : goal.returns-in-Ok-clause-fed
 returns-in-Ok-clause-fed c = added c.args.world.now.tenants c.input.new.self.tenants _ c.requires.alone.one c.in-Ok.ensures.adds c.input.ensures.stays
@@ -43,7 +44,8 @@ returns-in-Err-Stop-clause-alone c =
     let alone = c.requires.alone in
     alone_after c.args.world.now c.input.new.self alone (one_left Stays ts ts' alone.one c.input.ensures.stays)
     (ap (λ (m : Machine). length m.world.memory) (unmoved ts ts' alone.one c.in-Err-Stop.ensures.unchanged c.input.ensures.stays))
-    c.input.ensures.around.frames (ap (λ (s : MemoryIs). s.damaged) c.input.ensures.around.store ∙ alone.sound)
+    c.input.ensures.around.frames (ap (λ (s : MemoryIs). length s.pages) c.input.ensures.around.store)
+    (ap (λ (s : MemoryIs). s.damaged) c.input.ensures.around.store ∙ alone.sound)
 
 pub returns-in-Err-Stop-clause-stopped : goal.returns-in-Err-Stop-clause-stopped
 returns-in-Err-Stop-clause-stopped c =

@@ -1,11 +1,9 @@
 use Rattle.std.proofs.Common.{◌≡◌, ◌∙◌, ℕ, List, Option, String, Global, string_bytes, sym, subst, ap, length, replicate}
 use Rattle.std.proofs.lemmas.List.{length-replicate}
 use Rattle.script.specs.declared.header.Fail.{Fail}
-use Rattle.swapstore.specs.Memories.{MemoryIs, AreTold}
-use Rattle.swapstore.specs.Faults.{store_of, left_of, with_fault}
-use Rattle.swapstore.specs.declared.fault.FaultStore.{FaultStore}
+use Rattle.swapstore.specs.Memories.{MemoryIs}
 use Rattle.simulation.specs.Transcripts.{IsTranscript}
-use Rattle.commands.specs.Sims.{IsWhole, slot_in, IsGiven, IsOver, config_of}
+use Rattle.commands.specs.Sims.{IsWhole, in_memory, in_failing, IsOver, config_of}
 use Rattle.commands.proofs.Simulating.{answered}
 use Rattle.commands.proofs.sim.replies_to.Goals.{in-None, in-Some}
 use Rattle.commands.proofs.sim.replies_to.Goals as goal
@@ -21,7 +19,7 @@ returns-in-Ok-told-clause-replies c =
         whole = c.in-Ok.ensures.sound;
         count = count;
         transcript = answered w.simulate-told.result text
-            (λ (t : String Global). IsTranscript AreTold (λ s. 0) IsWhole (λ s. length s.pages) slot_in IsGiven (config_of h) h.seed c.args.guests.items c.in-Ok.store c.args.events.items (string_bytes t))
+            (λ (t : String Global). IsTranscript in_memory (config_of h) h.seed c.args.guests.items c.in-Ok.store c.args.events.items (string_bytes t))
             (sym w.told-is ∙ c.in-Ok-told.is) w.simulate-told.ensures.transcript;
       })
       | in-Some w ↦ subst (λ (f : Option Fail). IsOver f (config_of h) h.seed h.slots c.args.guests.items c.args.events.items (string_bytes text)) (sym w.in-Some.is) (record {
@@ -29,8 +27,7 @@ returns-in-Ok-told-clause-replies c =
         whole = subst IsWhole (sym w.new-store.ensures.store) c.in-Ok.ensures.sound;
         count = ap (λ (s : MemoryIs). length s.pages) w.new-store.ensures.store ∙ count;
         transcript = answered w.simulate-told-in-Some.result text
-            (λ (t : String Global). IsTranscript (λ (s : FaultStore MemoryIs). AreTold (store_of s)) (λ (s : FaultStore MemoryIs). with_fault (left_of s) 0) (λ (s : FaultStore MemoryIs). IsWhole (store_of s))
-            (λ (s : FaultStore MemoryIs). length (store_of s).pages) (λ (s : FaultStore MemoryIs). slot_in (store_of s)) (λ (s : FaultStore MemoryIs). IsGiven (store_of s)) (config_of h) h.seed c.args.guests.items w.new-store.result c.args.events.items (string_bytes t))
+            (λ (t : String Global). IsTranscript in_failing (config_of h) h.seed c.args.guests.items w.new-store.result c.args.events.items (string_bytes t))
             (sym w.told-is ∙ c.in-Ok-told.is) w.simulate-told-in-Some.ensures.transcript;
       })
     ]

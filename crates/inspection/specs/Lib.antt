@@ -1,0 +1,3 @@
+pub mod Extras
+pub mod Memory
+pub mod Registers

@@ -1,0 +1,5 @@
+mod Ends
+mod Entered
+mod Fetches
+mod InputFed
+mod Rounds

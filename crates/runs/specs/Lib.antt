@@ -1,0 +1,4 @@
+pub mod Endings
+pub mod Entries
+pub mod Loops
+pub mod Runs

@@ -1,0 +1,95 @@
+//! A run: the console input, and then steps.
+ghost use Rattle.std.specs.Prelude.{◌≡◌, ◌+◌, ◌≤◌, None, length, take, IfSome};
+ghost use Rattle.runs.specs.Endings.{IsFirst};
+ghost use Rattle.runs.specs.Runs.{after_run, after_steps, fed, IsCount};
+
+use crate::ending::{state_ending, step_ending};
+use crate::feeding::feed_all;
+use crate::{Ending, Runnable, Until};
+use guest_log::Stop;
+
+/// How a run went.
+#[derive(Clone, Copy, Debug, PartialEq, Eq)]
+pub struct Ran {
+    /// How many bytes of console input were taken before the first step.
+    pub taken: usize,
+    /// How many steps were made.
+    pub steps: u32,
+    /// Why no more were made, where the machine stopped before the last.
+    pub stop: Option<Stop>,
+    /// Which state the run was to end at it ended at, if it did.
+    pub ending: Option<Ending>,
+}
+
+/// Takes the console input, and makes `steps` steps, or fewer where the machine stops before or comes to a state that the run is to end at.
+/// No state before the last was one of those, the machine's before the first step among them.
+pub fn run<M: Runnable>(machine: &mut M, input: &[u8], steps: u32, until: &Until) -> Ran
+    requires { length (M.state machine.old).world.devices.console.input + length input.now ≤ 256 }
+    ensures count { IsCount input.now steps result }
+    ensures state { M.state machine.new ≡ after_run result input.now (M.state machine.old) }
+    ensures first { IsFirst until.now (fed (take result.taken input.now) (M.state machine.old)) result }
+    ensures reason { IfSome result.stop (M.may_stop machine.new) }
+{
+    match feed_all(machine, input) {
+        (taken, Some(stop)) => Ran {
+            taken,
+            steps: 0,
+            stop: Some(stop),
+            ending: None,
+        },
+        (taken, None) if until.is_never() => make_all(machine, taken, steps),
+        (taken, None) => make_until(machine, taken, steps, until),
+    }
+}
+
+/// Makes `count` steps, or fewer where the machine stops before.
+fn make_all<M: Runnable>(machine: &mut M, taken: usize, count: u32) -> Ran
+    ensures taken { result.taken ≡ taken }
+    ensures made { result.steps ≤ count }
+    ensures all { result.stop ≡ None → result.steps ≡ count }
+    ensures state { M.state machine.new ≡ after_steps result.steps (M.state machine.old) }
+    ensures nowhere { result.ending ≡ None }
+    ensures reason { IfSome result.stop (M.may_stop machine.new) }
+{
+    let (steps, stop) = machine.steps(count);
+    Ran {
+        taken,
+        steps,
+        stop,
+        ending: None,
+    }
+}
+
+/// Makes `count` steps, or fewer where the machine stops before or comes to a state that the run is to end at: it is looked at before the
+/// first step and after each.
+fn make_until<M: Runnable>(machine: &mut M, taken: usize, count: u32, until: &Until) -> Ran
+    ensures taken { result.taken ≡ taken }
+    ensures made { result.steps ≤ count }
+    ensures all { result.stop ≡ None → result.ending ≡ None → result.steps ≡ count }
+    ensures state { M.state machine.new ≡ after_steps result.steps (M.state machine.old) }
+    ensures first { IsFirst until.now (M.state machine.old) result }
+    ensures reason { IfSome result.stop (M.may_stop machine.new) }
+{
+    let mut made: u32 = 0;
+    let mut ending = state_ending(machine, until);
+    while made < count && ending.is_none() {
+        let before = machine.view().cpu.cp0().status();
+        let (_, stop) = machine.steps(1);
+        if stop.is_some() {
+            return Ran {
+                taken,
+                steps: made,
+                stop,
+                ending: None,
+            };
+        }
+        made += 1;
+        ending = step_ending(machine, until, before);
+    }
+    Ran {
+        taken,
+        steps: made,
+        stop: None,
+        ending,
+    }
+}
