@@ -41,7 +41,7 @@ use Rattle.swapstore.specs.Memories.{MemoryIs}
 use Rattle.guest.specs.declared.refused.Refused.{Refused}
 use Rattle.guest.specs.declared.refused.Refused.TheVariants as refused
 use Rattle.world.specs.Boots.{AreBooted}
-use Rattle.world.specs.declared.boot.NewGuest.{NewGuest}
+use Rattle.booting.specs.declared.asked.NewGuest.{NewGuest}
 use Rattle.world.specs.declared.running.End.{End}
 use Rattle.world.specs.declared.running.End.TheVariants as end
 use Rattle.world.specs.declared.running.RunStop.{RunStop}

@@ -11,7 +11,7 @@ use Rattle.script.specs.Allowed.{is_allowed, has_pages}
 use Rattle.script.specs.Headers as headers
 use Rattle.script.specs.Views.{event_view, guest_view, script_view}
 use Rattle.script.specs.declared.header.Script.{Script as ScriptCode}
-use Rattle.world.specs.declared.boot.NewGuest.{NewGuest}
+use Rattle.booting.specs.declared.asked.NewGuest.{NewGuest}
 use Rattle.world.specs.Boots.{AreAdmitted, AreWithinLimits}
 use Rattle.simulation.specs.Acts.{IsFor}
 use Rattle.script.specs.Scripts.{Script, script_of}

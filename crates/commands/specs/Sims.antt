@@ -7,8 +7,8 @@ use Rattle.script.specs.declared.header.Header.{Header as HeaderCode}
 use Rattle.script.specs.declared.header.Script.{Script as ScriptCode}
 use Rattle.script.specs.Scripts.{Script, script_of}
 use Rattle.script.specs.Views.{script_view}
-use Rattle.world.specs.declared.boot.Config.{Config}
-use Rattle.world.specs.declared.boot.NewGuest.{NewGuest}
+use Rattle.booting.specs.declared.asked.Config.{Config}
+use Rattle.booting.specs.declared.asked.NewGuest.{NewGuest}
 use Rattle.world.specs.Boots.{AreAdmitted, AreWithinLimits}
 use Rattle.world.specs.Worlds.{StoreFacts}
 use Rattle.simulation.specs.Transcripts.{IsTranscript}

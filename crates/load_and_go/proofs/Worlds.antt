@@ -8,8 +8,8 @@ use Rattle.mips_step.specs.Step.{Machine}
 use Rattle.flatvm.specs.Boot.{boot_machine}
 use Rattle.flatvm.specs.Items.{run}
 use Rattle.guest.specs.Guests.{view_of}
-use Rattle.world.specs.declared.boot.Config.{Config}
-use Rattle.world.specs.declared.boot.NewGuest.{NewGuest}
+use Rattle.booting.specs.declared.asked.Config.{Config}
+use Rattle.booting.specs.declared.asked.NewGuest.{NewGuest}
 use Rattle.tenant.specs.declared.loading.BootError.{BootError}
 use Rattle.tenant.specs.declared.loading.BootError.TheVariants as error
 use Rattle.world.specs.Boots.{HoldsImage, AreBooted, WhyNotBooted}

@@ -1,7 +1,7 @@
 -- The guest that a text becomes, and why a world with it alone is not booted.
 use Rattle.std.specs.Prelude.{◌≡◌, ℕ, List, [], ◌∷◌}
-use Rattle.world.specs.declared.boot.Config.{Config}
-use Rattle.world.specs.declared.boot.NewGuest.{NewGuest}
+use Rattle.booting.specs.declared.asked.Config.{Config}
+use Rattle.booting.specs.declared.asked.NewGuest.{NewGuest}
 use Rattle.world.specs.Boots as world
 use Rattle.load_and_go.specs.declared.error.BootError.{BootError}
 use Rattle.load_and_go.specs.declared.error.BootError.TheVariants.{Text, World}

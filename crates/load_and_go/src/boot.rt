@@ -10,7 +10,7 @@ ghost use Rattle.sharetab.specs.declared.guest_page.GuestPage.{GuestPage};
 ghost use Rattle.guest.specs.Guests.{view_of};
 ghost use Rattle.world.specs.Boots.{AreWithinLimits, HoldsImage, AreBooted};
 ghost use Rattle.tenant.specs.Tenants.{TenantIs};
-ghost use Rattle.world.specs.declared.boot.NewGuest as boot;
+ghost use Rattle.booting.specs.declared.asked.NewGuest as boot;
 ghost use Rattle.load_and_go.specs.Executables.{IsReadFrom};
 ghost use Rattle.load_and_go.specs.Errors.{IsErrorOf};
 ghost use Rattle.load_and_go.specs.Guests.{IsGuestOf, WhyNotBooted};

@@ -1,5 +1,5 @@
 -- Events, one after another.
-use Rattle.std.proofs.Common.{Result, Ok, Err, IfOk, OnOk, ◌≡◌, refl, sym, ap, subst, ◌∙◌, ℕ, Bool, true, false, nat_lt, Option, List, [], ◌∷◌, ◌++◌, append_assoc, if◌then◌else◌}
+use Rattle.std.proofs.Common.{Result, Ok, Err, IfOk, OnOk, ◌≡◌, refl, sym, ap, subst, ◌∙◌, ℕ, Bool, true, false, nat_lt, List, [], ◌∷◌, ◌++◌, append_assoc, if◌then◌else◌}
 use Rattle.std.proofs.lemmas.List.{append-nil}
 use Rattle.world.specs.All.{StoreFacts, Stream, TenantIs, WorldIs}
 use Rattle.script.specs.declared.event.Event.{Event}

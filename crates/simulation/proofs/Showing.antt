@@ -1,5 +1,5 @@
 -- What is shown of guests, by what is done.
-use Rattle.std.proofs.Common.{◌≡◌, refl, sym, ap, subst, ◌∙◌, arith, ℕ, zero, suc, ◌<◌, All, List, [], ◌∷◌, ◌++◌, Ok, Err, Option, Some, None, false, length, map, get_or, string_bytes}
+use Rattle.std.proofs.Common.{◌≡◌, refl, sym, ap, subst, ◌∙◌, arith, ℕ, zero, suc, ◌<◌, All, List, [], ◌∷◌, ◌++◌, Ok, Err, Some, None, false, length, map, get_or, string_bytes}
 use Rattle.std.proofs.lemmas.List.{length-map}
 use Rattle.std.proofs.lemmas.List.Elements.{All-head, All-tail}
 use Rattle.std.specs.declared.alloc.Global.{Global}
@@ -9,7 +9,7 @@ use Rattle.world.specs.All.{AreBooted, Item, Machine, Reply, StoreFacts, Stream,
 use Rattle.dump.specs.Dumps.{dump_text}
 use Rattle.dump.specs.Steps.{step_count}
 use Rattle.script.specs.declared.event.Event.{Event}
-use Rattle.world.specs.declared.boot.NewGuest.{NewGuest}
+use Rattle.booting.specs.declared.asked.NewGuest.{NewGuest}
 use Rattle.world.specs.declared.debugging.DebugError.TheVariants.{NoPlace}
 use Rattle.world.specs.declared.events.Answer.TheVariants as answer
 use Rattle.world.specs.declared.events.Event.TheVariants as happening

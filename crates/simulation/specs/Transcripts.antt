@@ -1,5 +1,5 @@
 -- What is done and answered by a list of events.
-use Rattle.std.specs.Prelude.{◌≡◌, ◌↔◌, ◌+◌, ◌≤◌, ℕ, false, true, List, [], ◌∷◌, ◌++◌, length, map, sum_by, slice_index_or, string_bytes, Option, Some, None, Ok, Err, IfOk, OnOk, OnErr}
+use Rattle.std.specs.Prelude.{◌≡◌, ◌↔◌, ◌+◌, ◌≤◌, ℕ, false, true, List, [], ◌∷◌, ◌++◌, length, map, sum_by, slice_index_or, string_bytes, Some, None, Ok, Err, IfOk, OnOk, OnErr}
 use Rattle.std.specs.declared.vec.Vec.{Vec}
 use Rattle.std.specs.declared.string.String.{String}
 use Rattle.std.specs.declared.alloc.Global.{Global}
@@ -14,8 +14,8 @@ use Rattle.dump.specs.Dumps.{dump_text}
 use Rattle.dump.specs.Steps.{step_count}
 use Rattle.script.specs.declared.event.Event.{Event}
 use Rattle.world.specs.declared.books.BookCounts.{BookCounts}
-use Rattle.world.specs.declared.boot.Config.{Config}
-use Rattle.world.specs.declared.boot.NewGuest.{NewGuest}
+use Rattle.booting.specs.declared.asked.Config.{Config}
+use Rattle.booting.specs.declared.asked.NewGuest.{NewGuest}
 use Rattle.world.specs.declared.debugging.DebugError.TheVariants.{NoPlace}
 use Rattle.world.specs.declared.events.Answer.TheVariants as answer
 use Rattle.world.specs.declared.events.Event.TheVariants as happening

@@ -6,7 +6,7 @@ use Rattle.paging.proofs.Keeping.{all_kept}
 use Rattle.world.specs.declared.faulting.FaultError.TheVariants as lacking
 use Rattle.world.specs.declared.running.End.TheVariants as end
 use Rattle.world.specs.declared.running.RunStop.TheVariants as stop
-use Rattle.world.proofs.Worlds.{store_then}
+use Rattle.booting.proofs.Stores.{store_then}
 
 pub sound_damaged : (frames slots slots' : ℕ) (trusted trusted' : Type 0) (held held' : ℕ → Option (List ℕ)) (ts : List TenantIs) (pool book : FreeList) (es : EntriesAre)
     → slots' ≡ slots → (trusted' → trusted) → AllStay held held' → Sound frames slots trusted held ts pool book es → Sound frames slots' trusted' held' ts pool book es

@@ -1,6 +1,6 @@
 pub mod Admitting
 pub mod All
-pub mod BootedGuests
+pub mod Booting
 pub mod Choices
 pub mod Damaged
 pub mod Feeding
@@ -12,4 +12,3 @@ pub mod Turning
 pub mod Unsupplied
 pub mod Victims
 pub mod Worlds
-pub mod SlotOrder

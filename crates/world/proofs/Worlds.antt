@@ -1,20 +1,18 @@
 -- One guest of a world changes, and the rest is as before.
-use Rattle.std.proofs.Common.{ℕ, zero, suc, ◌≡◌, ◌≢◌, ◌<◌, ◌≤◌, inl, inr, Bool, true, false, if◌then◌else◌, ◌==◌, eq-eqb, eqb-true, ne_eqb, List, [], ◌∷◌, ◌++◌, length, set, get_or, map, replicate, Option, None, refl, sym, ap, subst, ◌∙◌, arith, length-set, length-append, append_assoc, Result, Ok, Err, IfErr, IfOk, OnOk, OnErr}
+use Rattle.std.proofs.Common.{ℕ, zero, suc, ◌≡◌, ◌≢◌, ◌<◌, ◌≤◌, inl, inr, Bool, true, false, if◌then◌else◌, ◌==◌, eq-eqb, eqb-true, ne_eqb, List, [], ◌∷◌, ◌++◌, length, set, get_or, map, replicate, Option, None, refl, sym, ap, subst, ◌∙◌, arith, length-set, append_assoc, Result, Ok, Err, IfErr, IfOk, OnOk, OnErr}
 use Rattle.std.proofs.lemmas.Bool.{cases_eq, cases_lt}
 use Rattle.std.proofs.lemmas.List.{get_or-set_same, get_or-set_other, get_or_past, map-set, length-map, append-nil, set-get_or}
-use Rattle.std.proofs.lemmas.List.Elements.{All-nil, All-push, All-get_or, All-from_get_or}
-use Rattle.world.specs.All.{Adds, AddsSteps, AllHappen, Answer, AroundStays, Books, Changes, Conserves, EntriesAre, Event, FreeList, GuestIs, Happens, Intact, IsKept, Item, Lent, NothingHappens, OnlyBooksChange, Page, Reads, Refused, Reply, SameAround, SharesAre, Sound, Stays, StepOut, StoreFacts, StoreStays, Stream, SupplyError, TenantIs, UsedStay, WhyAway, WorldIs, below, beside_pages, boot_of, count_of, input_items, item_for, items_of, log_at, need_of, outline, own, own_items, pages_in, pages_of, pages_seen, slots_held, step_by, step_items, steps_for, view_of}
+use Rattle.std.proofs.lemmas.List.Elements.{All-get_or, All-from_get_or}
+use Rattle.world.specs.All.{Adds, AddsSteps, AllHappen, Answer, AroundStays, Books, Changes, Conserves, EntriesAre, Event, FreeList, GuestIs, Happens, IsKept, Item, Lent, NothingHappens, OnlyBooksChange, Page, Reads, Refused, Reply, SameAround, SharesAre, Sound, Stays, StepOut, StoreFacts, Stream, SupplyError, TenantIs, UsedStay, WhyAway, WorldIs, beside_pages, boot_of, count_of, input_items, item_for, items_of, log_at, need_of, outline, own, own_items, pages_in, pages_of, slots_held, step_by, step_items, steps_for}
 use Rattle.items.specs.Entries.{steps_of}
 use Rattle.guest_log.specs.declared.stop.Stop.{Stop}
 use Rattle.mips_step.specs.declared.access.StepOut.TheVariants as out
-use Rattle.physmap.specs.declared.page.Page.TheVariants as page
 use Rattle.paging.specs.declared.supply.SupplyError.TheVariants.{SwapDamaged}
-use Rattle.paging.proofs.Starting.{books_of_nothing, books_with_owner}
-use Rattle.paging.specs.Faith.{Kept}
 use Rattle.paging.proofs.Booking.{books_after, reads_each}
 use Rattle.tenant.proofs.Lending.{lent as books_lend}
 use Rattle.tenant.proofs.Giving.{outline_conserves, outline_reads}
 use Rattle.tenant.proofs.Keeping.{used_kept}
+use Rattle.booting.proofs.Stores.{store_same, store_then}
 use Rattle.world.proofs.Victims.{some_tenant, changed}
 
 -- ---- one guest
@@ -207,62 +205,9 @@ why_away (Ok x) pool failed damaged wanted why w = tt
 why_away (Err SwapDamaged) pool failed damaged wanted why w = (w.0, why refl w.1)
 why_away (Err e) pool failed damaged wanted why w = w
 
--- ---- a new world, and one more guest
-
-pub sound_new : (frames slots : ℕ) (trusted : Type 0) (held : ℕ → Option (List ℕ)) (pool book : FreeList) (es : EntriesAre) → ((k : ℕ) → count_of k pool.free ≡ below k frames) → pool.out ≡ 0
-    → ((k : ℕ) → count_of k book.free ≡ below k slots) → book.out ≡ 0 → es ≡ replicate frames None → Sound frames slots trusted held [] pool book es
-sound_new frames slots trusted held pool book es each none each_slot none_used vacant = record {
-  books = subst (λ (e : EntriesAre). Books frames slots [] e pool book) (sym vacant) (books_of_nothing frames slots pool book each none each_slot none_used);
-  kept = λ trust. All-nil (IsKept held);
-}
-
-last_pages : (ts : List TenantIs) (t : TenantIs) → map pages_in (ts ++ t ∷ []) ≡ map pages_in ts ++ pages_in t ∷ []
-last_pages [] t = refl
-last_pages (u ∷ ts) t = ap (λ (l : List (List Page)). pages_in u ∷ l) (last_pages ts t)
-
-set_last : {X : Type 0} (xs : List X) (a b : X) → set (xs ++ a ∷ []) (length xs) b ≡ xs ++ b ∷ []
-set_last [] a b = refl
-set_last (x ∷ xs) a b = ap (λ (l : List _). x ∷ l) (set_last xs a b)
-
 pub get_last : {X : Type 0} (xs : List X) (a d : X) → get_or (xs ++ a ∷ []) (length xs) d ≡ a
 get_last [] a d = refl
 get_last (x ∷ xs) a d = get_last xs a d
-
--- the last guest, where one was added to those that there are
-pub last_tenant : (ts inside : List TenantIs) (new t : TenantIs) → inside ≡ ts → get_or (inside ++ new ∷ []) (length ts) t ≡ new
-last_tenant ts inside new t same = ap (λ (l : List TenantIs). get_or (l ++ new ∷ []) (length ts) t) same ∙ get_last ts new t
-
--- a slot that is free is one of them all, and is free once
-pub slots_once : (frames slots : ℕ) (trusted : Type 0) (held : ℕ → Option (List ℕ)) (ts : List TenantIs) (pool book : FreeList) (es : EntriesAre)
-    → Sound frames slots trusted held ts pool book es → (k : ℕ) → count_of k book.free ≤ below k slots
-slots_once frames slots trusted held ts pool book es s k = omega (arith, s.books.each_slot k)
-
--- one guest more, which has its seats now
-pub sound_add_new : (frames slots n : ℕ) (trusted trusted' : Type 0) (held held' : ℕ → Option (List ℕ)) (ts : List TenantIs) (g : GuestIs) (t : TenantIs) (pool pool' book book' : FreeList) (es : EntriesAre)
-    → t.guest ≡ record g { seats = 4 } → Conserves (replicate n page.Zero) pool book es g.bus.pages pool' book' es → Reads es g.bus.pages
-    → (trusted' → trusted) → (trusted → Intact g) → (trusted → Kept held' (pages_seen (view_of g)) g.bus.pages) → (trusted → UsedStay book held held')
-    → Sound frames slots trusted held ts pool book es → Sound frames slots trusted' held' (ts ++ t ∷ []) pool' book' es
-sound_add_new frames slots n trusted trusted' held held' ts g t pool pool' book book' es seated conserves reads trust intact kept used s =
-    let all = map pages_in ts in
-    let new = replicate n page.Zero in
-    let last = length all in
-    let inside : last < length (all ++ new ∷ []) = omega (arith, length-append all (new ∷ [])) in
-    let at : get_or (all ++ new ∷ []) last [] ≡ new = get_last all new [] in
-    let its : g.bus.pages ≡ pages_in t = sym (ap (λ (h : GuestIs). h.bus.pages) seated) in
-    record {
-      books = subst (λ (l : List (List Page)). Books frames slots l es pool' book') (set_last all new g.bus.pages ∙ ap (λ (ps : List Page). all ++ ps ∷ []) its ∙ sym (last_pages ts t))
-          (books_after frames slots (all ++ new ∷ []) last g.bus.pages es es pool pool' book book' inside
-          (subst (λ (ps : List Page). Conserves ps pool book es g.bus.pages pool' book' es) (sym at) conserves) reads
-          (books_with_owner frames slots all es pool book n s.books));
-      kept = λ trust'. All-push (IsKept held') ts t (All-from_get_or (IsKept held') ts t (λ j h. others (trust trust') j h)) (record {
-        intact = subst Intact (sym seated) (record { shows = (intact (trust trust')).shows; accepted = (intact (trust trust')).accepted });
-        pages = subst (λ (h : GuestIs). Kept held' (pages_seen (view_of h)) h.bus.pages) (sym seated) (kept (trust trust'));
-      });
-    }
-  where
-    others : trusted → (j : ℕ) → j < length ts → IsKept held' (get_or ts j t)
-    others now j h =
-        used_kept book held held' (get_or ts j t) (used now) (λ slot some. not_free frames slots ts j t pool book es slot h s.books some) (All-get_or (IsKept held) ts j t h (s.kept now))
 
 -- an item that is no step leaves where pages are
 pub input_sound : {frames slots : ℕ} {trusted : Type 0} {held : ℕ → Option (List ℕ)} {ts : List TenantIs} {pool book : FreeList} {es : EntriesAre} → Sound frames slots trusted held ts pool book es
@@ -299,21 +244,6 @@ pub same_boots : {g : ℕ} {ts ts' : List TenantIs} → Changes Stays g ts ts' �
 same_boots c inside = changed boot_of c inside (λ t t' s. s.boot)
 
 -- ---- what lies around the guests
-
-pub store_same : {Store : Type 0} {facts : StoreFacts Store} {s s' : Store} → s' ≡ s → StoreStays facts s s'
-store_same {facts = facts} same = record {
-  slots = ap facts.slots same;
-  honest = (subst facts.honest same, subst facts.honest (sym same));
-  true_to_digests = (subst facts.true_to_digests same, subst facts.true_to_digests (sym same));
-}
-
-pub store_then : {Store : Type 0} {facts : StoreFacts Store} {s mid s' : Store}
-    → StoreStays facts s mid → StoreStays facts mid s' → StoreStays facts s s'
-store_then a b = record {
-  slots = b.slots ∙ a.slots;
-  honest = (λ now. a.honest.0 (b.honest.0 now), λ before. b.honest.1 (a.honest.1 before));
-  true_to_digests = (λ now. a.true_to_digests.0 (b.true_to_digests.0 now), λ before. b.true_to_digests.1 (a.true_to_digests.1 before));
-}
 
 pub around_then : {Store : Type 0} {facts : StoreFacts Store} {w mid w' : WorldIs Store}
     → AroundStays facts w mid → AroundStays facts mid w' → AroundStays facts w w'

@@ -1,5 +1,4 @@
 -- What definitions and proofs of this crate name of the crates below it.
-pub use Rattle.elf32.specs.Images.{FitsPages}
 pub use Rattle.flatvm.specs.Answers.{replied}
 pub use Rattle.flatvm.specs.Items.{accepts, reply, run}
 pub use Rattle.flatvm.specs.Replies.{SomePlaceIn, bytes_at}
@@ -52,7 +51,6 @@ pub use Rattle.taxpolicy.specs.Sample.{after_words}
 pub use Rattle.taxpolicy.specs.Victim.{IsEligible, IsLeast, victim_of}
 pub use Rattle.taxpolicy.specs.declared.stat.Stat.{Stat}
 pub use Rattle.tenant.specs.Lent.{Lent, UsedStay, WhyStays}
-pub use Rattle.tenant.specs.Loading.{FramesFirst, NonePrivate, SlotsRise, WhyNotLoaded}
 pub use Rattle.tenant.specs.Tenants.{Adds, AddsSteps, IsBooted, IsKept, IsSampled, NothingHappens, Stays, TenantIs, beside_pages, pages_in, stat_of}
 pub use Rattle.tenant.specs.Turns.{IsAimed, StaysInTurn, is_left_out, target_by_policy}
 pub use Rattle.tenant.specs.declared.loading.BootError.{BootError}

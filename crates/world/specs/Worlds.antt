@@ -1,8 +1,8 @@
 -- What is seen of a world, and what its guests have to do with what lies around them.
-use Rattle.std.specs.Prelude.{◌≡◌, ◌↔◌, ℕ, ◌==◌, if◌then◌else◌, List, [], ◌∷◌, Option, All, length, map, slice_set, slice_index_or}
+use Rattle.std.specs.Prelude.{◌≡◌, ℕ, ◌==◌, if◌then◌else◌, List, [], ◌∷◌, Option, All, length, map, slice_set, slice_index_or}
 use Rattle.world.specs.Below.{Books, EntriesAre, FreeList, IsKept, Item, Level, Machine, Page, SharesAre, TenantIs, Why, accesses, beside_pages, first_lack, lacks_in, one_more, pages_in, view_of}
--- what a store is said to be: whether it is honest and true to digests, what it holds and gives, its slots and its failures
-pub use Rattle.swapstore.specs.declared.store.SwapStore.{Ghosts as StoreFacts}
+-- what a store is said to be, and what stays of it
+pub use Rattle.booting.specs.Stores.{StoreFacts, StoreStays}
 
 pub record WorldIs (Store : Type 0) : Type 0 where
   -- the guests, that of number g at place g
@@ -87,12 +87,6 @@ pub record OnlyBooksChange {Store : Type 0} (w w' : WorldIs Store) : Type 0 wher
   pub store : w'.store ≡ w.store
   pub frames : w'.frames ≡ w.frames
   pub level : w'.level ≡ w.level
-
--- a store has as many slots as before, and is honest and true to digests where it was
-pub record StoreStays {Kept : Type 0} (facts : StoreFacts Kept) (s s' : Kept) : Type 0 where
-  pub slots : facts.slots s' ≡ facts.slots s
-  pub honest : facts.honest s' ↔ facts.honest s
-  pub true_to_digests : facts.true_to_digests s' ↔ facts.true_to_digests s
 
 -- What no move of pages changes around the guests: where pages were last noted with which digests, how many frames there are, the level,
 -- and what is so of the store.

@@ -1,76 +1,38 @@
 //! Worlds that are booted with all of their guests.
-ghost use Rattle.std.specs.Prelude.{◌≡◌, All};
+ghost use Rattle.std.specs.Prelude.{◌≡◌, ◌≤◌, ℕ, All, [], length, map, vec_capacity};
+ghost use Rattle.booting.specs.Boots.{AreAtBoot, IsWithinLimits};
+ghost use Rattle.world.specs.Boots.{AreBooted, guest_in, with_seats};
 
-use crate::World;
-use crate::limits::refusal;
-use elf32::Image;
+use crate::{Config, NewGuest, Parts, World};
+use booting::Booted;
+use guest::Guest;
+use reclaim::Level;
 use std::alloc::Global;
-use std::sync::Arc;
 use swapstore::SwapStore;
-use tenant::BootError;
+use tenant::{BootError, Tenant};
 
-/// What a world has, but for its store and its guests.
-#[derive(Clone, Copy, Debug, PartialEq, Eq)]
-pub struct Config {
-    /// How many frames of machine memory there are, 4 to 65,536.
-    pub frames: u32,
-    /// The greatest number of runs that a guest's log may have, 16 to 1,048,576.
-    pub log_runs: u32,
-    /// Whether guests are admitted by their minimums alone: only where there is a frame for each page that they always keep and one more
-    /// for each guest, and a slot for each of their other pages.
-    pub admit: bool,
-}
-
-/// A guest that is to be booted.
-#[derive(Drop)]
-pub struct NewGuest {
-    /// Its image. Guests may share one.
-    pub image: Arc<Image, Global>,
-    /// How many pages its memory has, 2 to 16,384.
-    pub pages: u32,
-    /// How many shares of the machine's memory it has, 1 to 1,000,000.
-    pub shares: u32,
-    /// How many resident pages it always keeps, 2 to its pages.
-    pub minimum: u32,
+// Guests that are booted get their seats, and what the policy goes by.
+fn seat_each(guests: Vec<Guest>, asked: &[NewGuest], tenants: &mut Vec<Tenant>)
+    requires none { tenants.old.items ≡ [] }
+    requires room { length guests.items ≤ vec_capacity tenants.old }
+    requires within { All IsWithinLimits asked.now }
+    requires at_boot { (runs : ℕ) × AreAtBoot runs asked.now guests.items }
+    ensures guests { map guest_in tenants.new.items ≡ map with_seats guests.items }
+    ensures booted { (runs : ℕ) → AreAtBoot runs asked.now guests.items → AreBooted runs asked.now tenants.new.items }
+{
+    let mut rest = guests.into_iter();
+    for new in asked {
+        let Some(guest) = rest.next() else {
+            unreachable!()
+        };
+        tenants.push_reserved(Tenant::new(guest, new.shares, new.minimum));
+    }
+    rest.destroy_empty();
 }
 
 impl<S: SwapStore> World<S> {
-    ghost use Rattle.std.specs.Prelude.{◌≡◌, ◌+◌, ◌<◌, true, All, IfOk, IfErr, None, [], length, sum_by};
-    ghost use Rattle.world.specs.All.{AreAdmitted, AreBooted, AreWithinLimits, AroundStays, BootError, FramesComeFirst, GuestPage, HoldsImage, IsAdmitted, IsWithinLimits, Level, SlotsComeInOrder, StoreStays, WhyNotBooted, WhyNotLoaded, at_page, one_more};
-
-    // A world of no guest gets guests, in their order.
-    fn with_guests(
-        self,
-        alloc: Global,
-        guests: Vec<NewGuest>,
-        log_runs: u32,
-    ) -> Result<World<S>, (BootError, S)>
-        requires none { self.tenants ≡ [] }
-        requires within { All IsWithinLimits guests.items }
-        requires hold { All HoldsImage guests.items }
-        ensures booted { IfOk result (λ w. AreBooted log_runs guests.items w.tenants) }
-        ensures shares { IfOk result (λ w. w.shares ≡ self.shares) }
-        ensures around { IfOk result (λ w. AroundStays S.SwapStore self w) }
-        ensures frames_first { IfOk result (λ w. FramesComeFirst w.pool w.tenants) }
-        ensures slots_in_order { IfOk result (λ w. SlotsComeInOrder w.slots w.tenants) }
-        ensures room { IfErr result (λ refused. refused.0 ≡ BootError.Room →
-            length self.pool.free + length self.slots.free < sum_by (λ g. g.pages) guests.items) }
-        ensures err { IfErr result (λ refused. WhyNotLoaded (S.failed refused.1 ≡ one_more (S.failed self.store)) refused.0) }
-        ensures back { IfErr result (λ refused. StoreStays S.SwapStore self.store refused.1) }
-    {
-        let mut world = self;
-        for guest in guests {
-            world = world.add(
-                alloc,
-                guest.image,
-                guest.pages,
-                guest.shares,
-                guest.minimum,
-                log_runs,
-            )?;
-        }
-        Ok(world)
-    }
+    ghost use Rattle.std.specs.Prelude.{◌≡◌, ◌≤◌, ℕ, true, All, IfOk, IfErr, None, [], length, map, vec_capacity};
+    ghost use Rattle.world.specs.All.{AreAdmitted, AreBooted, AreWithinLimits, BootError, FramesComeFirst, GuestPage, HoldsImage, IsAdmitted, Level, SlotsComeInOrder, StoreStays, WhyNotBooted, at_page, one_more, pages_in};
 
     /// A world with these guests, each at the boot of its image, in their order. The image's pages are in frames while one is free,
     /// guests and pages rising, and then in slots of the store, which has at most 131,072, the slots' numbers rising from 0.
@@ -94,19 +56,37 @@ impl<S: SwapStore> World<S> {
         ensures store { IfOk result (λ w. StoreStays S.SwapStore store w.store) }
         ensures within { IfOk result (λ w. AreWithinLimits config (S.slots store) guests.items × All HoldsImage guests.items × AreAdmitted config (S.slots store) guests.items) }
         ensures admitted { IfOk result (λ w. config.admit ≡ true → IsAdmitted config.frames (S.slots store) w.tenants) }
-        ensures frames_first { IfOk result (λ w. FramesComeFirst w.pool w.tenants) }
-        ensures slots_in_order { IfOk result (λ w. SlotsComeInOrder w.slots w.tenants) }
+        ensures frames_first { IfOk result (λ w. FramesComeFirst w.pool (map pages_in w.tenants)) }
+        ensures slots_in_order { IfOk result (λ w. SlotsComeInOrder w.slots (map pages_in w.tenants)) }
         ensures err { IfErr result (λ refused. WhyNotBooted config (S.slots store) guests.items refused.0) }
         ensures failed { IfErr result (λ refused. refused.0 ≡ BootError.Store → S.failed refused.1 ≡ one_more (S.failed store)) }
         ensures admitted_find_room { IfErr result (λ refused. refused.0 ≡ BootError.Room → config.admit ≡ true → ⊥) }
         ensures back { IfErr result (λ refused. StoreStays S.SwapStore store refused.1) }
     {
-        if let Some(error) = refusal(config, store.slot_count(), &guests) {
-            return Err((error, store));
-        }
-        match World::new(alloc, config.frames, store) {
-            Ok(world) => world.with_guests(alloc, guests, config.log_runs),
-            Err(store) => Err((BootError::Memory, store)),
-        }
+        let booted = match booting::boot(alloc, config, guests, store) {
+            Ok(booted) => booted,
+            Err(refused) => return Err(refused),
+        };
+        let Ok(mut tenants) = Vec::with_capacity(alloc, booted.guests.len()) else {
+            return Err((BootError::Memory, booted.close()));
+        };
+        let Booted {
+            guests,
+            asked,
+            pool,
+            slots,
+            shares,
+            store,
+        } = booted;
+        seat_each(guests, &asked, &mut tenants);
+        Ok(World::from_parts(Parts {
+            tenants,
+            pool,
+            slots,
+            shares,
+            store,
+            frames: config.frames,
+            level: Level::High,
+        }))
     }
 }

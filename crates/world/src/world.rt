@@ -1,7 +1,6 @@
 //! A world of guests.
 ghost use Rattle.std.specs.Prelude.{◌≡◌, ◌≢◌, ◌<◌};
 
-use elf32::Image;
 use flatvm::Reply;
 use framepool::Pool;
 use guest::{Refused, Stop};
@@ -13,12 +12,8 @@ use reclaim::Level;
 use sharetab::{GuestNo, Shares};
 use std::alloc::Global;
 use std::marker::Model;
-use std::sync::Arc;
 use swapstore::{SlotBook, SwapStore};
-use tenant::{
-    BootError, Cause, EvictError, MoveCounts, Tenant, evict_page, loaded, scan_page, step_in,
-    supply_page,
-};
+use tenant::{Cause, EvictError, MoveCounts, Tenant, evict_page, scan_page, step_in, supply_page};
 use word32::Ppn;
 
 /// What became of a page that was to leave its frame.
@@ -65,119 +60,9 @@ fn close_parts(mut tenants: Vec<Tenant>, pool: Pool, slots: SlotBook, shares: Sh
 }
 
 impl<S: SwapStore> World<S> {
-    ghost use Rattle.std.specs.Prelude.{◌≡◌, ◌≢◌, ◌+◌, ◌<◌, ◌≤◌, ◌^◌, ◌↔◌, ℕ, true, false, IsTrue, List, [], ◌∷◌, ◌++◌, Option, None, IfOk, IfErr, OnOk, OnErr, IfSome, IfNone, IsErrOf, length, replicate, slice_index_or};
-    ghost use Rattle.world.specs.All.{Adds, AllFit, Answered, AroundStays, Became, BootError, Changes, Comes, FailsOnce, FitsPages, FramesFirst, GuestPage, HasDamage, HintsAfter, IsBooted, IsFull, IsSoundWorld, Level, NonePrivate, NothingHappens, OnlyBooksChange, PageKind, PagesMove, SameAround, SameNumbers, SlotsRise, Stays, StoreStays, TenantIs, WhyAway, WhyNotLoaded, WhyStays, WorldIs, WritesTo, accepts, at_page, count_of, guest_at, is_resident, is_step, kind_at, lacks_in, need_of, needed_by, one_more, page_at, pages_at, pages_in, replied, reply, sha256, shown, slots_held, standing, step_by, view_at};
+    ghost use Rattle.std.specs.Prelude.{◌≡◌, ◌≢◌, ◌<◌, ◌≤◌, ◌^◌, ◌↔◌, ℕ, true, false, IsTrue, List, Option, None, IfOk, IfErr, OnOk, OnErr, IfSome, IfNone, IsErrOf, length, slice_index_or};
+    ghost use Rattle.world.specs.All.{Adds, AllFit, Answered, AroundStays, Became, Changes, Comes, FailsOnce, HasDamage, HintsAfter, IsFull, IsSoundWorld, Level, NothingHappens, OnlyBooksChange, PageKind, PagesMove, SameAround, SameNumbers, Stays, TenantIs, WhyAway, WhyStays, WorldIs, WritesTo, accepts, guest_at, is_resident, is_step, kind_at, lacks_in, need_of, needed_by, page_at, pages_at, replied, reply, sha256, shown, standing, step_by, view_at};
     ghost use Rattle.mips_tlb.specs.declared.kind.Kind.TheVariants.{Store};
-
-    /// A world of no guest, with this many frames, all free, and the slots of a store, all free, at the level high. The store comes back where a
-    /// request for memory was refused.
-    pub fn new(alloc: Global, frames: u32, store: S) -> Result<World<S>, S>
-        ensures tenants { IfOk result (λ w. w.tenants ≡ []) }
-        ensures store { IfOk result (λ w. w.store ≡ store) }
-        ensures frames { IfOk result (λ w. w.frames ≡ frames) }
-        ensures level { IfOk result (λ w. w.level ≡ Level.High) }
-        ensures free { IfOk result (λ w. length w.pool.free ≡ frames) }
-        ensures free_slots { IfOk result (λ w. length w.slots.free ≡ S.slots store) }
-        ensures entries { IfOk result (λ w. w.shares.entries ≡ replicate frames None) }
-        ensures hints { IfOk result (λ w. (page : GuestPage) → at_page w.shares.hints page ≡ None) }
-        ensures back { IfErr result (λ s. s ≡ store) }
-    {
-        let Ok(pool) = Pool::new(alloc, frames) else {
-            return Err(store);
-        };
-        let Ok(slots) = SlotBook::new(alloc, store.slot_count()) else {
-            pool.close();
-            return Err(store);
-        };
-        let Ok(shares) = Shares::new(alloc, frames) else {
-            pool.close();
-            slots.close();
-            return Err(store);
-        };
-        Ok(World {
-            tenants: Vec::new(alloc),
-            pool,
-            slots,
-            shares,
-            store,
-            frames,
-            level: Level::High,
-        })
-    }
-
-    /// The same world with one guest more, the last, at the boot of an image in a memory of `pages` pages, with this many shares, this
-    /// minimum, 2 to its pages, and a log of at most `log_runs` runs. Each page that the image reaches has its bytes: in rising order in a
-    /// frame while one is free, then in the free slot of the lowest number.
-    ///
-    /// `Room` where neither frame nor slot was free for one of them, so only where those that are free are fewer than its pages; `Store`
-    /// where the store failed to write one, `Memory` where a request for memory was refused: the world is given up then, and its store
-    /// comes back.
-    pub fn add(
-        self,
-        alloc: Global,
-        image: Arc<Image, Global>,
-        pages: u32,
-        shares: u32,
-        minimum: u32,
-        log_runs: u32,
-    ) -> Result<World<S>, (BootError, S)>
-        requires fits { FitsPages image.value pages }
-        requires few { pages ≤ 2 ^ 20 }
-        requires least { 2 ≤ minimum }
-        requires most { minimum ≤ pages }
-        ensures tenants { IfOk result (λ w. (t : TenantIs) → w.tenants ≡ self.tenants ++ slice_index_or w.tenants (length self.tenants) t ∷ []) }
-        ensures count { IfOk result (λ w. length w.tenants ≡ length self.tenants + 1) }
-        ensures booted { IfOk result (λ w. (t : TenantIs) →
-            IsBooted image.value pages shares minimum log_runs (slice_index_or w.tenants (length self.tenants) t)) }
-        ensures frames_first { IfOk result (λ w. (t : TenantIs) → FramesFirst w.pool (pages_in (slice_index_or w.tenants (length self.tenants) t))) }
-        ensures slots_rise { IfOk result (λ w. (t : TenantIs) → SlotsRise w.slots (pages_in (slice_index_or w.tenants (length self.tenants) t))) }
-        ensures slots_taken { IfOk result (λ w. (t : TenantIs) (k : ℕ) →
-            count_of k w.slots.free + slots_held k (pages_in (slice_index_or w.tenants (length self.tenants) t)) ≡ count_of k self.slots.free) }
-        ensures shares { IfOk result (λ w. w.shares ≡ self.shares) }
-        ensures around { IfOk result (λ w. AroundStays S.SwapStore self w) }
-        ensures no_frames { IfOk result (λ w. self.pool.free ≡ [] → w.pool.free ≡ []) }
-        ensures none_private { IfOk result (λ w. (t : TenantIs) → self.pool.free ≡ [] →
-            NonePrivate (pages_in (slice_index_or w.tenants (length self.tenants) t))) }
-        ensures taken { IfOk result (λ w. length self.pool.free + length self.slots.free ≤ length w.pool.free + length w.slots.free + pages) }
-        ensures no_failure { IfOk result (λ w. S.failed w.store ≡ S.failed self.store) }
-        ensures room { IfErr result (λ refused. refused.0 ≡ BootError.Room → length self.pool.free + length self.slots.free < pages) }
-        ensures err { IfErr result (λ refused. WhyNotLoaded (S.failed refused.1 ≡ one_more (S.failed self.store)) refused.0) }
-        ensures back { IfErr result (λ refused. StoreStays S.SwapStore self.store refused.1) }
-    {
-        let World {
-            mut tenants,
-            mut pool,
-            mut slots,
-            shares: table,
-            mut store,
-            frames,
-            level,
-        } = self;
-        match loaded(
-            alloc, image, pages, log_runs, &mut pool, &mut slots, &mut store,
-        ) {
-            Ok(guest) => match tenants.push(Tenant::new(guest, shares, minimum)) {
-                Ok(()) => Ok(World {
-                    tenants,
-                    pool,
-                    slots,
-                    shares: table,
-                    store,
-                    frames,
-                    level,
-                }),
-                Err(failed) => {
-                    failed.value.close();
-                    close_parts(tenants, pool, slots, table);
-                    Err((BootError::Memory, store))
-                }
-            },
-            Err(error) => {
-                close_parts(tenants, pool, slots, table);
-                Err((error, store))
-            }
-        }
-    }
 
     /// Gives the world up, and with it its guests. Its store comes back.
     pub fn close(self) -> S

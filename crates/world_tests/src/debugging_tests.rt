@@ -1,7 +1,8 @@
 //! A debugger's reads and writes of guests of three pages, of which page 0 has its words and the others were never touched.
 
-use crate::event_tests::{TAX, apply, evict, expect, kind, log_len, room, share, started, supply};
-use crate::running_tests::without_slots;
+use crate::event_tests::{
+    TAX, apply, booted, evict, expect, kind, log_len, room, share, started, supply,
+};
 use physmap::PageKind;
 use rand_pcg::Pcg32;
 use std::alloc::Global;
@@ -61,7 +62,7 @@ const SWAPPED: Option<PageKind> = Some(PageKind::Swapped);
 #[test]
 fn what_is_written_is_read(rt: HostRuntime) {
     let alloc = rt.alloc();
-    let mut world = started(&rt, alloc, 4);
+    let mut world = started(&rt, alloc);
     let answer = write(&rt, alloc, &mut world, 0, 0x8000_1000);
     expect(&rt, "page 1", answer, Ok(()));
     expect(
@@ -84,7 +85,7 @@ fn what_is_written_is_read(rt: HostRuntime) {
 #[test]
 fn a_read_brings_back_what_is_in_a_slot(rt: HostRuntime) {
     let alloc = rt.alloc();
-    let mut world = started(&rt, alloc, 4);
+    let mut world = started(&rt, alloc);
     let answer = write(&rt, alloc, &mut world, 0, 0x8000_1ffe);
     expect(&rt, "page 1", answer, Ok(()));
     let evicted = evict(&rt, alloc, &mut world, 0, 1);
@@ -105,7 +106,7 @@ fn a_read_brings_back_what_is_in_a_slot(rt: HostRuntime) {
 #[test]
 fn a_write_across_a_border_gets_both_pages(rt: HostRuntime) {
     let alloc = rt.alloc();
-    let mut world = started(&rt, alloc, 4);
+    let mut world = started(&rt, alloc);
     let answer = write(&rt, alloc, &mut world, 0, 0x8000_1fff);
     expect(&rt, "both", answer, Ok(()));
     let all = [PRIVATE, PRIVATE, PRIVATE];
@@ -119,7 +120,7 @@ fn a_write_across_a_border_gets_both_pages(rt: HostRuntime) {
 #[test]
 fn bytes_without_a_place_change_nothing(rt: HostRuntime) {
     let alloc = rt.alloc();
-    let mut world = started(&rt, alloc, 4);
+    let mut world = started(&rt, alloc);
     let no_place = Err(DebugError::NoPlace);
     let answer = write(&rt, alloc, &mut world, 0, 0x8000_2fff);
     expect(&rt, "the second", answer, no_place);
@@ -136,7 +137,7 @@ fn bytes_without_a_place_change_nothing(rt: HostRuntime) {
 #[test]
 fn a_write_parts_a_shared_page(rt: HostRuntime) {
     let alloc = rt.alloc();
-    let mut world = started(&rt, alloc, 4);
+    let mut world = started(&rt, alloc);
     share(&rt, alloc, &mut world);
     let bytes = read(&rt, alloc, &mut world, 0, 0x8000_0800);
     expect(&rt, "read of it", bytes, (Ok(()), [0, 0]));
@@ -153,7 +154,7 @@ fn a_write_parts_a_shared_page(rt: HostRuntime) {
 
 /// No frame is free. Guest 0 has three resident pages, of which page 0 is shared with guest 1, which has two.
 fn crowded(rt: &impl Abort, alloc: Global) -> World<MemStore> {
-    let mut world = started(rt, alloc, 4);
+    let mut world = started(rt, alloc);
     share(rt, alloc, &mut world);
     expect(rt, "page 1", supply(rt, alloc, &mut world, 0, 1), Ok(()));
     expect(rt, "page 2", supply(rt, alloc, &mut world, 0, 2), Ok(()));
@@ -183,7 +184,7 @@ fn an_eviction_passes_over_the_pages_that_are_reached(rt: HostRuntime) {
 #[test]
 fn a_stop_leaves_the_first_page(rt: HostRuntime) {
     let alloc = rt.alloc();
-    let mut world = without_slots(&rt, alloc, 2, 1);
+    let mut world = booted(&rt, alloc, 0, 3);
     let answer = write(&rt, alloc, &mut world, 0, 0x8000_1fff);
     let no_frame = Err(DebugError::Stop(RunStop::NoFrame));
     expect(&rt, "two resident pages", answer, no_frame);
@@ -200,7 +201,7 @@ fn a_stop_leaves_the_first_page(rt: HostRuntime) {
 #[test]
 fn a_stop_for_want_of_a_slot(rt: HostRuntime) {
     let alloc = rt.alloc();
-    let mut world = without_slots(&rt, alloc, 4, 2);
+    let mut world = booted(&rt, alloc, 0, 2);
     let answer = write(&rt, alloc, &mut world, 0, 0x8000_1fff);
     expect(&rt, "three pages", answer, Ok(()));
     let answer = write(&rt, alloc, &mut world, 1, 0x8000_1000);

@@ -1,4 +1,4 @@
-//! Worlds of two guests over four frames and two slots. An instruction is written as the word that the manual encodes it to, with
+//! Worlds of guests over four frames and two slots. An instruction is written as the word that the manual encodes it to, with
 //! its text beside; what it leads to is worked out by hand.
 ghost use Rattle.std.specs.Prelude.{All};
 ghost use Rattle.world.specs.Events.{IsProper};
@@ -13,11 +13,11 @@ use std::alloc::Global;
 use std::fmt::Debug;
 use std::process::Abort;
 use std::sync::Arc;
-use swapstore::{FaultStore, MemStore, Op, SwapStore};
+use swapstore::MemStore;
 use taxpolicy::Tax;
-use tenant::{BootError, EvictError};
+use tenant::EvictError;
 use word32::Ppn;
-use world::{Answer, BookCounts, End, Event, Evicted, FaultError, Ran, World};
+use world::{Answer, BookCounts, Config, End, Event, Evicted, FaultError, NewGuest, Ran, World};
 
 /// Asserts one case. The tests share it, since each assertion in a function's own body makes its proof much longer.
 pub(crate) fn expect<T: PartialEq + Debug + Drop>(
@@ -55,34 +55,6 @@ fn image_of(rt: &impl Abort, alloc: Global, words: &[u32]) -> Arc<Image, Global>
     }
 }
 
-/// A world of no guest.
-fn empty(rt: &impl Abort, alloc: Global, frames: u32) -> World<MemStore> {
-    let Ok(store) = MemStore::new(alloc, 2) else {
-        panic!(rt; "no memory for the store");
-    };
-    match World::new(alloc, frames, store) {
-        Ok(world) => world,
-        Err(_store) => panic!(rt; "no memory for the world"),
-    }
-}
-
-/// The world with one more guest, of three pages and a log of at most eight runs.
-pub(crate) fn with_guest(
-    rt: &impl Abort,
-    alloc: Global,
-    world: World<MemStore>,
-    words: &[u32],
-) -> Result<World<MemStore>, BootError> {
-    let image = image_of(rt, alloc, words);
-    if !image.fits(3) {
-        panic!(rt; "the image has no room");
-    }
-    match world.add(alloc, image, 3, 100, 2, 8) {
-        Ok(world) => Ok(world),
-        Err((error, _store)) => Err(error),
-    }
-}
-
 /// A load from page 1, and a store to page 2.
 pub(crate) static WORDS: [u32; 3] = [
     0x3c01_8000, // lui $1,0x8000
@@ -90,16 +62,37 @@ pub(crate) static WORDS: [u32; 3] = [
     0xac22_2000, // sw $2,0x2000($1)
 ];
 
-/// Two guests of one image, whose page 0 has a frame each.
-pub(crate) fn started(rt: &impl Abort, alloc: Global, frames: u32) -> World<MemStore> {
-    let mut world = empty(rt, alloc, frames);
-    for _ in 0..2 {
-        world = match with_guest(rt, alloc, world, &WORDS) {
-            Ok(world) => world,
-            Err(error) => panic!(rt; "no guest: {error:?}"),
+/// Guests of one image, whose pages 0 have a frame or a slot each: of three pages, of which each keeps two, with logs of at most 16 runs.
+pub(crate) fn booted(rt: &impl Abort, alloc: Global, slots: u32, guests: usize) -> World<MemStore> {
+    let mut asked = Vec::new(alloc);
+    for _ in 0..guests {
+        let guest = NewGuest {
+            image: image_of(rt, alloc, &WORDS),
+            pages: 3,
+            shares: 100,
+            minimum: 2,
         };
+        if asked.push(guest).is_err() {
+            panic!(rt; "no memory for the guests");
+        }
     }
-    world
+    let Ok(store) = MemStore::new(alloc, slots) else {
+        panic!(rt; "no memory for the store");
+    };
+    let config = Config {
+        frames: 4,
+        log_runs: 16,
+        admit: false,
+    };
+    match World::boot(alloc, config, asked, store) {
+        Ok(world) => world,
+        Err((error, _store)) => panic!(rt; "no world: {error:?}"),
+    }
+}
+
+/// Two guests, whose page 0 has a frame each.
+pub(crate) fn started(rt: &impl Abort, alloc: Global) -> World<MemStore> {
+    booted(rt, alloc, 2, 2)
 }
 
 fn page(rt: &impl Abort, number: u32) -> Ppn {
@@ -215,7 +208,7 @@ pub(crate) fn share(rt: &impl Abort, alloc: Global, world: &mut World<MemStore>)
 
 #[test]
 fn guests_share_a_page_and_part(rt: HostRuntime) {
-    let mut world = started(&rt, rt.alloc(), 4);
+    let mut world = started(&rt, rt.alloc());
     share(&rt, rt.alloc(), &mut world);
     expect(
         &rt,
@@ -254,7 +247,7 @@ fn guests_share_a_page_and_part(rt: HostRuntime) {
 
 #[test]
 fn a_shared_page_that_is_evicted_frees_no_frame(rt: HostRuntime) {
-    let mut world = started(&rt, rt.alloc(), 4);
+    let mut world = started(&rt, rt.alloc());
     share(&rt, rt.alloc(), &mut world);
     expect(
         &rt,
@@ -289,7 +282,7 @@ fn a_shared_page_that_is_evicted_frees_no_frame(rt: HostRuntime) {
 
 #[test]
 fn a_page_comes_back_from_its_slot(rt: HostRuntime) {
-    let mut world = started(&rt, rt.alloc(), 4);
+    let mut world = started(&rt, rt.alloc());
     expect(
         &rt,
         "out",
@@ -323,7 +316,13 @@ fn a_page_comes_back_from_its_slot(rt: HostRuntime) {
 
 #[test]
 fn frames_and_slots_run_out(rt: HostRuntime) {
-    let mut world = started(&rt, rt.alloc(), 3);
+    let mut world = started(&rt, rt.alloc());
+    expect(
+        &rt,
+        "one frame left",
+        supply(&rt, rt.alloc(), &mut world, 1, 1),
+        Ok(()),
+    );
     expect(
         &rt,
         "the last frame",
@@ -351,10 +350,10 @@ fn frames_and_slots_run_out(rt: HostRuntime) {
     let _store = world.close();
 }
 
-/// What the books count of a world of one frame and two slots: free frames, pages in frames of their own, and pages in slots.
+/// What the books count of a world of four frames and two slots: free frames, pages in frames of their own, and pages in slots.
 fn counted(free: u64, private: u64, swapped: u64) -> BookCounts {
     BookCounts {
-        frames: 1,
+        frames: 4,
         free,
         private,
         shared: 0,
@@ -366,7 +365,7 @@ fn counted(free: u64, private: u64, swapped: u64) -> BookCounts {
 
 #[test]
 fn an_image_page_that_finds_no_frame_lies_in_a_slot(rt: HostRuntime) {
-    let mut world = started(&rt, rt.alloc(), 1);
+    let mut world = booted(&rt, rt.alloc(), 2, 5);
     expect(
         &rt,
         "of guest 0",
@@ -375,12 +374,12 @@ fn an_image_page_that_finds_no_frame_lies_in_a_slot(rt: HostRuntime) {
     );
     expect(
         &rt,
-        "of guest 1",
-        kind(&rt, &world, 1, 0),
+        "of guest 4",
+        kind(&rt, &world, 4, 0),
         Some(PageKind::Swapped),
     );
-    expect(&rt, "one of each", world.books(), counted(0, 1, 1));
-    let need = step(&rt, rt.alloc(), &mut world, 1);
+    expect(&rt, "one in a slot", world.books(), counted(0, 4, 1));
+    let need = step(&rt, rt.alloc(), &mut world, 4);
     expect(&rt, "its page 0", need, Some((0, Why::Swapped)));
     expect(
         &rt,
@@ -388,60 +387,18 @@ fn an_image_page_that_finds_no_frame_lies_in_a_slot(rt: HostRuntime) {
         evict(&rt, rt.alloc(), &mut world, 0, 0),
         Ok(Evicted::Done),
     );
-    expect(&rt, "both away", world.books(), counted(1, 0, 2));
+    expect(&rt, "both away", world.books(), counted(1, 3, 2));
     expect(
         &rt,
-        "guest 1 comes",
-        supply(&rt, rt.alloc(), &mut world, 1, 0),
+        "guest 4 comes",
+        supply(&rt, rt.alloc(), &mut world, 4, 0),
         Ok(()),
     );
-    expect(&rt, "one back", world.books(), counted(0, 1, 1));
-    expect(&rt, "its bytes", step(&rt, rt.alloc(), &mut world, 1), None);
-    let need = step(&rt, rt.alloc(), &mut world, 1);
+    expect(&rt, "one back", world.books(), counted(0, 4, 1));
+    expect(&rt, "its bytes", step(&rt, rt.alloc(), &mut world, 4), None);
+    let need = step(&rt, rt.alloc(), &mut world, 4);
     expect(&rt, "its second word", need, Some((1, Why::First)));
     let _store = world.close();
-}
-
-#[test]
-fn a_guest_without_room_for_its_image_is_not_added(rt: HostRuntime) {
-    let world = started(&rt, rt.alloc(), 1);
-    let world = match with_guest(&rt, rt.alloc(), world, &WORDS) {
-        Ok(world) => world,
-        Err(error) => panic!(&rt; "no third guest: {error:?}"),
-    };
-    match with_guest(&rt, rt.alloc(), world, &WORDS) {
-        Ok(world) => {
-            let _store = world.close();
-            panic!(&rt; "a fourth guest")
-        }
-        Err(error) => expect(&rt, "no room", error, BootError::Room),
-    }
-}
-
-#[test]
-fn a_failing_store_refuses_a_guest(rt: HostRuntime) {
-    let image = image_of(&rt, rt.alloc(), &WORDS);
-    let Ok(store) = MemStore::new(rt.alloc(), 2) else {
-        panic!(&rt; "no memory for the store");
-    };
-    let store = FaultStore::new(store, Op::Write, 1);
-    let world = match World::new(rt.alloc(), 0, store) {
-        Ok(world) => world,
-        Err(_store) => panic!(&rt; "no memory for the world"),
-    };
-    if !image.fits(3) {
-        panic!(&rt; "the image has no room");
-    }
-    match world.add(rt.alloc(), image, 3, 100, 2, 8) {
-        Ok(world) => {
-            let _store = world.close();
-            panic!(&rt; "a guest")
-        }
-        Err((error, store)) => {
-            expect(&rt, "the store", error, BootError::Store);
-            expect(&rt, "one failure", store.failures(), 1);
-        }
-    }
 }
 
 /// The last byte of slot 0 is inverted.
@@ -456,7 +413,7 @@ fn damage(rt: &impl Abort, world: &mut World<MemStore>) {
 
 #[test]
 fn a_damaged_page_does_not_come_back(rt: HostRuntime) {
-    let mut world = started(&rt, rt.alloc(), 1);
+    let mut world = booted(&rt, rt.alloc(), 2, 5);
     expect(
         &rt,
         "guest 0 leaves",
@@ -464,11 +421,11 @@ fn a_damaged_page_does_not_come_back(rt: HostRuntime) {
         Ok(Evicted::Done),
     );
     damage(&rt, &mut world);
-    let answer = supply(&rt, rt.alloc(), &mut world, 1, 0);
+    let answer = supply(&rt, rt.alloc(), &mut world, 4, 0);
     expect(&rt, "damaged", answer, Err(SupplyError::SwapDamaged));
     expect(&rt, "its frame is free again", room(&world), (1, 2));
     damage(&rt, &mut world);
-    let answer = supply(&rt, rt.alloc(), &mut world, 1, 0);
+    let answer = supply(&rt, rt.alloc(), &mut world, 4, 0);
     expect(&rt, "the same byte again", answer, Ok(()));
     let _store = world.close();
 }
@@ -575,7 +532,7 @@ pub(crate) fn log_len(rt: &impl Abort, world: &World<MemStore>, g: usize) -> u64
 
 #[test]
 fn each_guest_has_its_own_items(rt: HostRuntime) {
-    let mut world = started(&rt, rt.alloc(), 4);
+    let mut world = started(&rt, rt.alloc());
     let events = in_turn(&rt, rt.alloc());
     let mut rng = Pcg32::new(42, 54);
     let Ok(answers) = world.run(rt.alloc(), events, TAX, &mut rng) else {
@@ -606,7 +563,7 @@ fn fault(
 
 /// All four frames are out: three are guest 0's, one is guest 1's, whose next step loads from page 1.
 fn filled(rt: &impl Abort, alloc: Global) -> World<MemStore> {
-    let mut world = started(rt, alloc, 4);
+    let mut world = started(rt, alloc);
     expect(rt, "page 1", supply(rt, alloc, &mut world, 0, 1), Ok(()));
     expect(rt, "page 2", supply(rt, alloc, &mut world, 0, 2), Ok(()));
     expect(rt, "the first word", step(rt, alloc, &mut world, 1), None);

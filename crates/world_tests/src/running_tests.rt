@@ -1,37 +1,12 @@
 //! Runs of steps of guests of three pages, which make a step, load from page 1, store to page 2, and then make steps of no effect.
 
-use crate::event_tests::{
-    TAX, WORDS, apply, evict, expect, input, log_len, room, started, with_guest,
-};
+use crate::event_tests::{TAX, apply, booted, evict, expect, input, log_len, room, started};
 use mips_step::Why;
 use rand_pcg::Pcg32;
 use std::alloc::Global;
 use std::process::Abort;
 use swapstore::MemStore;
 use world::{End, Evicted, RunStop, World};
-
-/// A world of some guests of one image, with so many frames and no slot.
-pub(crate) fn without_slots(
-    rt: &impl Abort,
-    alloc: Global,
-    frames: u32,
-    guests: u32,
-) -> World<MemStore> {
-    let Ok(store) = MemStore::new(alloc, 0) else {
-        panic!(rt; "no memory for the store");
-    };
-    let mut world = match World::new(alloc, frames, store) {
-        Ok(world) => world,
-        Err(_store) => panic!(rt; "no memory for the world"),
-    };
-    for _ in 0..guests {
-        world = match with_guest(rt, alloc, world, &WORDS) {
-            Ok(world) => world,
-            Err(error) => panic!(rt; "no guest: {error:?}"),
-        };
-    }
-    world
-}
 
 /// How many steps were made, the page that the next one needs, and why they stopped.
 fn told(steps: u32, end: End) -> (u32, Option<(u32, Why)>, Option<RunStop>) {
@@ -72,7 +47,7 @@ fn run_steps(
 #[test]
 fn steps_are_made_up_to_the_first_that_needs_a_page(rt: HostRuntime) {
     let alloc = rt.alloc();
-    let mut world = started(&rt, alloc, 4);
+    let mut world = started(&rt, alloc);
     let first = (1, Some((1, Why::First)), None);
     expect(&rt, "one", steps(&rt, &mut world, 0, 3), first);
     let again = (0, Some((1, Why::First)), None);
@@ -90,7 +65,7 @@ fn steps_are_made_up_to_the_first_that_needs_a_page(rt: HostRuntime) {
 #[test]
 fn a_run_of_no_steps_is_done(rt: HostRuntime) {
     let alloc = rt.alloc();
-    let mut world = started(&rt, alloc, 4);
+    let mut world = started(&rt, alloc);
     expect(
         &rt,
         "one step",
@@ -108,7 +83,7 @@ fn a_run_of_no_steps_is_done(rt: HostRuntime) {
 #[test]
 fn one_step_is_supplied_two_pages(rt: HostRuntime) {
     let alloc = rt.alloc();
-    let mut world = started(&rt, alloc, 4);
+    let mut world = started(&rt, alloc);
     expect(
         &rt,
         "one step",
@@ -129,7 +104,7 @@ fn one_step_is_supplied_two_pages(rt: HostRuntime) {
 #[test]
 fn a_run_stops_where_a_page_gets_no_frame(rt: HostRuntime) {
     let alloc = rt.alloc();
-    let mut world = without_slots(&rt, alloc, 2, 1);
+    let mut world = booted(&rt, alloc, 0, 3);
     let ran = run_steps(&rt, alloc, &mut world, 0, 3);
     let no_frame = (2, None, Some(RunStop::NoFrame));
     expect(&rt, "two resident pages", ran, no_frame);
@@ -140,7 +115,7 @@ fn a_run_stops_where_a_page_gets_no_frame(rt: HostRuntime) {
 #[test]
 fn a_run_stops_where_a_victim_gets_no_slot(rt: HostRuntime) {
     let alloc = rt.alloc();
-    let mut world = without_slots(&rt, alloc, 4, 2);
+    let mut world = booted(&rt, alloc, 0, 2);
     let ran = run_steps(&rt, alloc, &mut world, 0, 3);
     expect(&rt, "three pages", ran, (3, None, None));
     let ran = run_steps(&rt, alloc, &mut world, 1, 3);
@@ -152,16 +127,16 @@ fn a_run_stops_where_a_victim_gets_no_slot(rt: HostRuntime) {
 #[test]
 fn a_run_stops_where_the_log_is_full(rt: HostRuntime) {
     let alloc = rt.alloc();
-    let mut world = started(&rt, alloc, 4);
-    for _ in 0..4 {
+    let mut world = started(&rt, alloc);
+    for _ in 0..8 {
         let _accepted = apply(alloc, &mut world, input(0, 7));
         let ran = run_steps(&rt, alloc, &mut world, 0, 1);
         expect(&rt, "one step", ran, (1, None, None));
     }
     let full = (0, None, Some(RunStop::LogFull));
-    expect(&rt, "eight runs", steps(&rt, &mut world, 0, 2), full);
+    expect(&rt, "sixteen runs", steps(&rt, &mut world, 0, 2), full);
     let ran = run_steps(&rt, alloc, &mut world, 0, 2);
     expect(&rt, "still", ran, full);
-    expect(&rt, "eight items", log_len(&rt, &world, 0), 8);
+    expect(&rt, "sixteen items", log_len(&rt, &world, 0), 16);
     let _store = world.close();
 }

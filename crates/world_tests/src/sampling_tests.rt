@@ -45,7 +45,7 @@ fn of_page_0(draws: &[u32; SAMPLE_SIZE]) -> u16 {
 #[test]
 fn guests_are_sampled_one_after_another(rt: HostRuntime) {
     let alloc = rt.alloc();
-    let mut world = started(&rt, alloc, 4);
+    let mut world = started(&rt, alloc);
     let mut rng = Pcg32::seed_from_u64(5);
     let mut twin = Pcg32::seed_from_u64(5);
     let first = pick_sample(&mut twin, PAGES);

@@ -1,5 +1,5 @@
 use Rattle.std.proofs.Common.{List, [], ◌∷◌, subst}
-use Rattle.world.specs.declared.boot.NewGuest.{NewGuest}
+use Rattle.booting.specs.declared.asked.NewGuest.{NewGuest}
 use Rattle.world.specs.Boots.{AreWithinLimits, AreBooted}
 use Rattle.load_and_go.proofs.Worlds.{view_holds, refused_alone}
 use Rattle.load_and_go.proofs.boot.boot_text.Goals as goal

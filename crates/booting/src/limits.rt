@@ -1,8 +1,8 @@
-//! Which worlds are booted: limits of their numbers, and whether guests are admitted.
+//! Which guests are booted: limits of their numbers, and whether guests are admitted.
 ghost use Rattle.std.specs.Prelude.{◌≡◌, ◌↔◌, ◌≤◌, IsTrue, All, IfSome, MatchOption, sum_by, ◌+◌, ◌-◌};
-ghost use Rattle.world.specs.Boots.{IsWithinLimits, AreWithinLimits, HoldsImage, HasFramesFor, HasSlotsFor, AreAdmitted, IsOfNumbers, WhyNotBooted};
+ghost use Rattle.booting.specs.Boots.{IsWithinLimits, AreWithinLimits, HoldsImage, HasFramesFor, HasSlotsFor, AreAdmitted, IsOfNumbers, WhyNotBooted};
 
-use crate::boot::{Config, NewGuest};
+use crate::{Config, NewGuest};
 use tenant::BootError;
 
 impl NewGuest {
@@ -37,7 +37,7 @@ fn each_holds_image(guests: &[NewGuest]) -> bool
     guests.iter().all(|guest| guest.holds_image())
 }
 
-/// Whether the numbers of a world with so many slots, and those of its guests, are within their limits; else `World::boot` refuses
+/// Whether the numbers for so many slots, and those of the guests, are within their limits; else `boot` refuses
 /// them.
 pub fn are_within_limits(config: Config, slots: u32, guests: &[NewGuest]) -> bool
     ensures { IsTrue result ↔ AreWithinLimits config slots guests.now }
@@ -83,7 +83,7 @@ fn has_slots(slots: u32, guests: &[NewGuest]) -> bool
     others(guests) <= u128::from(slots)
 }
 
-/// Why a world with so many slots and these guests is refused whatever memory there is, if it is: the first of `Limits`, `Segment`,
+/// Why guests with so many slots are refused whatever memory there is, if it is: the first of `Limits`, `Segment`,
 /// `AdmitFrames` and `AdmitSlots` that holds.
 pub(crate) fn refusal(config: Config, slots: u32, guests: &[NewGuest]) -> Option<BootError>
     ensures why { MatchOption result

@@ -1,0 +1,4 @@
+pub mod Guests
+pub mod Places
+pub mod Refusing
+pub mod Stores
