@@ -11,7 +11,8 @@ _vmhost() {
         case ${COMP_WORDS[1]} in
             exec) words='--raw --flat --pages --steps --until --in --log --all --memory --help' ;;
             replay) words='--raw --help' ;;
-            asm | dis | sim) words='--help' ;;
+            asm | dis) words='--help' ;;
+            sim) words='--lines --help' ;;
             help) words='asm dis exec replay sim' ;;
         esac
     fi

@@ -1,5 +1,6 @@
 -- How the program ends.
 use Rattle.std.specs.Prelude.{◌≡◌, ℕ, false, All, List, String, codes, nat_eq, string_bytes}
+use Rattle.std.specs.Str.{bytes_eq}
 use Rattle.std.specs.declared.alloc.Global.{Global}
 use Rattle.std.specs.List.{starts_with}
 use Rattle.command_line.specs.declared.program.Status.{Status}
@@ -15,3 +16,7 @@ code_of Stopped = 3
 -- no word of a command line begins with `--until`
 abbrev pub HasNoUntil : List (String Global) → Type 0
 HasNoUntil words = All (λ (word : String Global). starts_with nat_eq (string_bytes word) (codes "--until") ≡ false) words
+
+-- no word of a command line is `sim`
+abbrev pub HasNoSim : List (String Global) → Type 0
+HasNoSim words = All (λ (word : String Global). bytes_eq (string_bytes word) (codes "sim") ≡ false) words

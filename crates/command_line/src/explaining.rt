@@ -5,6 +5,7 @@
 use commands::image_file::whole_file;
 use commands::{Asm, Dis, Exec, Fault, Replay};
 use diagnosis::{Memory, Words, boot, elf, file, log, raw, script_line, source};
+use output_file::is_one_file;
 use script::Script;
 use std::alloc::Global;
 use std::fs::File;
@@ -63,7 +64,7 @@ fn plain_file<R: Files>(rt: &R, name: &str) -> Option<R::File> {
 
 /// Why a file can't be read or written.
 fn file_words<R: Files + AllocGlobal>(rt: &R, subject: Subject<'_>, name: &str) -> Option<Words> {
-    let reason = match own_reason(subject) {
+    let reason = match own_reason(rt, subject) {
         Some(reason) => reason,
         None => match system_reason(rt, name) {
             Some(ErrorKind::NotFound) if is_output(subject, name) => file::UNMADE,
@@ -74,10 +75,20 @@ fn file_words<R: Files + AllocGlobal>(rt: &R, subject: Subject<'_>, name: &str) 
 }
 
 /// Why the command refuses the names of its files.
-fn own_reason(subject: Subject<'_>) -> Option<&'static str> {
+fn own_reason<R: Files + AllocGlobal>(rt: &R, subject: Subject<'_>) -> Option<&'static str> {
     match subject {
         Subject::Asm(order) if order.source == order.output => Some(file::SOURCE_IS_OUTPUT),
+        Subject::Asm(order) if is_one_file(rt, order.source, order.output) => {
+            Some(file::SOURCE_LEADS_TO_OUTPUT)
+        }
         Subject::Exec(order) if is_log(order, order.image) => Some(file::IMAGE_IS_LOG),
+        Subject::Exec(
+            Exec {
+                log: Some(log),
+                image,
+                ..
+            },
+        ) if is_one_file(rt, log, image) => Some(file::IMAGE_LEADS_TO_LOG),
         _ => None,
     }
 }
@@ -189,7 +200,7 @@ fn image_words<R: Files + AllocGlobal>(
 
 /// What is wrong with the first executable that is refused of a script's guests, where it has this fault.
 fn guest_words<R: Files + AllocGlobal>(rt: &R, text: &str, fault: elf32::Fault) -> Option<Words> {
-    let Script { header, events: _ } = script::read(rt.alloc(), text).ok()?;
+    let Script { header, blocks: _ } = script::read(rt.alloc(), text).ok()?;
     for (number, guest) in header.guests.iter().enumerate() {
         let bytes = contents(rt, guest.file)?;
         let memory = Memory::Guest { pages: guest.pages };
@@ -239,7 +250,7 @@ fn boot_words<R: Files + AllocGlobal>(rt: &R, subject: Subject<'_>, number: u32)
             boot::of_machine(rt.alloc(), number, log_pages(rt, order)?).ok()?
         }
         Subject::Script(text) => {
-            let Script { header, events: _ } = script::read(rt.alloc(), text).ok()?;
+            let Script { header, blocks: _ } = script::read(rt.alloc(), text).ok()?;
             boot::of_guests(rt.alloc(), number, &header).ok()?
         }
         _ => None,

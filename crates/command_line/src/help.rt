@@ -99,6 +99,12 @@ Events, one a line, and what is replied to each:
   dump G              its state, as exec prints it
   stats G             stats G first N copied N read N joined N fault N run N debugger N level N evict N: why its pages have moved
 
+  step * N, run * N   the same of each guest, one after another: a reply for each
+  repeat N            the events up to the line end are done N times; within a repeat stands no other
+  end
+
+A reply is written as soon as its event is done. With --lines the number of the event's line and a colon stand before it.
+
 A guest that is blocked makes no step until the next level: step G done 0 blocked, run G done 0 blocked.
 
 S:

@@ -229,6 +229,9 @@ const ALL: &str = "all";
 
 const MEMORY: &str = "memory";
 
+/// The option that has replies stand behind the numbers of their lines.
+const LINES: &str = "lines";
+
 /// The options that give numbers.
 const PAGES: &str = "pages";
 
@@ -302,6 +305,7 @@ fn sim_command<'a>(alloc: Global) -> Result<Command<'a>, AllocError> {
             "Does the events of a script in a world of several guests and prints what is replied to each",
         )
         .after_help(EVENTS)
+        .arg(flag(alloc, LINES).help("Print the number of the script's line before each reply"))?
         .arg(file(alloc, "script", "SCRIPT").help(
             "The file of the script, or - for standard input",
         ))
@@ -427,6 +431,7 @@ fn replay_of<'a>(matches: &ArgMatches<'a>) -> Option<Replay<'a>> {
 fn sim_of<'a>(matches: &ArgMatches<'a>) -> Option<Sim<'a>> {
     Some(Sim {
         script: file_of(matches.get_str("script")?),
+        numbered: matches.get_flag(LINES),
     })
 }
 

@@ -1,14 +1,14 @@
 //! The program, over any files, reader and writers.
 ghost use Rattle.std.specs.Prelude.{◌≡◌, ◌≢◌, ◌<◌, ◌⊎◌, false, IfOk};
 ghost use Rattle.std.specs.IoError.{error_kind};
-ghost use Rattle.command_line.specs.Exit.{code_of, HasNoUntil};
+ghost use Rattle.command_line.specs.Exit.{code_of, HasNoSim, HasNoUntil};
 
 use crate::explaining::{Subject, explain, explain_later};
 use crate::parsing::{Order, Settings, parse};
 use clap::Error;
 use commands::{
-    Asm, Dis, Exec, Fault, Replay, Report, Sim, assemble_file, disassemble_file, replay_log,
-    run_image, run_script, script_text,
+    Asm, Dis, Exec, Fault, Replay, Report, Sim, SimFault, assemble_file, disassemble_file,
+    replay_log, run_image, run_script, script_text,
 };
 use runs::Ending;
 use std::io::{BufRead, ErrorKind, Write};
@@ -54,10 +54,12 @@ enum Answer {
 /// Does what the words of the command line ask for, and gives the status to exit with. The name of the program is not
 /// among the words. `input` is not read yet.
 ///
-/// At least one of `out` and `err` stays as it was, but where a word begins with `--until`: then `err` may have the line `vmhost: ended: ` with
-/// the state that a run ended at, beside what is printed. Status 0: done, and `out` has what the command prints. 1: an input was
-/// refused, and the line `vmhost: ` with the fault stands in `err`, and words for it may stand behind that; or `out` or `err` could not be written. 2: the command
-/// line was refused, and `err` has the reason. 3: the machine stopped before its last step; the last line in `out` says why.
+/// At least one of `out` and `err` stays as it was, but where a word begins with `--until` or is `sim`: with the first `err` may have the line
+/// `vmhost: ended: ` with the state that a run ended at, beside what is printed; with the second the replies to the first events of a
+/// script may stand in `out` where `err` says that there was no memory for more. Status 0: done, and `out` has what the command prints. 1: an
+/// input was refused, and the line `vmhost: ` with the fault stands in `err`, and words for it may stand behind that; or there was no memory
+/// for a script's next reply; or `out` or `err` could not be written. 2: the command line was refused, and `err` has the reason. 3: the machine
+/// stopped before its last step; the last line in `out` says why.
 pub fn program<R, I, O, E>(rt: &R, words: &[String], input: &mut I, out: &mut O, err: &mut E) -> u8
 where
     R: Files + AllocGlobal,
@@ -69,11 +71,14 @@ where
     ensures usage { result ≡ 2 → out.new ≡ out.old }
     ensures done { result ≡ 0 → HasNoUntil words.now → err.new ≡ err.old }
     ensures stopped { result ≡ 3 → err.new ≡ err.old }
-    ensures one_output { HasNoUntil words.now → (out.new ≡ out.old) ⊎ (err.new ≡ err.old) }
+    ensures one_output { HasNoUntil words.now → HasNoSim words.now → (out.new ≡ out.old) ⊎ (err.new ≡ err.old) }
 {
     // No command reads standard input.
     let _ = input;
-    let tells = mentions_until(words);
+    let tells = Tells {
+        ending: mentions_until(words),
+        breaking_off: mentions_sim(words),
+    };
     let written = match parse(rt.alloc(), words) {
         Ok(order) => answer_order(rt, order, tells, out, err),
         Err(error) => write_error(&error, out, err),
@@ -84,6 +89,30 @@ where
     };
     status.code()
 }
+
+/// What may be told in `err` although something is printed.
+#[derive(Clone, Copy)]
+struct Tells {
+    /// At which state a run ended.
+    ending: bool,
+    /// That there was no memory for the rest of a script's replies.
+    breaking_off: bool,
+}
+
+/// Whether a word is `sim`, so that a script may be broken off.
+fn mentions_sim(words: &[String]) -> bool
+    ensures { HasNoSim words.now → result ≡ false }
+{
+    for word in words {
+        if word.as_bytes() == SIM_COMMAND {
+            return true;
+        }
+    }
+    false
+}
+
+/// The command that does what a script says.
+const SIM_COMMAND: &[u8] = b"sim";
 
 /// Whether a word begins with `--until`, so that it may be told what a run ended at.
 fn mentions_until(words: &[String]) -> bool
@@ -100,10 +129,45 @@ fn mentions_until(words: &[String]) -> bool
 /// The words that ask for a state that a run is to end at begin so.
 const UNTIL_OPTION: &[u8] = b"--until";
 
-/// Does what was asked for. Where `tells` says so, the state that a run ended at is told in `err`.
+/// Does what was asked for.
 fn answer_order<R, O, E>(
     rt: &R,
     order: Order<'_>,
+    tells: Tells,
+    out: &mut O,
+    err: &mut E,
+) -> io::Result<Status>
+where
+    R: Files + AllocGlobal,
+    O: Write,
+    E: Write,
+    ensures usage { IfOk result (λ s. code_of s ≢ 2) }
+    ensures refused { IfOk result (λ s. code_of s ≡ 1 → tells.breaking_off ≡ false → out.new ≡ out.old) }
+    ensures done { IfOk result (λ s. code_of s ≡ 0 → tells.ending ≡ false → err.new ≡ err.old) }
+    ensures stopped { IfOk result (λ s. code_of s ≡ 3 → err.new ≡ err.old) }
+    ensures one_output { tells.ending ≡ false → tells.breaking_off ≡ false → (out.new ≡ out.old) ⊎ (err.new ≡ err.old) }
+{
+    match order {
+        Order::Asm(order) => write_answer(rt, Subject::Asm(order), assembled(rt, order), out, err),
+        Order::Dis(order) => {
+            write_answer(rt, Subject::Dis(order), disassembled(rt, order), out, err)
+        }
+        Order::Exec(order, settings) => {
+            let answered = executed(rt, order, &settings);
+            write_run(rt, Subject::Exec(order), answered, tells.ending, out, err)
+        }
+        Order::Replay(order) => {
+            write_answer(rt, Subject::Replay(order), replayed(rt, order), out, err)
+        }
+        Order::Sim(order) => answer_script(rt, order, tells.breaking_off, out, err),
+    }
+}
+
+/// Does what a script says, whose faults name files by its text. Where `tells` says so, want of memory for the rest of the replies is told
+/// in `err`.
+fn answer_script<R, O, E>(
+    rt: &R,
+    order: Sim<'_>,
     tells: bool,
     out: &mut O,
     err: &mut E,
@@ -113,43 +177,22 @@ where
     O: Write,
     E: Write,
     ensures usage { IfOk result (λ s. code_of s ≢ 2) }
-    ensures refused { IfOk result (λ s. code_of s ≡ 1 → out.new ≡ out.old) }
-    ensures done { IfOk result (λ s. code_of s ≡ 0 → tells ≡ false → err.new ≡ err.old) }
-    ensures stopped { IfOk result (λ s. code_of s ≡ 3 → err.new ≡ err.old) }
-    ensures one_output { tells ≡ false → (out.new ≡ out.old) ⊎ (err.new ≡ err.old) }
-{
-    match order {
-        Order::Asm(order) => write_answer(rt, Subject::Asm(order), assembled(rt, order), out, err),
-        Order::Dis(order) => {
-            write_answer(rt, Subject::Dis(order), disassembled(rt, order), out, err)
-        }
-        Order::Exec(order, settings) => {
-            let answered = executed(rt, order, &settings);
-            write_run(rt, Subject::Exec(order), answered, tells, out, err)
-        }
-        Order::Replay(order) => {
-            write_answer(rt, Subject::Replay(order), replayed(rt, order), out, err)
-        }
-        Order::Sim(order) => answer_script(rt, order, out, err),
-    }
-}
-
-/// Does what a script says. Its faults name files by its text.
-fn answer_script<R, O, E>(rt: &R, order: Sim<'_>, out: &mut O, err: &mut E) -> io::Result<Status>
-where
-    R: Files + AllocGlobal,
-    O: Write,
-    E: Write,
-    ensures usage { IfOk result (λ s. code_of s ≢ 2) }
-    ensures refused { IfOk result (λ s. code_of s ≡ 1 → out.new ≡ out.old) }
+    ensures refused { IfOk result (λ s. code_of s ≡ 1 → tells ≡ false → out.new ≡ out.old) }
     ensures carried_out { IfOk result (λ s. code_of s ≢ 1 → err.new ≡ err.old) }
-    ensures one_output { (out.new ≡ out.old) ⊎ (err.new ≡ err.old) }
+    ensures one_output { tells ≡ false → (out.new ≡ out.old) ⊎ (err.new ≡ err.old) }
 {
     let text = match script_text(rt, order) {
         Ok(text) => text,
         Err(fault) => return write_refusal(rt, Subject::ScriptFile, &fault, err),
     };
-    write_answer(rt, Subject::Script(&text), simulated(rt, &text), out, err)
+    match run_script(rt, &text, order.numbered, out) {
+        Ok(()) => Ok(Status::Done),
+        Err(SimFault::Refused(fault)) => write_refusal(rt, Subject::Script(&text), &fault, err),
+        Err(SimFault::Memory) if tells => {
+            write_refusal(rt, Subject::Script(&text), &Fault::Memory, err)
+        }
+        Err(SimFault::Memory | SimFault::Output) => Err(io::Error::from(ErrorKind::Other)),
+    }
 }
 
 fn assembled<'a, R: Files + AllocGlobal>(rt: &R, order: Asm<'a>) -> Result<Answer, Fault<'a>> {
@@ -176,10 +219,6 @@ fn executed<'a, R: Files + AllocGlobal>(
 
 fn replayed<'a, R: Files + AllocGlobal>(rt: &R, order: Replay<'a>) -> Result<Answer, Fault<'a>> {
     Ok(Answer::Text(replay_log(rt, order)?))
-}
-
-fn simulated<'a, R: Files + AllocGlobal>(rt: &R, text: &'a str) -> Result<Answer, Fault<'a>> {
-    Ok(Answer::Text(run_script(rt, text)?))
 }
 
 /// Writes what a command answered: what it prints, or its fault.

@@ -1,21 +1,28 @@
 -- Events of scripts that can be done.
-use Rattle.std.proofs.Common.{◌≡◌, refl, sym, ap, subst, ◌∙◌, Result, Ok, Err, IfOk, Option, Some, None, is_some, String, Global, string_bytes, false, arith, ℕ, zero, suc, ◌<◌, ◌≤◌, true, nat_lt, List, [], ◌∷◌, All, length, map, slice_get, ltb-true, leb-true}
+use Rattle.std.proofs.Common.{◌≡◌, sym, ap, subst, ◌∙◌, Result, Ok, Err, IfOk, IfErr, OnOk, Option, Bool, arith, ℕ, zero, suc, ◌<◌, ◌≤◌, true, nat_lt, List, [], ◌∷◌, All, length, map, slice_get, ltb-true, leb-true}
 use Rattle.std.proofs.lemmas.Bool.{and_parts}
 use Rattle.std.proofs.lemmas.List.{length-map}
 use Rattle.std.specs.List.{list_all}
 use Rattle.std.proofs.lemmas.List.Elements.{All-nil, All-cons}
-use Rattle.script.specs.declared.event.Event.{Event}
-use Rattle.script.specs.declared.event.Event.TheVariants as event
+use Rattle.script.specs.Actions.{Action, Single, StepEach, RunEach, ActionLine, Block}
+use Rattle.script.specs.Courses.{course_of}
+use Rattle.script.specs.Events.{Event}
+use Rattle.script.specs.Events as event
 use Rattle.script.specs.declared.header.GuestLine.{GuestLine}
-use Rattle.script.specs.Allowed.{is_allowed, has_pages}
+use Rattle.script.specs.Allowed.{is_allowed, has_pages, may_be_done}
 use Rattle.script.specs.Headers as headers
-use Rattle.script.specs.Views.{event_view, guest_view, script_view}
+use Rattle.script.specs.Views.{block_view, guest_view, script_view}
+use Rattle.script.specs.declared.action.Block.{Block as BlockCode}
 use Rattle.script.specs.declared.header.Script.{Script as ScriptCode}
 use Rattle.booting.specs.declared.asked.NewGuest.{NewGuest}
 use Rattle.world.specs.Boots.{AreAdmitted, AreWithinLimits}
-use Rattle.simulation.specs.Acts.{IsFor}
+use Rattle.simulation.specs.Acts.{IsFor, IsActionFor, IsLineFor, IsBlockFor}
 use Rattle.script.specs.Scripts.{Script, script_of}
-use Rattle.commands.specs.Faults.{IsRefusedScript}
+use Rattle.commands.specs.declared.fault.Fault.{Fault}
+use Rattle.commands.specs.declared.fault.Fault.TheVariants as fault
+use Rattle.commands.specs.declared.sim.SimFault.{SimFault}
+use Rattle.commands.specs.declared.sim.SimFault.TheVariants as sim
+use Rattle.commands.specs.Faults.{IsBootFault, IsLoadFault, IsRefusal, IsRefusedScript, IsSimFault, IsToldFault}
 use Rattle.commands.specs.Sims.{IsKnown, IsOver, IsSimulation, config_of, line_numbers, numbers_of}
 
 has_them : (lines : List headers.GuestLine) (g pages : ℕ) → has_pages (slice_get lines g) pages ≡ true → g < length lines
@@ -26,7 +33,7 @@ has_them (line ∷ lines) (suc g) pages e = omega (arith, has_them lines g pages
 inside : (guests : List GuestLine) (g : ℕ) → nat_lt g (length (map guest_view guests)) ≡ true → g < length guests
 inside guests g e = omega (arith, ltb-true g (length (map guest_view guests)) e, length-map guests guest_view)
 
-one_for : (guests : List GuestLine) (slots : ℕ) (e : Event) → is_allowed (map guest_view guests) slots (event_view e) ≡ true → IsFor (length guests) slots e
+one_for : (guests : List GuestLine) (slots : ℕ) (e : Event) → is_allowed (map guest_view guests) slots e ≡ true → IsFor (length guests) slots e
 unfolding is_allowed
 one_for guests slots (event.Step guest count) allowed = inside guests guest allowed
 one_for guests slots (event.Run guest count) allowed = inside guests guest allowed
@@ -39,8 +46,8 @@ one_for guests slots (event.Poke guest register value) allowed =
 one_for guests slots (event.Write guest address bytes) allowed =
     let parts = and_parts _ _ allowed in
     let sizes = and_parts _ _ parts.1 in
-    let some : 1 ≤ length bytes.items = leb-true 1 (length bytes.items) sizes.0 in
-    (inside guests guest parts.0, omega (arith, some), leb-true (length bytes.items) 1024 sizes.1)
+    let some : 1 ≤ length bytes = leb-true 1 (length bytes) sizes.0 in
+    (inside guests guest parts.0, omega (arith, some), leb-true (length bytes) 1024 sizes.1)
 one_for guests slots (event.Probe guest address count) allowed =
     let parts = and_parts _ _ allowed in
     let sizes = and_parts _ _ parts.1 in
@@ -58,23 +65,57 @@ one_for guests slots (event.Damage slot byte) allowed =
     let parts = and_parts _ _ allowed in
     (ltb-true slot slots parts.0, omega (arith, leb-true byte 4095 parts.1))
 
--- events that a header allows can be done in its world
-pub all_for : (guests : List GuestLine) (slots : ℕ) (events : List Event) → list_all (is_allowed (map guest_view guests) slots) (map event_view events) ≡ true → All (IsFor (length guests) slots) events
-all_for guests slots [] allowed = All-nil (IsFor (length guests) slots)
-all_for guests slots (e ∷ events) allowed =
+action_for : (guests : List GuestLine) (slots : ℕ) (a : Action) → may_be_done (map guest_view guests) slots a ≡ true → IsActionFor (length guests) slots a
+unfolding may_be_done
+action_for guests slots (Single e) allowed = one_for guests slots e allowed
+action_for guests slots (StepEach count) allowed = tt
+action_for guests slots (RunEach count) allowed = tt
+
+lines_for : (guests : List GuestLine) (slots : ℕ) (lines : List ActionLine) → list_all (λ line. may_be_done (map guest_view guests) slots line.action) lines ≡ true
+    → All (IsLineFor (length guests) slots) lines
+lines_for guests slots [] allowed = All-nil (IsLineFor (length guests) slots)
+lines_for guests slots (line ∷ lines) allowed =
     let parts = and_parts _ _ allowed in
-    All-cons (IsFor (length guests) slots) e events (one_for guests slots e parts.0) (all_for guests slots events parts.1)
+    All-cons (IsLineFor (length guests) slots) line lines (action_for guests slots line.action parts.0) (lines_for guests slots lines parts.1)
+
+-- blocks that a header allows can be done in its world
+pub all_for : (guests : List GuestLine) (slots : ℕ) (blocks : List Block)
+    → list_all (λ (block : Block). list_all (λ (line : ActionLine). may_be_done (map guest_view guests) slots line.action) block.lines) blocks ≡ true → All (IsBlockFor (length guests) slots) blocks
+all_for guests slots [] allowed = All-nil (IsBlockFor (length guests) slots)
+all_for guests slots (block ∷ blocks) allowed =
+    let parts = and_parts _ _ allowed in
+    All-cons (IsBlockFor (length guests) slots) block blocks (lines_for guests slots block.lines parts.0) (all_for guests slots blocks parts.1)
 
 -- ---- scripts that are known
 
--- what is replied to a script, where it is
-pub simulated : {E : Type 0} (r : Result (String Global) E) (text : List ℕ) (script : ScriptCode) (guests : List NewGuest) → script_of text ≡ Ok (script_view script) → IsKnown (script_view script)
-    → map numbers_of guests ≡ map line_numbers script.header.guests.items → IfOk r (λ replies. IsOver script.header.failure (config_of script.header) script.header.seed script.header.slots guests script.events.items (string_bytes replies))
-    → IfOk r (λ replies. AreWithinLimits (config_of script.header) script.header.slots guests)
-    → IfOk r (λ replies. AreAdmitted (config_of script.header) script.header.slots guests) → IfOk r (λ replies. IsSimulation text (string_bytes replies))
-simulated (Err error) text script guests reads known numbers transcript within admitted = tt
-simulated (Ok replies) text script guests reads known numbers transcript within admitted =
-    record { script = script; reads = reads; known = known; guests = guests; numbers = numbers; within = within; admitted = admitted; transcript = transcript }
+-- what is replied to a script
+pub simulated : (whole numbered : Bool) (text : List ℕ) (script : ScriptCode) (guests : List NewGuest) (made : List BlockCode) (known known' : Option (List ℕ))
+    → script_of text ≡ Ok (script_view script) → IsKnown (script_view script) → map numbers_of guests ≡ map line_numbers script.header.guests.items → made ≡ script.blocks.items
+    → IsOver script.header.failure whole numbered (config_of script.header) script.header.seed script.header.slots guests (course_of (length guests) (map block_view made)) known known'
+    → AreWithinLimits (config_of script.header) script.header.slots guests → AreAdmitted (config_of script.header) script.header.slots guests → IsSimulation whole numbered text known known'
+simulated whole numbered text script guests made known known' reads is_known numbers same told within admitted = record {
+  script = script;
+  reads = reads;
+  known_words = is_known;
+  guests = guests;
+  numbers = numbers;
+  within = within;
+  admitted = admitted;
+  told = subst (λ (l : List BlockCode). IsOver script.header.failure whole numbered (config_of script.header) script.header.seed script.header.slots guests (course_of (length guests) (map block_view l)) known known') same told;
+}
+
+-- what is so where all was done, by parts
+pub all_done : {E : Type 0} (r : Result (Unit {0}) E) (P Q R : Type 0) {T : Type 0} → (P → Q → R → T) → OnOk r P → OnOk r Q → OnOk r R → OnOk r T
+all_done (Ok done) P Q R so p q r = so p q r
+all_done (Err e) P Q R so p q r = tt
+
+-- as many guests as lines
+pub same_count : (guests : List NewGuest) (lines : List GuestLine) → map numbers_of guests ≡ map line_numbers lines → length guests ≡ length lines
+same_count guests lines same = omega (arith, ap length same, length-map guests numbers_of, length-map lines line_numbers)
+
+-- what is so where all was done
+pub told_whole : {E : Type 0} (r : Result (Unit {0}) E) (P : Type 0) (done : Unit {0}) → r ≡ Ok done → OnOk r P → P
+told_whole r P done is so = subst (λ (q : Result (Unit {0}) _). OnOk q P) is so
 
 -- a text is one script alone
 pub refused : (text : List ℕ) (script : Script) → script_of text ≡ Ok script → (IsKnown script → ⊥) → IsRefusedScript text
@@ -90,3 +131,37 @@ not_read text line is = λ other also known. absurd (cc)
 -- what is so of what is answered, where that is this
 pub answered : {X E : Type 0} (r : Result X E) (x : X) (So : X → Type 0) → r ≡ Ok x → IfOk r So → So x
 answered r x So is so = subst (λ (q : Result _ _). IfOk q So) is so
+
+-- ---- faults
+
+-- what is so of each error of one kind
+pub of_error : {T E : Type 0} (P Q : E → Type 0) (r : Result T E) → ((e : E) → P e → Q e) → IfErr r P → IfErr r Q
+of_error P Q (Ok x) so p = tt
+of_error P Q (Err e) so p = so e p
+
+-- a script that can't be loaded is refused
+pub load_refused : (text : List ℕ) (f : Fault) → IsLoadFault text f → IsRefusal text f
+load_refused text (fault.File name) h = tt
+load_refused text (fault.Asm kind line) h = absurd h
+load_refused text (fault.Elf kind) h = tt
+load_refused text fault.Raw h = absurd h
+load_refused text (fault.Script line) h = h
+load_refused text (fault.Boot error) h = absurd h
+load_refused text (fault.Log refusal) h = absurd h
+load_refused text fault.Memory h = tt
+
+boot_refused : (text : List ℕ) (f : Fault) → IsBootFault f → IsRefusal text f
+boot_refused text (fault.File name) h = absurd h
+boot_refused text (fault.Asm kind line) h = absurd h
+boot_refused text (fault.Elf kind) h = absurd h
+boot_refused text fault.Raw h = absurd h
+boot_refused text (fault.Script line) h = absurd h
+boot_refused text (fault.Boot error) h = tt
+boot_refused text (fault.Log refusal) h = absurd h
+boot_refused text fault.Memory h = absurd h
+
+-- so is one whose world is refused
+pub told_fault : (text : List ℕ) (f : SimFault) → IsToldFault f → IsSimFault text f
+told_fault text (sim.Refused f) h = boot_refused text f h
+told_fault text sim.Memory h = tt
+told_fault text sim.Output h = tt

@@ -18,6 +18,8 @@ use Rattle.commands.specs.declared.fault.LogRefusal.{LogRefusal}
 use Rattle.commands.specs.declared.fault.LogRefusal.TheVariants as log
 use Rattle.commands.specs.declared.fault.Fault.{Fault}
 use Rattle.commands.specs.declared.fault.Fault.TheVariants.{File, Asm, Elf, Raw, Script, Boot, Log, Memory}
+use Rattle.commands.specs.declared.sim.SimFault.{SimFault}
+use Rattle.commands.specs.declared.sim.SimFault.TheVariants as sim
 use Rattle.script.specs.Scripts as scripts
 use Rattle.tenant.specs.declared.loading.BootError.{BootError}
 use Rattle.tenant.specs.declared.loading.BootError.TheVariants as unbooted
@@ -164,17 +166,35 @@ IsFileFault (Elf fault) = Unit {0}
 IsFileFault Memory = Unit {0}
 IsFileFault other = ⊥
 
--- of a world that is to be booted, and of what is replied in it
-abbrev pub IsToldFault : Fault → Type 0
-IsToldFault (Boot error) = Unit {0}
-IsToldFault Memory = Unit {0}
-IsToldFault other = ⊥
+-- of a script that is to be done, and the files of its guests
+abbrev pub IsLoadFault : List ℕ → Fault → Type 0
+IsLoadFault text (Script line) = IsRefusedScript text
+IsLoadFault text (File name) = Unit {0}
+IsLoadFault text (Elf fault) = Unit {0}
+IsLoadFault text Memory = Unit {0}
+IsLoadFault text other = ⊥
 
--- of a script that is done: it is refused, or the file of a guest is, or the world
-abbrev pub IsSimFault : List ℕ → Fault → Type 0
-IsSimFault text (Script line) = IsRefusedScript text
-IsSimFault text (File name) = Unit {0}
-IsSimFault text (Elf fault) = Unit {0}
-IsSimFault text (Boot error) = Unit {0}
-IsSimFault text Memory = Unit {0}
-IsSimFault text other = ⊥
+-- of a world that is to be booted, and of what is replied in it
+abbrev pub IsBootFault : Fault → Type 0
+IsBootFault (Boot error) = Unit {0}
+IsBootFault other = ⊥
+
+abbrev pub IsToldFault : SimFault → Type 0
+IsToldFault (sim.Refused fault) = IsBootFault fault
+IsToldFault sim.Memory = Unit {0}
+IsToldFault sim.Output = Unit {0}
+
+-- of a script that is refused: it is none, or the file of a guest is refused, or the world
+abbrev pub IsRefusal : List ℕ → Fault → Type 0
+IsRefusal text (Script line) = IsRefusedScript text
+IsRefusal text (File name) = Unit {0}
+IsRefusal text (Elf fault) = Unit {0}
+IsRefusal text (Boot error) = Unit {0}
+IsRefusal text Memory = Unit {0}
+IsRefusal text other = ⊥
+
+-- of a script that is done: it is refused, or what follows its boot is not whole
+abbrev pub IsSimFault : List ℕ → SimFault → Type 0
+IsSimFault text (sim.Refused fault) = IsRefusal text fault
+IsSimFault text sim.Memory = Unit {0}
+IsSimFault text sim.Output = Unit {0}

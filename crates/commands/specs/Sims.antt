@@ -1,6 +1,6 @@
 -- What is replied to a script.
-use Rattle.std.specs.Prelude.{◌≡◌, ℕ, false, List, Option, None, Some, Ok, length, map}
-use Rattle.script.specs.declared.event.Event.{Event}
+use Rattle.std.specs.Prelude.{◌≡◌, ℕ, Bool, false, true, List, Option, None, Some, Ok, length, map}
+use Rattle.script.specs.Courses.{LineEvent, course_of}
 use Rattle.script.specs.declared.header.Fail.{Fail}
 use Rattle.script.specs.declared.header.GuestLine.{GuestLine as GuestLineCode}
 use Rattle.script.specs.declared.header.Header.{Header as HeaderCode}
@@ -11,7 +11,7 @@ use Rattle.booting.specs.declared.asked.Config.{Config}
 use Rattle.booting.specs.declared.asked.NewGuest.{NewGuest}
 use Rattle.world.specs.Boots.{AreAdmitted, AreWithinLimits}
 use Rattle.world.specs.Worlds.{StoreFacts}
-use Rattle.simulation.specs.Transcripts.{IsTranscript}
+use Rattle.simulation.specs.Transcripts.{BreaksOff, WritesTranscript}
 use Rattle.swapstore.specs.Faults.{store_of, left_of, with_fault}
 use Rattle.swapstore.specs.Memories.{MemoryIs, AreTold, stored_at}
 use Rattle.swapstore.specs.declared.fault.FaultStore.{FaultStore}
@@ -58,36 +58,43 @@ in_failing = record {
   failed = λ s. with_fault (left_of s) 0;
 }
 
--- the text is what events say by the words of a seed in a world over a store in memory that is whole and has so many slots
-pub record IsOverMemory (config : Config) (seed slots : ℕ) (guests : List NewGuest) (events : List Event) (text : List ℕ) : Type 0 where
+-- What is written behind known bytes is the transcript of a course of events, whole or of its first events.
+abbrev pub IsTold : {Store : Type 0} → Bool → StoreFacts Store → Bool → Config → ℕ → List NewGuest → Store → List LineEvent → Option (List ℕ) → Option (List ℕ) → Type 0
+IsTold true facts numbered config seed guests store course known known' = WritesTranscript facts numbered config seed guests store course known known'
+IsTold false facts numbered config seed guests store course known known' = BreaksOff facts numbered config seed guests store course known known'
+
+-- it is that of a world over a store in memory that is whole and has so many slots, by the words of a seed
+pub record IsOverMemory (whole numbered : Bool) (config : Config) (seed slots : ℕ) (guests : List NewGuest) (course : List LineEvent) (known known' : Option (List ℕ)) : Type 0 where
   pub store : MemoryIs
-  pub whole : IsWhole store
+  pub sound : IsWhole store
   pub count : length store.pages ≡ slots
-  pub transcript : IsTranscript in_memory config seed guests store events text
+  pub told : IsTold whole in_memory numbered config seed guests store course known known'
 
 -- the same over such a store of which one call fails
-pub record IsOverFailing (config : Config) (seed slots : ℕ) (guests : List NewGuest) (events : List Event) (text : List ℕ) : Type 0 where
+pub record IsOverFailing (whole numbered : Bool) (config : Config) (seed slots : ℕ) (guests : List NewGuest) (course : List LineEvent) (known known' : Option (List ℕ)) : Type 0 where
   pub store : FaultStore MemoryIs
-  pub whole : IsWhole (store_of store)
+  pub sound : IsWhole (store_of store)
   pub count : length (store_of store).pages ≡ slots
-  pub transcript : IsTranscript in_failing config seed guests store events text
+  pub told : IsTold whole in_failing numbered config seed guests store course known known'
 
 -- over a store of which no call fails, or the one that a header names
-abbrev pub IsOver : Option Fail → Config → ℕ → ℕ → List NewGuest → List Event → List ℕ → Type 0
-IsOver None config seed slots guests events text = IsOverMemory config seed slots guests events text
-IsOver (Some fail) config seed slots guests events text = IsOverFailing config seed slots guests events text
+abbrev pub IsOver : Option Fail → Bool → Bool → Config → ℕ → ℕ → List NewGuest → List LineEvent → Option (List ℕ) → Option (List ℕ) → Type 0
+IsOver None whole numbered config seed slots guests course known known' = IsOverMemory whole numbered config seed slots guests course known known'
+IsOver (Some fail) whole numbered config seed slots guests course known known' = IsOverFailing whole numbered config seed slots guests course known known'
 
 -- ---- the whole
 
--- The replies to the script that a text is, in a world that is booted with its guests, each with an image and with the pages, shares
--- and minimum of its line, and admitted by these where the header asks for that: its events are done one after another, by the words of the
--- generator of the header's seed, and whatever they do, what is shown of a guest is of its own machine run alone (`IsTranscript`).
-pub record IsSimulation (text replies : List ℕ) : Type 0 where
+-- What is written behind known bytes are the replies to the script that a text is, to all events or to the first of them, each behind the
+-- number of its line or without it, in a world that is booted with its guests, each with an image and with the pages, shares
+-- and minimum of its line, and admitted by these where the header asks for that: the events that its blocks come to are done one after
+-- another, by the words of the generator of the header's seed, and whatever they do, what is shown of a guest is of its own machine run
+-- alone (`IsTranscript`).
+pub record IsSimulation (whole numbered : Bool) (text : List ℕ) (known known' : Option (List ℕ)) : Type 0 where
   pub script : ScriptCode
   pub reads : script_of text ≡ Ok (script_view script)
-  pub known : IsKnown (script_view script)
+  pub known_words : IsKnown (script_view script)
   pub guests : List NewGuest
   pub numbers : map numbers_of guests ≡ map line_numbers script.header.guests.items
   pub within : AreWithinLimits (config_of script.header) script.header.slots guests
   pub admitted : AreAdmitted (config_of script.header) script.header.slots guests
-  pub transcript : IsOver script.header.failure (config_of script.header) script.header.seed script.header.slots guests script.events.items replies
+  pub told : IsOver script.header.failure whole numbered (config_of script.header) script.header.seed script.header.slots guests (course_of (length guests) (script_view script).blocks) known known'

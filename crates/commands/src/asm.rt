@@ -1,6 +1,5 @@
 //! The command `asm`.
 ghost use Rattle.std.specs.Prelude.{◌≡◌, ◌≢◌, ◌⊎◌, IfErr, IfOk, IfSome, OnOk};
-ghost use Rattle.std.specs.Io.KnownBytes.{Appends};
 ghost use Rattle.masm.specs.Executables.{IsExecutableOf};
 ghost use Rattle.commands.specs.Faults.{IsAsmFault, IsAsmRefusal, IsAsmRunFault};
 ghost use Rattle.commands.specs.Sources.{source_text};
@@ -9,28 +8,28 @@ use crate::fault::{Fault, of_file};
 use crate::image_file::whole_file;
 use crate::order::Asm;
 use masm::assemble;
+use output_file::{is_one_file, write_file};
 use std::alloc::Global;
 use std::fs::File;
-use std::io::{Read, Write};
+use std::io::Read;
 use std::rt::Files;
 
-/// Assembles the source of a file, and writes the executable into another file, which is opened only once the source is
-/// assembled: where that is refused, the file is as before.
+/// Assembles the source of a file, and writes the executable into another file, which is made only once the source is
+/// assembled (`output_file::write_file`): where that is refused, the file is as before.
 ///
 /// An error is `Asm` with the source's first fault and its line; `File` where the source can't be read or the executable
-/// can't be written, and then the file may have a beginning of it, and where both are one, which is found before it is read;
-/// `Memory` where a request for memory was refused.
+/// can't be written, and where both are one file, by one name or by two, which is found before it is read; `Memory` where a request for
+/// memory was refused.
 pub fn assemble_file<'a, R: Files + AllocGlobal>(rt: &R, order: Asm<'a>) -> Result<(), Fault<'a>>
     ensures apart { OnOk result (order.entry.source ≢ order.entry.output) }
     ensures faults { IfErr result (λ fault. IsAsmRunFault order.entry fault) }
 {
-    if order.source == order.output {
+    if is_one_file(rt, order.source, order.output) {
         return Err(Fault::File { name: order.output });
     }
     let source = of_file(order.source, File::open(rt, order.source))?;
     let executable = executable_of(rt.alloc(), source, order.source)?;
-    let mut output = of_file(order.output, File::create(rt, order.output))?;
-    write_file(&mut output, order.output, &executable)
+    of_file(order.output, write_file(rt, order.output, &executable))
 }
 
 /// The executable of the source in the file of this name.
@@ -58,15 +57,4 @@ fn executable_in<'a>(alloc: Global, bytes: &[u8]) -> Result<Vec<u8>, Fault<'a>>
 {
     let text = String::from_utf8_lossy(alloc, bytes)?;
     Ok(assemble(alloc, &text)?)
-}
-
-/// Writes bytes into the file of this name.
-///
-/// An error is `File` where they can't be written, and `Memory` where a request for memory was refused.
-pub fn write_file<'a, F: Write>(file: &mut F, name: &'a str, bytes: &[u8]) -> Result<(), Fault<'a>>
-    ensures whole { OnOk result (Appends (F.contents file.old) (F.contents file.new) bytes.now) }
-    ensures faults { IfErr result (λ fault. IsAsmFault (Fault.File name.entry) fault) }
-    ensures either { IfErr result (λ fault. (fault ≡ Fault.Memory) ⊎ (fault ≡ Fault.File name.entry)) }
-{
-    of_file(name, file.write_all(bytes))
 }

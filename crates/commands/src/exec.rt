@@ -17,6 +17,7 @@ use crate::log_file::write_log;
 use crate::order::{ConsoleInput, Exec, Format, MachineKind};
 use dump::dump;
 use inspection::{Extras, push_extras};
+use output_file::is_one_file;
 use runs::{Ran, Runnable, Table, Until, run};
 use std::alloc::{AllocError, Global};
 use std::fs::File;
@@ -65,7 +66,7 @@ pub fn run_image<'a, R: Files + AllocGlobal>(
     ensures apart { IfOk result (λ r. order.entry.log ≢ Some order.entry.image) }
     ensures faults { IfErr result (λ fault. IsExecFault order.entry fault) }
 {
-    log_can_be_kept(order)?;
+    log_can_be_kept(rt, order)?;
     let file = of_file(order.image, File::open(rt, order.image))?;
     let done = run_file(rt.alloc(), file, order, input, until, extras)?;
     write_order(rt, order, &done)?;
@@ -73,7 +74,7 @@ pub fn run_image<'a, R: Files + AllocGlobal>(
 }
 
 /// Whether the log that the order asks for, if it does, can be kept, and is not to be written over the image.
-fn log_can_be_kept<'a>(order: Exec<'a>) -> Result<(), Fault<'a>>
+fn log_can_be_kept<'a, R: Files + AllocGlobal>(rt: &R, order: Exec<'a>) -> Result<(), Fault<'a>>
     ensures log { OnOk result (order.entry.kind ≡ MachineKind.Flat → order.entry.log ≡ None) }
     ensures apart { OnOk result (order.entry.log ≢ Some order.entry.image) }
     ensures faults { IfErr result (λ fault. IsExecFault order.entry fault) }
@@ -86,7 +87,7 @@ fn log_can_be_kept<'a>(order: Exec<'a>) -> Result<(), Fault<'a>>
             fault: LogRefusal::Flat,
         });
     }
-    if log == order.image {
+    if is_one_file(rt, log, order.image) {
         return Err(Fault::File { name: log });
     }
     Ok(())

@@ -28,4 +28,4 @@ pub use exec::{Done, Report, run_file, run_image};
 pub use fault::Fault;
 pub use order::{Asm, ConsoleInput, Dis, Exec, Format, MachineKind, Replay, Sim};
 pub use replay::replay_log;
-pub use sim::{run_script, script_text};
+pub use sim::{SimFault, run_script, script_text};

@@ -2,12 +2,11 @@
 ghost use Rattle.std.specs.Prelude.{◌≡◌, ◌⊎◌, IfErr, IfOk};
 ghost use Rattle.commands.specs.LogFiles.{IsLogFile};
 
-use crate::asm::write_file;
 use crate::fault::{Fault, of_file};
 use guest::Log;
 use logfile::{append, write};
+use output_file::write_file;
 use std::alloc::{AllocError, Global};
-use std::fs::File;
 use std::rt::Files;
 
 /// Writes the log of a guest of so many pages and of the image file of this digest into the file of this name.
@@ -23,8 +22,7 @@ pub fn write_log<'a, R: Files + AllocGlobal>(
     ensures { IfErr result (λ fault. (fault ≡ Fault.Memory) ⊎ (fault ≡ Fault.File name.entry)) }
 {
     let bytes = log_bytes(rt.alloc(), log, pages, digest)?;
-    let mut file = of_file(name, File::create(rt, name))?;
-    write_file(&mut file, name, &bytes)
+    of_file(name, write_file(rt, name, &bytes))
 }
 
 /// The bytes of the file of a log: it stands for entries with the log's items, in order.

@@ -52,6 +52,8 @@ pub struct Replay<'a> {
 pub struct Sim<'a> {
     /// The name of the script's file.
     pub script: &'a str,
+    /// Whether each reply stands behind the number of its line.
+    pub numbered: bool,
 }
 
 /// The console input that a run begins with: at most 256 bytes. In clauses it is the list of the bytes.

@@ -1,19 +1,21 @@
 //! The command `sim`.
-ghost use Rattle.std.specs.Prelude.{◌≡◌, ◌⊎◌, ◌↔◌, All, IfErr, IfOk, IsTrue, Ok, length, map, string_bytes};
+ghost use Rattle.std.specs.Prelude.{◌≡◌, ◌⊎◌, ◌↔◌, All, IfErr, IfOk, IsErrOf, IsTrue, Ok, OnOk, false, length, map, true};
+ghost use Rattle.script.specs.Courses.{course_of};
 ghost use Rattle.script.specs.Scripts.{script_of};
-ghost use Rattle.script.specs.Views.{script_view};
-ghost use Rattle.simulation.specs.Acts.{IsFor};
+ghost use Rattle.script.specs.Views.{block_view, script_view};
+ghost use Rattle.simulation.specs.Acts.{IsBlockFor};
 ghost use Rattle.world.specs.Boots.{AreAdmitted, AreWithinLimits};
-ghost use Rattle.commands.specs.Faults.{IsFileFault, IsScriptFault, IsSimFault, IsToldFault};
+ghost use Rattle.commands.specs.Faults.{IsFileFault, IsLoadFault, IsScriptFault, IsSimFault, IsToldFault};
 ghost use Rattle.commands.specs.Sims.{IsKnown, IsOver, IsSimulation, config_of, line_numbers, numbers_of};
 
 use crate::fault::{Fault, of_file};
 use crate::image_file::{Loaded, elf_image, whole_file};
 use crate::order::Sim;
-use script::{Event, GuestLine, Header, Script, ScriptError, StoreCall};
+use script::{Block, GuestLine, Header, Script, ScriptError, StoreCall};
 use simulation::{SimError, simulate};
 use std::alloc::Global;
 use std::fs::File;
+use std::io::Write;
 use std::rt::Files;
 use std::sync::Arc;
 use swapstore::{FaultStore, MemStore, Op};
@@ -35,25 +37,63 @@ pub fn script_text<'a, R: Files + AllocGlobal>(rt: &R, order: Sim<'a>) -> Result
     Ok(String::from_utf8_lossy(rt.alloc(), &bytes)?)
 }
 
-/// Does the events of a script in a world of its guests, over a store in memory, and gives the lines of what is replied to each.
+/// Why a script is not done to its end.
+#[derive(Clone, Copy, Debug)]
+pub enum SimFault<'a> {
+    /// It is refused, and nothing was written.
+    Refused(Fault<'a>),
+    /// A request for memory was refused behind the boot: the replies to the first events are written.
+    Memory,
+    /// A reply could not be written.
+    Output,
+}
+
+/// Does the events of a script in a world of its guests, over a store in memory, and writes the reply to each as soon as it is done,
+/// behind the number of its line where `numbered` says so.
 ///
-/// An error is `Script` with the first line that is refused, before any other file is read; `File` where a guest's file can't be
-/// read and `Elf` with its first fault, guest after guest; `Boot` where the world is refused; `Memory` where a request for memory
-/// was refused. The line `profile` is refused like a word of no event.
-pub fn run_script<'a, R: Files + AllocGlobal>(rt: &R, text: &'a str) -> Result<String, Fault<'a>>
-    ensures replies { IfOk result (λ replies. IsSimulation text.now (string_bytes replies)) }
+/// An error is `Refused`, before anything is written: `Script` with the first line that is refused, before any other file is read; `File`
+/// where a guest's file can't be read and `Elf` with its first fault, guest after guest; `Boot` where the world is refused; `Memory` where a
+/// request for memory was refused. Behind the boot it is `Memory`, where the replies to the first events are written, or `Output` where a
+/// reply could not be. The line `profile` is refused like a word of no event.
+pub fn run_script<'a, R: Files + AllocGlobal, O: Write>(
+    rt: &R,
+    text: &'a str,
+    numbered: bool,
+    out: &mut O,
+) -> Result<(), SimFault<'a>>
+    ensures replies { OnOk result (IsSimulation true numbered text.now (O.contents out.old) (O.contents out.new)) }
+    ensures broken_off { IsErrOf result SimFault.Memory → IsSimulation false numbered text.now (O.contents out.old) (O.contents out.new) }
+    ensures unwritten { (fault : Fault) → IsErrOf result (SimFault.Refused fault) → out.new ≡ out.old }
     ensures faults { IfErr result (λ fault. IsSimFault text.now fault) }
 {
-    let Script { header, events } = script_in(rt.alloc(), text)?;
+    let (header, blocks, guests) = match loaded(rt, text) {
+        Ok(loaded) => loaded,
+        Err(fault) => return Err(SimFault::Refused(fault)),
+    };
+    replies_to(rt.alloc(), &header, guests, &blocks, numbered, out)
+}
+
+/// The script that a text is, and its guests, with the images of their files.
+fn loaded<'a, R: Files + AllocGlobal>(
+    rt: &R,
+    text: &'a str,
+) -> Result<(Header<'a>, Vec<Block>, Vec<NewGuest>), Fault<'a>>
+    ensures script { IfOk result (λ parts. script_of text.now ≡ Ok (script_view (record { header = parts.0; blocks = parts.1 }))) }
+    ensures known { IfOk result (λ parts. IsKnown (script_view (record { header = parts.0; blocks = parts.1 }))) }
+    ensures can { IfOk result (λ parts. All (IsBlockFor (length parts.2.items) parts.0.slots) (map block_view parts.1.items)) }
+    ensures guests { IfOk result (λ parts. map numbers_of parts.2.items ≡ map line_numbers parts.0.guests.items) }
+    ensures faults { IfErr result (λ fault. IsLoadFault text.now fault) }
+{
+    let Script { header, blocks } = script_in(rt.alloc(), text)?;
     let guests = load_guests(rt, &header.guests)?;
-    replies_to(rt.alloc(), &header, guests, events)
+    Ok((header, blocks, guests))
 }
 
 /// The script that a text is, where all that it says is known.
 fn script_in<'a>(alloc: Global, text: &'a str) -> Result<Script<'a>, Fault<'a>>
     ensures script { IfOk result (λ script. script_of text.now ≡ Ok (script_view script)) }
     ensures known { IfOk result (λ script. IsKnown (script_view script)) }
-    ensures events { IfOk result (λ script. All (IsFor (length script.header.guests.items) script.header.slots) script.events.items) }
+    ensures can { IfOk result (λ script. All (IsBlockFor (length script.header.guests.items) script.header.slots) (map block_view script.blocks.items)) }
     ensures faults { IfErr result (λ fault. IsScriptFault text.now fault) }
 {
     match script::read(alloc, text) {
@@ -136,17 +176,25 @@ fn load_guest<'a, R: Files + AllocGlobal>(
     }
 }
 
-/// What is replied to the events of a script in a world of these guests.
-fn replies_to<'a>(
+/// Does what blocks say in a world of these guests, and writes what is replied.
+fn replies_to<'a, O: Write>(
     alloc: Global,
     header: &Header<'_>,
     guests: Vec<NewGuest>,
-    events: Vec<Event>,
-) -> Result<String, Fault<'a>>
-    requires { All (IsFor (length guests.items) header.now.slots) events.items }
-    ensures replies { IfOk result (λ replies. IsOver header.now.failure (config_of header.now) header.now.seed header.now.slots guests.items events.items (string_bytes replies)) }
-    ensures within { IfOk result (λ replies. AreWithinLimits (config_of header.now) header.now.slots guests.items) }
-    ensures admitted { IfOk result (λ replies. AreAdmitted (config_of header.now) header.now.slots guests.items) }
+    blocks: &[Block],
+    numbered: bool,
+    out: &mut O,
+) -> Result<(), SimFault<'a>>
+    requires { All (IsBlockFor (length guests.items) header.now.slots) (map block_view blocks.now) }
+    ensures replies { OnOk result (IsOver header.now.failure true numbered (config_of header.now) header.now.seed header.now.slots guests.items
+        (course_of (length guests.items) (map block_view blocks.now)) (O.contents out.old) (O.contents out.new)) }
+    ensures broken_off { IsErrOf result SimFault.Memory → IsOver header.now.failure false numbered (config_of header.now) header.now.seed header.now.slots guests.items
+        (course_of (length guests.items) (map block_view blocks.now)) (O.contents out.old) (O.contents out.new) }
+    ensures within { OnOk result (AreWithinLimits (config_of header.now) header.now.slots guests.items) }
+    ensures admitted { OnOk result (AreAdmitted (config_of header.now) header.now.slots guests.items) }
+    ensures begun_within { IsErrOf result SimFault.Memory → AreWithinLimits (config_of header.now) header.now.slots guests.items }
+    ensures begun_admitted { IsErrOf result SimFault.Memory → AreAdmitted (config_of header.now) header.now.slots guests.items }
+    ensures unwritten { (fault : Fault) → IsErrOf result (SimFault.Refused fault) → out.new ≡ out.old }
     ensures faults { IfErr result (λ fault. IsToldFault fault) }
 {
     let config = Config {
@@ -156,28 +204,32 @@ fn replies_to<'a>(
     };
     // Slots beyond the limit want memory that there may not be.
     if !are_within_limits(config, header.slots, &guests) {
-        return Err(Fault::Boot {
-            error: BootError::Limits,
-        });
+        return Err(unbooted(BootError::Limits));
     }
     let Ok(store) = MemStore::new(alloc, header.slots) else {
-        return Err(Fault::Boot {
-            error: BootError::Memory,
-        });
+        return Err(unbooted(BootError::Memory));
     };
     let seed = header.seed;
     let told = match header.failure {
-        None => simulate(alloc, config, seed, guests, store, events),
+        None => simulate(alloc, config, seed, guests, store, blocks, numbered, out),
         Some(fail) => {
             let store = FaultStore::new(store, op_of(fail.call), u64::from(fail.count.max(1)));
-            simulate(alloc, config, seed, guests, store, events)
+            simulate(alloc, config, seed, guests, store, blocks, numbered, out)
         }
     };
     match told {
-        Ok(replies) => Ok(replies),
-        Err(SimError::Boot(error)) => Err(Fault::Boot { error }),
-        Err(SimError::Memory) => Err(Fault::Memory),
+        Ok(()) => Ok(()),
+        Err(SimError::Boot(error)) => Err(unbooted(error)),
+        Err(SimError::Memory) => Err(SimFault::Memory),
+        Err(SimError::Output) => Err(SimFault::Output),
     }
+}
+
+/// A world that is not booted.
+fn unbooted<'a>(error: BootError) -> SimFault<'a>
+    ensures { result ≡ SimFault.Refused (Fault.Boot error) }
+{
+    SimFault::Refused(Fault::Boot { error })
 }
 
 /// The kind of calls of a store of which one is to fail.

@@ -23,7 +23,7 @@ pub static HEADER: [Form; 6] = [
 ];
 
 /// The events.
-pub static EVENTS: [Form; 17] = [
+pub static EVENTS: [Form; 19] = [
     ("step", "step G N", "N is decimal digits, below 4294967296"),
     ("run", "run G N", "N is decimal digits, below 4294967296"),
     (
@@ -65,6 +65,12 @@ pub static EVENTS: [Form; 17] = [
     ),
     ("sample", "sample", ""),
     ("level", "level", ""),
+    (
+        "repeat",
+        "repeat N",
+        "N is decimal digits, below 4294967296; an end stands behind the lines, and no other repeat between them",
+    ),
+    ("end", "end", "it stands behind a repeat"),
 ];
 
 /// The kind of line that begins with a word.
@@ -75,6 +81,11 @@ pub fn form_of(forms: &'static [Form], word: &str) -> Option<Form> {
 /// Whether a line of this form names a guest.
 pub fn has_guest(form: &str) -> bool {
     form.split(' ').any(|word| word == "G")
+}
+
+/// Whether `*`, which stands for each guest, may be in the place of the guest.
+pub fn may_be_each(word: &str) -> bool {
+    word == "step" || word == "run"
 }
 
 /// The forms of the header's lines.

@@ -1,17 +1,19 @@
 //! Scripts.
 use crate::forms::{
-    EVENTS, Form, HEADER, event_words, form_of, has_guest, header_forms, push_item,
+    EVENTS, Form, HEADER, event_words, form_of, has_guest, header_forms, may_be_each, push_item,
 };
 use crate::words::{Words, quoted};
 use std::alloc::{AllocError, Global};
 
-/// What the lines before one have said of the header.
+/// What the lines before one have said of the header, and of repeats.
 #[derive(Clone, Copy, Debug)]
 struct Before {
     frames: bool,
     slots: bool,
     seed: bool,
     guests: u64,
+    /// Whether a `repeat` stands before it without its `end`.
+    repeats: bool,
 }
 
 impl Before {
@@ -27,6 +29,8 @@ impl Before {
             "slots" => self.slots = true,
             "seed" => self.seed = true,
             "guest" => self.guests = self.guests.saturating_add(1),
+            "repeat" => self.repeats = true,
+            "end" => self.repeats = false,
             _ => {}
         }
     }
@@ -45,6 +49,9 @@ pub fn explain(alloc: Global, script: &str, line: u64) -> Result<Words, AllocErr
                 lacking_text(alloc, &quoted, before)?
             }
         }
+        None if before.is_whole() && before.repeats => {
+            String::from_str(alloc, "the script ends here: a repeat lacks its end")?
+        }
         None => lacking_text(alloc, "the script ends here", before)?,
     };
     Words::of(alloc, &text)
@@ -57,6 +64,7 @@ fn header_before(script: &str, lines: usize) -> Before {
         slots: false,
         seed: false,
         guests: 0,
+        repeats: false,
     };
     for line in script.lines().take(lines) {
         before.add(line);
@@ -114,7 +122,7 @@ fn line_text(
 
 /// An event whose words are wrong, or whose guest, slot or numbers are not there.
 fn event_text(alloc: Global, form: Form, quoted: &str, guests: u64) -> Result<String, AllocError> {
-    let (_, form, note) = form;
+    let (word, form, note) = form;
     let mut text = format!(in alloc; "{quoted}: the form is {form}")?;
     if form.contains(' ') {
         text.push_str(", with one blank between words")?;
@@ -126,6 +134,9 @@ fn event_text(alloc: Global, form: Form, quoted: &str, guests: u64) -> Result<St
     if has_guest(form) {
         text.push_str("; ")?;
         text.push_str(guests_text(alloc, guests)?.as_str())?;
+    }
+    if may_be_each(word) {
+        text.push_str(", or * for each guest")?;
     }
     Ok(text)
 }

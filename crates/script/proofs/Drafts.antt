@@ -3,9 +3,9 @@ use Rattle.std.proofs.Common.{◌≡◌, ℕ, List, [], ◌∷◌, ◌++◌, tru
 use Rattle.std.specs.Prelude.{option_map, if◌then◌else◌}
 use Rattle.script.specs.Steps.{◌>>=◌}
 use Rattle.script.specs.Headers.{Draft, Header, GuestLine, header_of}
-use Rattle.script.specs.Allowed.{is_allowed, allows}
-use Rattle.script.specs.Events.{Event}
-use Rattle.script.specs.Scripts.{Reading, with_event}
+use Rattle.script.specs.Allowed.{may_be_done}
+use Rattle.script.specs.Actions.{Action}
+use Rattle.script.specs.Scripts.{Reading, with_action, with_block, with_repeat}
 use Rattle.script.specs.declared.header.Fail.{Fail}
 
 -- what is done with the guests and the slots of a header, once it is whole
@@ -21,13 +21,28 @@ by_parts f (Some a) (Some b) (Some c) guests failure admit profile = refl
 pub by_slots : {A : Type 0} (f : List GuestLine → ℕ → Option A) (d : Draft) (r : Option ℕ) → r ≡ option_map (λ (h : Header). h.slots) (header_of d) → (header_of d >>= λ h. f h.guests h.slots) ≡ (r >>= λ s. f d.guests s)
 by_slots f d r e = by_parts f d.frames d.slots d.seed d.guests d.failure d.admit d.profile ∙ ap (λ (o : Option ℕ). o >>= λ s. f d.guests s) (sym e)
 
--- an event behind a whole header
-decided : (r : Reading) (event : Event) (slots : ℕ) → Some slots ≡ option_map (λ (h : Header). h.slots) (header_of r.header) → with_event r event ≡ (if is_allowed r.header.guests slots event then Some (record r { events = r.events ++ event ∷ [] }) else None)
-unfolding with_event
-decided r event slots whole = by_slots (λ guests s. if is_allowed guests s event then Some (record r { events = r.events ++ event ∷ [] }) else None) r.header (Some slots) whole
+-- what the lines have said, with one that says what is done
+abbrev pub line_more : ℕ → Reading → Action → Reading
+line_more number r action = record r { block = record r.block { lines = r.block.lines ++ record { number = number; action = action } ∷ [] } }
 
-pub not_allowed : (r : Reading) (event : Event) (slots : ℕ) → Some slots ≡ option_map (λ (h : Header). h.slots) (header_of r.header) → is_allowed r.header.guests slots event ≡ false → with_event r event ≡ None
-not_allowed r event slots whole refused = decided r event slots whole ∙ ap (λ (b : Bool). if b then Some (record r { events = r.events ++ event ∷ [] }) else None) refused
+-- what is done, behind a whole header
+decided : (number : ℕ) (r : Reading) (action : Action) (slots : ℕ) → Some slots ≡ option_map (λ (h : Header). h.slots) (header_of r.header)
+    → with_action number r action ≡ (if may_be_done r.header.guests slots action then Some (line_more number r action) else None)
+unfolding with_action
+decided number r action slots whole = by_slots (λ guests s. if may_be_done guests s action then Some (line_more number r action) else None) r.header (Some slots) whole
 
-pub allowed : (r : Reading) (event : Event) (slots : ℕ) → Some slots ≡ option_map (λ (h : Header). h.slots) (header_of r.header) → is_allowed r.header.guests slots event ≡ true → with_event r event ≡ Some (record r { events = r.events ++ event ∷ [] })
-allowed r event slots whole accepted = decided r event slots whole ∙ ap (λ (b : Bool). if b then Some (record r { events = r.events ++ event ∷ [] }) else None) accepted
+pub not_allowed : (number : ℕ) (r : Reading) (action : Action) (slots : ℕ) → Some slots ≡ option_map (λ (h : Header). h.slots) (header_of r.header) → may_be_done r.header.guests slots action ≡ false
+    → with_action number r action ≡ None
+not_allowed number r action slots whole refused = decided number r action slots whole ∙ ap (λ (b : Bool). if b then Some (line_more number r action) else None) refused
+
+pub allowed : (number : ℕ) (r : Reading) (action : Action) (slots : ℕ) → Some slots ≡ option_map (λ (h : Header). h.slots) (header_of r.header) → may_be_done r.header.guests slots action ≡ true
+    → with_action number r action ≡ Some (line_more number r action)
+allowed number r action slots whole accepted = decided number r action slots whole ∙ ap (λ (b : Bool). if b then Some (line_more number r action) else None) accepted
+
+-- a `repeat` behind a whole header
+pub begun : (r : Reading) (times slots : ℕ) → r.repeats ≡ false → Some slots ≡ option_map (λ (h : Header). h.slots) (header_of r.header)
+    → with_repeat r times ≡ Some (with_block r times true)
+unfolding with_repeat
+begun r times slots outside whole =
+    ap (λ (b : Bool). if b then None else (header_of r.header >>= λ header. Some (with_block r times true))) outside
+    ∙ by_slots (λ guests s. Some (with_block r times true)) r.header (Some slots) whole

@@ -24,3 +24,5 @@ none_of_four name.Audit a b c d = refl
 none_of_four name.Dump a b c d = refl
 none_of_four name.Stats a b c d = refl
 none_of_four name.Damage a b c d = refl
+none_of_four name.Repeat a b c d = refl
+none_of_four name.End a b c d = refl

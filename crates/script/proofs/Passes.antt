@@ -12,13 +12,13 @@ use Rattle.script.specs.declared.error.ScriptError.TheVariants as whole
 use Rattle.script.specs.declared.header.Script.{Script as ScriptCode}
 
 -- a pass from a line on, by that line and the next
-pub by_line : (n : ℕ) (r : Reading) (lines : List (List ℕ)) (i : ℕ) → i < length lines → script_from n r (drop i lines) ≡ at_line n (after_line r (get_or lines i [])) (λ next. script_from (n + 1) next (drop (i + 1) lines))
+pub by_line : (n : ℕ) (r : Reading) (lines : List (List ℕ)) (i : ℕ) → i < length lines → script_from n r (drop i lines) ≡ at_line n (after_line n r (get_or lines i [])) (λ next. script_from (n + 1) next (drop (i + 1) lines))
 by_line n r lines i h = rw (drop-cons lines i [] h, add-one i)
 
-pub line_taken : (n : ℕ) (r next : Reading) (lines : List (List ℕ)) (i : ℕ) → i < length lines → after_line r (get_or lines i []) ≡ Some next → script_from n r (drop i lines) ≡ script_from (n + 1) next (drop (i + 1) lines)
+pub line_taken : (n : ℕ) (r next : Reading) (lines : List (List ℕ)) (i : ℕ) → i < length lines → after_line n r (get_or lines i []) ≡ Some next → script_from n r (drop i lines) ≡ script_from (n + 1) next (drop (i + 1) lines)
 line_taken n r next lines i h taken = by_line n r lines i h ∙ ap (λ (o : Option Reading). at_line n o (λ u. script_from (n + 1) u (drop (i + 1) lines))) taken
 
-pub line_refused : (n : ℕ) (r : Reading) (lines : List (List ℕ)) (i : ℕ) → i < length lines → after_line r (get_or lines i []) ≡ None → script_from n r (drop i lines) ≡ Err n
+pub line_refused : (n : ℕ) (r : Reading) (lines : List (List ℕ)) (i : ℕ) → i < length lines → after_line n r (get_or lines i []) ≡ None → script_from n r (drop i lines) ≡ Err n
 line_refused n r lines i h refused = by_line n r lines i h ∙ ap (λ (o : Option Reading). at_line n o (λ u. script_from (n + 1) u (drop (i + 1) lines))) refused
 
 -- an answer that refuses a line

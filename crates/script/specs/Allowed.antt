@@ -1,5 +1,7 @@
 -- Which events a header allows.
 use Rattle.std.specs.Prelude.{ℕ, Bool, true, false, ◌&&◌, nat_lt, nat_le, List, length, Option, Some, None, slice_get}
+use Rattle.std.specs.List.{list_all}
+use Rattle.script.specs.Actions.{Action, Single, StepEach, RunEach, ActionLine, Block}
 use Rattle.script.specs.Events.{Event, Step, Run, In, Drain, Target, Poke, Write, Probe, Fault, Scan, Evict, Sample, Level, Audit, Dump, Stats, Damage}
 use Rattle.script.specs.Headers.{GuestLine, Header}
 
@@ -29,6 +31,18 @@ is_allowed guests slots (Dump guest) = nat_lt guest (length guests)
 is_allowed guests slots (Stats guest) = nat_lt guest (length guests)
 is_allowed guests slots (Damage slot byte) = nat_lt slot slots && nat_le byte 4095
 
--- the same of a header
-abbrev pub allows : Header → Event → Bool
-allows header event = is_allowed header.guests header.slots event
+-- whichever guests there are may all make steps
+unfoldable pub may_be_done : List GuestLine → ℕ → Action → Bool
+may_be_done guests slots (Single event) = is_allowed guests slots event
+may_be_done guests slots (StepEach count) = true
+may_be_done guests slots (RunEach count) = true
+
+-- the same of a header, and of the lines of a block
+abbrev pub allows : Header → Action → Bool
+allows header action = may_be_done header.guests header.slots action
+
+abbrev pub allows_lines : Header → List ActionLine → Bool
+allows_lines header lines = list_all (λ line. allows header line.action) lines
+
+abbrev pub allows_block : Header → Block → Bool
+allows_block header block = allows_lines header block.lines

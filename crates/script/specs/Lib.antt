@@ -1,5 +1,7 @@
+pub mod Actions
 pub mod Allowed
 pub mod Answers
+pub mod Courses
 pub mod Events
 pub mod Headers
 pub mod Names

@@ -4,7 +4,7 @@ use Rattle.std.specs.Str.{bytes_eq}
 use Rattle.script.specs.declared.name.HeaderName.{HeaderName}
 use Rattle.script.specs.declared.name.HeaderName.TheVariants.{Frames, Slots, Seed, Guest, Fail, Admit, Profile}
 use Rattle.script.specs.declared.name.EventName.{EventName}
-use Rattle.script.specs.declared.name.EventName.TheVariants.{Step, Run, In, Drain, Target, Poke, Write, Probe, Fault, Scan, Evict, Sample, Level, Audit, Dump, Stats, Damage}
+use Rattle.script.specs.declared.name.EventName.TheVariants.{Step, Run, In, Drain, Target, Poke, Write, Probe, Fault, Scan, Evict, Sample, Level, Audit, Dump, Stats, Damage, Repeat, End}
 
 -- what a table has for a text
 abbrev pub named : {A : Type 0} → List (List ℕ × A) → List ℕ → Option A
@@ -22,7 +22,7 @@ event_names =
     ∷ (codes "target", Target) ∷ (codes "poke", Poke) ∷ (codes "write", Write) ∷ (codes "probe", Probe)
     ∷ (codes "fault", Fault) ∷ (codes "scan", Scan) ∷ (codes "evict", Evict) ∷ (codes "sample", Sample)
     ∷ (codes "level", Level) ∷ (codes "audit", Audit) ∷ (codes "dump", Dump) ∷ (codes "stats", Stats)
-    ∷ (codes "damage", Damage) ∷ []
+    ∷ (codes "damage", Damage) ∷ (codes "repeat", Repeat) ∷ (codes "end", End) ∷ []
 
 unfoldable pub header_name_of : List ℕ → Option HeaderName
 header_name_of text = named header_names text

@@ -1,8 +1,9 @@
 //! Which events a header allows.
 ghost use Rattle.std.specs.Prelude.{◌≡◌, map, length, nat_lt, slice_get};
 ghost use Rattle.script.specs.Allowed as spec;
-ghost use Rattle.script.specs.Views.{event_view, guest_view};
+ghost use Rattle.script.specs.Views.{action_view, event_view, guest_view};
 
+use crate::action::Action;
 use crate::event::Event;
 use crate::header::GuestLine;
 
@@ -34,7 +35,7 @@ fn has_pages(guests: &[GuestLine], guest: u32, pages: u32) -> bool
 
 /// Whether a header of these guests and slots allows an event.
 #[tactic(auto, unfolding(crate::specs::Allowed::is_allowed))]
-pub fn is_allowed(guests: &[GuestLine], slots: u32, event: &Event) -> bool
+fn is_allowed(guests: &[GuestLine], slots: u32, event: &Event) -> bool
     ensures { result ≡ spec.is_allowed (map guest_view guests.now) slots (event_view event.now) }
 {
     match event {
@@ -61,5 +62,16 @@ pub fn is_allowed(guests: &[GuestLine], slots: u32, event: &Event) -> bool
         }
         Event::Sample | Event::Level | Event::Audit => true,
         Event::Damage { slot, byte } => *slot < slots && *byte <= LAST_BYTE,
+    }
+}
+
+/// Whether a header of these guests and slots allows what a line says is done.
+#[tactic(auto, unfolding(crate::specs::Allowed::may_be_done))]
+pub fn may_be_done(guests: &[GuestLine], slots: u32, action: &Action) -> bool
+    ensures { result ≡ spec.may_be_done (map guest_view guests.now) slots (action_view action.now) }
+{
+    match action {
+        Action::Single(event) => is_allowed(guests, slots, event),
+        Action::StepEach(_) | Action::RunEach(_) => true,
     }
 }

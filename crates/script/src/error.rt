@@ -10,7 +10,7 @@ use thiserror::Error;
 #[derive(Clone, Copy, Debug, PartialEq, Eq, Error)]
 pub enum ScriptError {
     /// The first line that is refused, counted from 1. Where the header lacks a line that it must have and no event
-    /// follows, it is the line after the last.
+    /// follows, or a `repeat` has no `end`, it is the line after the last.
     #[error("script line {0}")]
     Line(u64),
     /// A request for memory was refused.

@@ -1,5 +1,5 @@
 //! Events.
-ghost use Rattle.std.specs.Prelude.{◌≡◌, option_map};
+ghost use Rattle.std.specs.Prelude.{◌≡◌, IfOk, option_map};
 ghost use Rattle.script.specs.Answers.{Answers};
 ghost use Rattle.script.specs.Events as spec;
 ghost use Rattle.script.specs.Views.{arguments_view, event_view};
@@ -9,7 +9,7 @@ use crate::error::LineError;
 use crate::name::EventName;
 use crate::number::{bytes, hex_word, number};
 use crate::words::Arguments;
-use std::alloc::Global;
+use std::alloc::{AllocError, Global};
 
 /// What is to be done. A guest is named by its number: the guests of the header count from 0.
 #[derive(Debug, Drop, PartialEq, Eq)]
@@ -89,6 +89,72 @@ pub enum Event {
         slot: u32,
         byte: u32,
     },
+}
+
+impl Event {
+    /// The same event.
+    pub fn try_clone(&self, alloc: Global) -> Result<Event, AllocError>
+        ensures { IfOk result (λ event. event_view event ≡ event_view self.now) }
+    {
+        Ok(match *self {
+            Event::Step { guest, count } => Event::Step { guest, count },
+            Event::Run { guest, count } => Event::Run { guest, count },
+            Event::In { guest, ref bytes } => {
+                let bytes = copy_of(alloc, bytes)?;
+                Event::In { guest, bytes }
+            }
+            Event::Drain { guest } => Event::Drain { guest },
+            Event::Target { guest, pages } => Event::Target { guest, pages },
+            Event::Poke {
+                guest,
+                register,
+                value,
+            } => Event::Poke {
+                guest,
+                register,
+                value,
+            },
+            Event::Write {
+                guest,
+                address,
+                ref bytes,
+            } => {
+                let bytes = copy_of(alloc, bytes)?;
+                Event::Write {
+                    guest,
+                    address,
+                    bytes,
+                }
+            }
+            Event::Probe {
+                guest,
+                address,
+                length,
+            } => Event::Probe {
+                guest,
+                address,
+                length,
+            },
+            Event::Fault { guest } => Event::Fault { guest },
+            Event::Scan { guest, page } => Event::Scan { guest, page },
+            Event::Evict { guest, page } => Event::Evict { guest, page },
+            Event::Sample => Event::Sample,
+            Event::Level => Event::Level,
+            Event::Audit => Event::Audit,
+            Event::Dump { guest } => Event::Dump { guest },
+            Event::Stats { guest } => Event::Stats { guest },
+            Event::Damage { slot, byte } => Event::Damage { slot, byte },
+        })
+    }
+}
+
+/// The same bytes.
+fn copy_of(alloc: Global, bytes: &[u8]) -> Result<Vec<u8>, AllocError>
+    ensures { IfOk result (λ copy. copy.items ≡ bytes.now) }
+{
+    let mut copy = Vec::new(alloc);
+    copy.extend_from_slice(bytes)?;
+    Ok(copy)
 }
 
 /// The event of a name and the words behind it, if it has such words.

@@ -1,5 +1,5 @@
 //! What a script says.
-use crate::event::Event;
+use crate::action::Block;
 
 /// The calls of a store of swapped pages.
 #[derive(Clone, Copy, Debug, PartialEq, Eq)]
@@ -43,9 +43,10 @@ pub struct Header<'a> {
     pub profile: Option<u32>,
 }
 
-/// A script: its header, and its events in their order.
+/// A script.
 #[derive(Debug, Drop, PartialEq, Eq)]
 pub struct Script<'a> {
     pub header: Header<'a>,
-    pub events: Vec<Event>,
+    /// What is done, in its order. The lines that no `repeat` repeats are in blocks that are done once; these may be empty.
+    pub blocks: Vec<Block>,
 }

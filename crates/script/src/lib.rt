@@ -1,11 +1,13 @@
-//! Scripts for a simulator of several guests: a text becomes a header and a list of events, or its first refused line.
+//! Scripts for a simulator of several guests: a text becomes a header and blocks of lines that say what is done, or its first refused line.
 //!
-//! What a script means stands in `specs/`: `Scripts` (a header, and then events that it allows), which rests on `Words` (a
-//! line's words), `Numbers`, `Names` (the first words), `Headers` and `Events` (what each line's words mean), `Statements` and
-//! `Allowed` (which events a header allows). `read` answers exactly that; it runs nothing. The numbers of the header are not
+//! What a script means stands in `specs/`: `Scripts` (a header, and then what it allows to be done), which rests on `Words` (a
+//! line's words), `Numbers`, `Names` (the first words), `Headers`, `Events` and `Actions` (what each line's words mean), `Statements` and
+//! `Allowed` (what a header allows). `read` answers exactly that; it runs nothing. Which events it comes to, one after another, says
+//! `Courses`: the lines of a `repeat` so many times, and one for each guest where a line says `*`. The numbers of the header are not
 //! compared with a host's limits here: a host refuses them when it starts.
 #![tactic(auto)]
 
+pub mod action;
 mod allowed;
 mod draft;
 pub mod error;
@@ -21,6 +23,7 @@ mod statement;
 mod tests;
 mod words;
 
+pub use action::{Action, ActionLine, Block};
 pub use error::ScriptError;
 pub use event::Event;
 pub use header::{Fail, GuestLine, Header, Script, StoreCall};

@@ -14,7 +14,7 @@ pub enum HeaderName {
     Profile,
 }
 
-/// What an event does.
+/// What a line behind the header does.
 #[derive(Clone, Copy)]
 pub enum EventName {
     Step,
@@ -34,6 +34,8 @@ pub enum EventName {
     Dump,
     Stats,
     Damage,
+    Repeat,
+    End,
 }
 
 /// The line of the header that begins with a word.
@@ -53,7 +55,7 @@ pub fn header_name(word: &str) -> Option<HeaderName>
     }
 }
 
-/// The event that begins with a word.
+/// The line behind the header that begins with a word.
 #[tactic(auto, unfolding(crate::specs::Names::event_name_of))]
 pub fn event_name(word: &str) -> Option<EventName>
     ensures { result ≡ spec.event_name_of word.now }
@@ -76,6 +78,8 @@ pub fn event_name(word: &str) -> Option<EventName>
         "dump" => Some(EventName::Dump),
         "stats" => Some(EventName::Stats),
         "damage" => Some(EventName::Damage),
+        "repeat" => Some(EventName::Repeat),
+        "end" => Some(EventName::End),
         _ => None,
     }
 }

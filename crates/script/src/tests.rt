@@ -8,18 +8,29 @@ use std::test::Fail;
 const EACH_FORM: &str =
     "# a comment\nslots 4\nguest a.elf 16 100\nframes 008\r\n\nfail write 3\nguest b 64 50 6\nadmit\n\
     seed 4294967295\nprofile 2\nstep 0 5\nrun 1 4294967295\nin 0 41fF\ndrain 1\ntarget 1 64\npoke 0 37 0x8000000a\n\
-    write 0 0x1000 00ff\nprobe 1 0xFfFf 1024\nfault 0\nscan 0 99\nevict 1 3\nsample\nlevel\naudit\n#dump 9\ndump 1\nstats 0\ndamage 3 4095";
+    write 0 0x1000 00ff\nprobe 1 0xFfFf 1024\nfault 0\nrepeat 12\nscan 0 99\nrun * 7\nevict 1 3\nend\nsample\nlevel\naudit\nstep * 0\n#dump 9\ndump 1\nstats 0\ndamage 3 4095";
 
 /// The same script, as it is printed for programmers.
 const EACH_VALUE: &str = "Script { header: Header { frames: 8, slots: 4, seed: 4294967295, \
     guests: [GuestLine { file: \"a.elf\", pages: 16, shares: 100, minimum: None }, \
     GuestLine { file: \"b\", pages: 64, shares: 50, minimum: Some(6) }], \
     failure: Some(Fail { call: Write, count: 3 }), admit: true, profile: Some(2) }, \
-    events: [Step { guest: 0, count: 5 }, Run { guest: 1, count: 4294967295 }, In { guest: 0, bytes: [65, 255] }, \
-    Drain { guest: 1 }, Target { guest: 1, pages: 64 }, Poke { guest: 0, register: 37, value: 2147483658 }, \
-    Write { guest: 0, address: 4096, bytes: [0, 255] }, Probe { guest: 1, address: 65535, length: 1024 }, \
-    Fault { guest: 0 }, Scan { guest: 0, page: 99 }, Evict { guest: 1, page: 3 }, Sample, Level, Audit, \
-    Dump { guest: 1 }, Stats { guest: 0 }, Damage { slot: 3, byte: 4095 }] }";
+    blocks: [Block { times: 1, lines: [ActionLine { number: 11, action: Single(Step { guest: 0, count: 5 }) }, \
+    ActionLine { number: 12, action: Single(Run { guest: 1, count: 4294967295 }) }, \
+    ActionLine { number: 13, action: Single(In { guest: 0, bytes: [65, 255] }) }, \
+    ActionLine { number: 14, action: Single(Drain { guest: 1 }) }, \
+    ActionLine { number: 15, action: Single(Target { guest: 1, pages: 64 }) }, \
+    ActionLine { number: 16, action: Single(Poke { guest: 0, register: 37, value: 2147483658 }) }, \
+    ActionLine { number: 17, action: Single(Write { guest: 0, address: 4096, bytes: [0, 255] }) }, \
+    ActionLine { number: 18, action: Single(Probe { guest: 1, address: 65535, length: 1024 }) }, \
+    ActionLine { number: 19, action: Single(Fault { guest: 0 }) }] }, \
+    Block { times: 12, lines: [ActionLine { number: 21, action: Single(Scan { guest: 0, page: 99 }) }, \
+    ActionLine { number: 22, action: RunEach(7) }, ActionLine { number: 23, action: Single(Evict { guest: 1, page: 3 }) }] }, \
+    Block { times: 1, lines: [ActionLine { number: 25, action: Single(Sample) }, \
+    ActionLine { number: 26, action: Single(Level) }, ActionLine { number: 27, action: Single(Audit) }, \
+    ActionLine { number: 28, action: StepEach(0) }, ActionLine { number: 30, action: Single(Dump { guest: 1 }) }, \
+    ActionLine { number: 31, action: Single(Stats { guest: 0 }) }, \
+    ActionLine { number: 32, action: Single(Damage { slot: 3, byte: 4095 }) }] }] }";
 
 /// Four lines of a header, whose guest 0 has 16 pages.
 const HEADER: &str = "frames 8\nslots 4\nseed 1\nguest a.elf 16 100\n";
@@ -29,7 +40,7 @@ const TAKEN: &str =
     "step 0 0\nstep 00 007\nrun 0 4294967295\nin 0 00\nin 0 aBCd\ntarget 0 0\ntarget 0 16\n\
     poke 0 0 0xFFFFffff\npoke 0 37 0x0\nwrite 0 0x80000000 0A\nprobe 0 0x0 1\nprobe 0 0x0 1024\nscan 0 4294967295\n\
     evict 0 99999\ndamage 0 0\ndamage 3 4095\n\n#\n# step\nfail read 1\nfail write 4294967295\nadmit\nprofile 0\n\
-    guest b 0 0 4294967295";
+    guest b 0 0 4294967295\nstep * 1\nrun * 4294967295";
 
 /// Lines that are refused behind the header: for their words and blanks, their numbers, and their guests and ranges.
 const REFUSED: &str =
@@ -40,7 +51,8 @@ const REFUSED: &str =
     poke 0 1 0x000000000\npoke 0 1 0X1\npoke 0 1 1\npoke 0 1 0xg\nstep 1 1\nrun 1 1\nin 1 00\ndrain 1\ntarget 1 0\n\
     poke 1 0 0x0\nwrite 1 0x0 00\nprobe 1 0x0 1\nfault 1\nscan 1 0\nevict 1 0\ndump 1\nstats 1\ntarget 0 17\npoke 0 38 0x0\n\
     probe 0 0x0 0\nprobe 0 0x0 1025\ndamage 4 0\ndamage 0 4096\nframes 8\nslots 4\nseed 1\nframes\nguest b 1\n\
-    guest  1 2\nguest b 1 2 3 4\nguest b x 2\nfail read 0\nfail both 1\nfail read\nadmit 1\nprofile";
+    guest  1 2\nguest b 1 2 3 4\nguest b x 2\nfail read 0\nfail both 1\nfail read\nadmit 1\nprofile\n\
+    end\nend 1\nrepeat\nrepeat 1 2\nrepeat -1\nrepeat *\nstep *\nstep * *\nstep * -1\nrun ** 1\nin * 00\ndrain *\nrun 0 *";
 
 /// The line of a text that is refused, or 0 where none is.
 fn refused_line(alloc: Global, text: &str) -> Result<u64, AllocError> {
@@ -126,6 +138,35 @@ fn takes_a_header_line_once_and_before_events(rt: HostRuntime) -> Result<(), Fai
     )?;
     expect(&rt, alloc, "frames 8\r\nslots 4\r\nseed 1\r\nsample\r\n", 0)?;
     expect(&rt, alloc, "frames 8\nslots 4\nseed 1\nsample\r", 4)?;
+    Ok(())
+}
+
+#[test]
+fn wants_an_end_to_each_repeat_and_none_within_another(rt: HostRuntime) -> Result<(), Fail> {
+    let alloc = rt.alloc();
+    let expect = |lines: &str, line: u64| -> Result<(), AllocError> {
+        let text = format!(in alloc; "{HEADER}{lines}")?;
+        expect(&rt, alloc, &text, line)
+    };
+    expect("repeat 3\nsample\nend\n", 0)?;
+    expect("repeat 0\nend\nrepeat 1\nend", 0)?;
+    expect("repeat 3\nsample\n", 7)?;
+    expect("repeat 3\nrepeat 2\nend\nend\n", 6)?;
+    expect("repeat 3\nend\nend\n", 7)?;
+    expect("repeat 3\nadmit\nend\n", 6)?;
+    expect("repeat 3\nend\nadmit\n", 7)?;
+    expect("repeat 3\nstep 1 1\nend\n", 6)?;
+    Ok(())
+}
+
+#[test]
+fn wants_a_whole_header_before_a_repeat(rt: HostRuntime) -> Result<(), Fail> {
+    expect(
+        &rt,
+        rt.alloc(),
+        "frames 8\nslots 4\nrepeat 2\nend\nseed 1\n",
+        3,
+    )?;
     Ok(())
 }
 

@@ -1,9 +1,11 @@
 -- What is done by the events of scripts.
-use Rattle.std.specs.Prelude.{ℕ, ◌<◌, ◌≤◌, ◌^◌, nat_lt, if◌then◌else◌, length}
+use Rattle.std.specs.Prelude.{ℕ, ◌<◌, ◌≤◌, ◌^◌, nat_lt, if◌then◌else◌, All, length}
 use Rattle.world.specs.All.{IsProper, What}
 use Rattle.items.specs.declared.item.What.TheVariants as what
 use Rattle.script.specs.declared.event.Event.{Event}
 use Rattle.script.specs.declared.event.Event.TheVariants as event
+use Rattle.script.specs.Actions.{Action, Single, StepEach, RunEach, ActionLine, Block}
+use Rattle.script.specs.Events as script
 use Rattle.world.specs.declared.events.Event.{Event as Happening}
 use Rattle.world.specs.declared.events.Event.TheVariants as happening
 use Rattle.simulation.specs.declared.acts.Act.{Act}
@@ -11,24 +13,36 @@ use Rattle.simulation.specs.declared.acts.Act.TheVariants as act
 
 -- An event can be done in a world of so many guests and slots: its guest, register, slot and byte are there, and a debugger reads and
 -- writes 1 to 1,024 bytes.
-abbrev pub IsFor : ℕ → ℕ → Event → Type 0
-IsFor guests slots (event.Step guest count) = guest < guests
-IsFor guests slots (event.Run guest count) = guest < guests
-IsFor guests slots (event.In guest bytes) = guest < guests
-IsFor guests slots (event.Drain guest) = guest < guests
-IsFor guests slots (event.Target guest pages) = guest < guests
-IsFor guests slots (event.Poke guest register value) = (guest < guests) × (register < 38)
-IsFor guests slots (event.Write guest address bytes) = (guest < guests) × (0 < length bytes.items) × (length bytes.items ≤ 1024)
-IsFor guests slots (event.Probe guest address count) = (guest < guests) × (0 < count) × (count ≤ 1024)
-IsFor guests slots (event.Fault guest) = guest < guests
-IsFor guests slots (event.Scan guest page) = guest < guests
-IsFor guests slots (event.Evict guest page) = guest < guests
-IsFor guests slots event.Sample = Unit {0}
-IsFor guests slots event.Level = Unit {0}
-IsFor guests slots event.Audit = Unit {0}
-IsFor guests slots (event.Dump guest) = guest < guests
-IsFor guests slots (event.Stats guest) = guest < guests
-IsFor guests slots (event.Damage slot byte) = (slot < slots) × (byte < 4096)
+abbrev pub IsFor : ℕ → ℕ → script.Event → Type 0
+IsFor guests slots (script.Step guest count) = guest < guests
+IsFor guests slots (script.Run guest count) = guest < guests
+IsFor guests slots (script.In guest bytes) = guest < guests
+IsFor guests slots (script.Drain guest) = guest < guests
+IsFor guests slots (script.Target guest pages) = guest < guests
+IsFor guests slots (script.Poke guest register value) = (guest < guests) × (register < 38)
+IsFor guests slots (script.Write guest address bytes) = (guest < guests) × (0 < length bytes) × (length bytes ≤ 1024)
+IsFor guests slots (script.Probe guest address count) = (guest < guests) × (0 < count) × (count ≤ 1024)
+IsFor guests slots (script.Fault guest) = guest < guests
+IsFor guests slots (script.Scan guest page) = guest < guests
+IsFor guests slots (script.Evict guest page) = guest < guests
+IsFor guests slots script.Sample = Unit {0}
+IsFor guests slots script.Level = Unit {0}
+IsFor guests slots script.Audit = Unit {0}
+IsFor guests slots (script.Dump guest) = guest < guests
+IsFor guests slots (script.Stats guest) = guest < guests
+IsFor guests slots (script.Damage slot byte) = (slot < slots) × (byte < 4096)
+
+-- the same of what a line says is done, and of each line of a block; each guest that there is can make steps
+abbrev pub IsActionFor : ℕ → ℕ → Action → Type 0
+IsActionFor guests slots (Single e) = IsFor guests slots e
+IsActionFor guests slots (StepEach count) = Unit {0}
+IsActionFor guests slots (RunEach count) = Unit {0}
+
+abbrev pub IsLineFor : ℕ → ℕ → ActionLine → Type 0
+IsLineFor guests slots line = IsActionFor guests slots line.action
+
+abbrev pub IsBlockFor : ℕ → ℕ → Block → Type 0
+IsBlockFor guests slots block = All (IsLineFor guests slots) block.lines
 
 -- a register that an event writes is there
 abbrev pub HasRegister : Event → Type 0

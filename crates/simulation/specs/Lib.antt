@@ -1,3 +1,4 @@
 pub mod Acts
 pub mod Lines
+pub mod Playing
 pub mod Transcripts

@@ -1,5 +1,5 @@
 -- The lines of what is answered to events.
-use Rattle.std.specs.Prelude.{ℕ, List, [], ◌∷◌, ◌++◌, codes, decimal, string_bytes, Option, Some, None, Result, Ok, Err}
+use Rattle.std.specs.Prelude.{ℕ, Bool, if◌then◌else◌, List, [], ◌∷◌, ◌++◌, codes, decimal, string_bytes, Option, Some, None, Result, Ok, Err}
 use Rattle.std.specs.declared.alloc.AllocError.{AllocError}
 use Rattle.std.specs.declared.alloc.Global.{Global}
 use Rattle.std.specs.declared.string.String.{String}
@@ -213,8 +213,22 @@ said_text h (said.Dumped done) = dumped_text done
 said_text h (said.Moved counts) = moves_text h counts
 said_text h (said.Damaged done) = damaged_text done
 
--- the lines of what is answered to events, one after another
-abbrev pub lines_of : List Event → List Said → List ℕ
-lines_of [] saids = []
-lines_of (e ∷ es) [] = []
-lines_of (e ∷ es) (s ∷ ss) = said_text (heading_of (act_of e)) s ++ lines_of es ss
+-- ---- many
+
+-- an event of a script, and the number of its line
+pub record NumberedEvent : Type 0 where
+  pub line : ℕ
+  pub event : Event
+
+-- what stands before a reply that is to have the number of its line
+abbrev pub number_text : Bool → ℕ → List ℕ
+number_text numbered line = if numbered then decimal line ++ codes ": " else []
+
+abbrev pub reply_text : Bool → NumberedEvent → Said → List ℕ
+reply_text numbered e s = number_text numbered e.line ++ said_text (heading_of (act_of e.event)) s
+
+-- the replies to events, one after another, each with the number of its line or all without
+abbrev pub lines_of : Bool → List NumberedEvent → List Said → List ℕ
+lines_of numbered [] saids = []
+lines_of numbered (e ∷ es) [] = []
+lines_of numbered (e ∷ es) (s ∷ ss) = reply_text numbered e s ++ lines_of numbered es ss

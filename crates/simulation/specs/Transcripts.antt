@@ -1,5 +1,5 @@
 -- What is done and answered by a list of events.
-use Rattle.std.specs.Prelude.{◌≡◌, ◌↔◌, ◌+◌, ◌≤◌, ℕ, false, true, List, [], ◌∷◌, ◌++◌, length, map, sum_by, slice_index_or, string_bytes, Some, None, Ok, Err, IfOk, OnOk, OnErr}
+use Rattle.std.specs.Prelude.{◌≡◌, ◌↔◌, ◌+◌, ◌≤◌, ℕ, Bool, false, true, List, [], ◌∷◌, ◌++◌, length, map, sum_by, slice_index_or, string_bytes, Option, Some, None, Ok, Err, IfOk, OnOk, OnErr}
 use Rattle.std.specs.declared.vec.Vec.{Vec}
 use Rattle.std.specs.declared.string.String.{String}
 use Rattle.std.specs.declared.alloc.Global.{Global}
@@ -12,7 +12,9 @@ use Rattle.swapstore.specs.Memories.{Inverts}
 use Rattle.reclaim.specs.declared.level.Level.TheVariants.{High}
 use Rattle.dump.specs.Dumps.{dump_text}
 use Rattle.dump.specs.Steps.{step_count}
-use Rattle.script.specs.declared.event.Event.{Event}
+use Rattle.std.specs.Io.KnownBytes.{Appends}
+use Rattle.script.specs.Courses.{LineEvent}
+use Rattle.script.specs.Views.{event_view}
 use Rattle.world.specs.declared.books.BookCounts.{BookCounts}
 use Rattle.booting.specs.declared.asked.Config.{Config}
 use Rattle.booting.specs.declared.asked.NewGuest.{NewGuest}
@@ -24,9 +26,9 @@ use Rattle.simulation.specs.declared.acts.Act.TheVariants as act
 use Rattle.simulation.specs.declared.said.Said.{Said}
 use Rattle.simulation.specs.declared.said.Said.TheVariants as said
 use Rattle.simulation.specs.declared.transcript.SimError.{SimError}
-use Rattle.simulation.specs.declared.transcript.SimError.TheVariants.{Boot, Memory}
+use Rattle.simulation.specs.declared.transcript.SimError.TheVariants.{Boot, Memory, Output}
 use Rattle.simulation.specs.Acts.{IsHarmless, act_of}
-use Rattle.simulation.specs.Lines.{lines_of}
+use Rattle.simulation.specs.Lines.{NumberedEvent, lines_of}
 
 -- ---- one act
 
@@ -91,17 +93,17 @@ pub record IsDone {Store : Type 0} (facts : StoreFacts Store) (words : Stream) (
 -- ---- many
 
 -- events of a script are done one after another, each in the world that the one before it left, and by the words that it left
-abbrev pub AllDone : {Store : Type 0} → (facts : StoreFacts Store) → Stream → WorldIs Store → List Event → List Said → Stream → WorldIs Store → Type 0
+abbrev pub AllDone : {Store : Type 0} → (facts : StoreFacts Store) → Stream → WorldIs Store → List NumberedEvent → List Said → Stream → WorldIs Store → Type 0
 AllDone facts words w [] [] rest w' = (rest ≡ words) × (w' ≡ w)
 AllDone facts words w [] (s ∷ ss) rest w' = ⊥
 AllDone facts words w (e ∷ es) [] rest w' = ⊥
 AllDone {Store} facts words w (e ∷ es) (s ∷ ss) rest w' =
-    (left : Stream) × (mid : WorldIs Store) × IsDone facts words w (act_of e) s left mid × AllDone facts left mid es ss rest w'
+    (left : Stream) × (mid : WorldIs Store) × IsDone facts words w (act_of e.event) s left mid × AllDone facts left mid es ss rest w'
 
--- events are done in a world by the words of a generator, and the text is the lines of what is answered to them
-pub record IsPlayed {Store : Type 0} (facts : StoreFacts Store) (words : Stream) (w : WorldIs Store) (events : List Event) (rest : Stream) (w' : WorldIs Store) (text : List ℕ) : Type 0 where
+-- events are done in a world by the words of a generator, and the text is the replies to them
+pub record IsPlayed {Store : Type 0} (facts : StoreFacts Store) (numbered : Bool) (words : Stream) (w : WorldIs Store) (events : List NumberedEvent) (rest : Stream) (w' : WorldIs Store) (text : List ℕ) : Type 0 where
   pub said : List Said
-  pub lines : text ≡ lines_of events said
+  pub lines : text ≡ lines_of numbered events said
   pub done : AllDone facts words w events said rest w'
 
 -- ---- what is shown of guests
@@ -121,12 +123,12 @@ pub record Shows (machine : ℕ → Machine) (steps : ℕ → ℕ) (a : Act) (s 
 
 -- What is answered to each act shows of a guest what is so of the machine that it boots, run alone on the items of its log at that event:
 -- those that its own earlier events have added.
-abbrev pub AllShow : Machine → List Machine → (ℕ → List Item) → List Event → List Said → Type 0
+abbrev pub AllShow : Machine → List Machine → (ℕ → List Item) → List NumberedEvent → List Said → Type 0
 AllShow any boots logs [] ss = Unit {0}
 AllShow any boots logs (e ∷ es) [] = Unit {0}
 AllShow any boots logs (e ∷ es) (s ∷ ss) =
-    Shows (λ g. run (logs g) (slice_index_or boots g any)) (λ g. step_count (logs g)) (act_of e) s
-    × AllShow any boots (λ h. logs h ++ added h (act_of e) s) es ss
+    Shows (λ g. run (logs g) (slice_index_or boots g any)) (λ g. step_count (logs g)) (act_of e.event) s
+    × AllShow any boots (λ h. logs h ++ added h (act_of e.event) s) es ss
 
 -- the machine that a guest's image boots in a memory of its own
 abbrev pub machine_of : NewGuest → Machine
@@ -149,18 +151,38 @@ pub record IsFirst {Store : Type 0} (facts : StoreFacts Store) (config : Config)
 abbrev pub words_of : ℕ → Stream
 words_of seed = stream_of (steps_u32 pcg32) (pcg32_of_seed (pcg32_seed 16 seed))
 
--- The text is the lines of what is answered to the events, done one after another from a world that was booted with these guests over a
+-- The text is the replies to the events, done one after another from a world that was booted with these guests over a
 -- store, by the words of the generator of a seed; and where the store is true to digests after them, what they show of guests is of the
 -- machines that the guests boot, each run alone on its own items.
-pub record IsTranscript {Store : Type 0} (facts : StoreFacts Store) (config : Config) (seed : ℕ) (guests : List NewGuest) (store : Store) (events : List Event) (text : List ℕ) : Type 0 where
+pub record IsTranscript {Store : Type 0} (facts : StoreFacts Store) (numbered : Bool) (config : Config) (seed : ℕ) (guests : List NewGuest) (store : Store) (events : List NumberedEvent) (text : List ℕ) : Type 0 where
   pub first : WorldIs Store
   pub last : WorldIs Store
   pub rest : Stream
   pub is_first : IsFirst facts config guests store first
-  pub played : IsPlayed facts (words_of seed) first events rest last text
+  pub played : IsPlayed facts numbered (words_of seed) first events rest last text
   pub shows : facts.true_to_digests last.store → (any : Machine) → AllShow any (map machine_of guests) (λ h. []) events played.said
 
--- why there is no transcript: the world is not booted, or a request for memory was refused
+-- what an event of a script is, with the number of its line
+abbrev pub line_event : NumberedEvent → LineEvent
+line_event e = record { line = e.line; event = event_view e.event }
+
+-- what is written behind known bytes is the transcript of a course of events
+pub record WritesTranscript {Store : Type 0} (facts : StoreFacts Store) (numbered : Bool) (config : Config) (seed : ℕ) (guests : List NewGuest) (store : Store) (course : List LineEvent) (known known' : Option (List ℕ)) : Type 0 where
+  pub events : List NumberedEvent
+  pub text : List ℕ
+  pub are : map line_event events ≡ course
+  pub transcript : IsTranscript facts numbered config seed guests store events text
+  pub written : Appends known known' text
+
+-- it is the transcript of the first events of a course
+pub record BreaksOff {Store : Type 0} (facts : StoreFacts Store) (numbered : Bool) (config : Config) (seed : ℕ) (guests : List NewGuest) (store : Store) (course : List LineEvent) (known known' : Option (List ℕ)) : Type 0 where
+  pub before : List LineEvent
+  pub after : List LineEvent
+  pub whole : course ≡ before ++ after
+  pub transcript : WritesTranscript facts numbered config seed guests store before known known'
+
+-- why a transcript is not whole: the world is not booted, a request for memory was refused, or the writer failed
 abbrev pub WhyNotDone : Config → ℕ → List NewGuest → SimError → Type 0
 WhyNotDone config slots guests (Boot error) = WhyNotBooted config slots guests error
 WhyNotDone config slots guests Memory = Unit {0}
+WhyNotDone config slots guests Output = Unit {0}

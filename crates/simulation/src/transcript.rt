@@ -1,78 +1,70 @@
-//! A list of events, done in a world that is booted for them.
-ghost use Rattle.std.specs.Prelude.{◌≡◌, All, IfOk, IfErr, length, string_bytes};
+//! What a script says is done, in a world that is booted for it.
+ghost use Rattle.std.specs.Prelude.{◌≡◌, All, IfErr, IsErrOf, OnOk, length, map};
+ghost use Rattle.script.specs.Courses.{course_of};
+ghost use Rattle.script.specs.Views.{block_view};
+ghost use Rattle.tenant.specs.declared.loading.BootError.{BootError};
 ghost use Rattle.world.specs.All.{AreAdmitted, AreWithinLimits, HoldsImage};
-ghost use Rattle.simulation.specs.Acts.{IsFor};
-ghost use Rattle.simulation.specs.Transcripts.{IsPlayed, IsTranscript, WhyNotDone};
-ghost use Rattle.simulation.specs.declared.transcript.SimError.TheVariants.{Memory};
+ghost use Rattle.simulation.specs.Acts.{IsBlockFor};
+ghost use Rattle.simulation.specs.Transcripts.{BreaksOff, WhyNotDone, WritesTranscript};
+ghost use Rattle.simulation.specs.declared.transcript.SimError.TheVariants.{Boot, Memory, Output};
 
-use crate::acts::act_of;
-use crate::doing::perform;
-use crate::text::{heading_of, push_said};
-use rand_core::{Rng, SeedableRng};
+use crate::blocks::{Interruption, play};
+use rand_core::SeedableRng;
 use rand_pcg::Pcg32;
-use script::Event;
-use std::alloc::{AllocError, Global};
+use script::Block;
+use std::alloc::Global;
+use std::io::Write;
 use swapstore::Damage;
 use tenant::BootError;
 use world::{Config, NewGuest, World};
 
-/// Why there is no transcript.
+/// Why a transcript is not whole.
 #[derive(Clone, Copy, Debug, PartialEq, Eq)]
 pub enum SimError {
-    /// The world is not booted.
+    /// The world is not booted, and nothing was written.
     Boot(BootError),
-    /// A request for memory was refused.
+    /// A request for memory was refused: the replies to the first events are written.
     Memory,
+    /// A reply could not be written.
+    Output,
 }
 
-impl From<AllocError> for SimError {
-    ghost from_gives = { λ _ error. error ≡ Memory };
-
-    fn from(_error: AllocError) -> Self {
-        SimError::Memory
+impl From<Interruption> for SimError {
+    fn from(interruption: Interruption) -> Self
+        ensures memory { result ≡ Memory → interruption ≡ Interruption.Memory }
+        ensures not_boot { (error : BootError) → result ≡ Boot error → ⊥ }
+    {
+        match interruption {
+            Interruption::Memory => SimError::Memory,
+            Interruption::Output => SimError::Output,
+        }
     }
 }
 
-// Does events, one after another, and gives the lines of what is answered to each.
-#[tactic(auto, using(crate::proofs::Playing::none_played))]
-fn play<S: Damage, R: Rng>(
-    alloc: Global,
-    world: &mut World<S>,
-    rng: &mut R,
-    events: Vec<Event>,
-) -> Result<String, AllocError>
-    requires { All (IsFor (length world.old.tenants) (S.slots world.old.store)) events.items }
-    ensures { IfOk result (λ text. IsPlayed S.SwapStore (R.stream rng.old) world.old events.items
-        (R.stream rng.new) world.new (string_bytes text)) }
-{
-    let mut text = String::new(alloc);
-    for event in events {
-        let act = act_of(event);
-        let heading = heading_of(&act);
-        let said = perform(alloc, world, rng, act);
-        let written = push_said(&mut text, heading, &said);
-        drop(said);
-        written?;
-    }
-    Ok(text)
-}
-
-/// Boots a world with these guests over a store, does the events one after another, and gives the lines of what is answered to
-/// each. Random numbers are those of a generator of this seed.
+/// Boots a world with these guests over a store, does what blocks say, and writes the reply to each event as soon as it is done, behind
+/// the number of its line where `numbered` says so. Random numbers are those of a generator of this seed.
 ///
-/// `Boot` where the world is refused (`World::boot`), `Memory` where there is no memory for the lines.
-pub fn simulate<S: Damage + Drop>(
+/// `Boot` where the world is refused (`World::boot`): then nothing is written. `Memory` where a request for memory was refused later: then
+/// the replies to the first events are written. `Output` where a reply could not be written.
+pub fn simulate<S: Damage + Drop, W: Write>(
     alloc: Global,
     config: Config,
     seed: u32,
     guests: Vec<NewGuest>,
     store: S,
-    events: Vec<Event>,
-) -> Result<String, SimError>
-    requires { All (IsFor (length guests.items) (S.slots store)) events.items }
-    ensures transcript { IfOk result (λ text. IsTranscript S.SwapStore config seed guests.items store events.items (string_bytes text)) }
-    ensures within { IfOk result (λ text. AreWithinLimits config (S.slots store) guests.items × All HoldsImage guests.items × AreAdmitted config (S.slots store) guests.items) }
+    blocks: &[Block],
+    numbered: bool,
+    out: &mut W,
+) -> Result<(), SimError>
+    requires { All (IsBlockFor (length guests.items) (S.slots store)) (map block_view blocks.now) }
+    ensures transcript { OnOk result (WritesTranscript S.SwapStore numbered config seed guests.items store
+        (course_of (length guests.items) (map block_view blocks.now)) (W.contents out.old) (W.contents out.new)) }
+    ensures within { OnOk result (AreWithinLimits config (S.slots store) guests.items × All HoldsImage guests.items × AreAdmitted config (S.slots store) guests.items) }
     ensures refused { IfErr result (WhyNotDone config (S.slots store) guests.items) }
+    ensures unwritten { (error : BootError) → IsErrOf result (Boot error) → out.new ≡ out.old }
+    ensures begun_within { IsErrOf result Memory → AreWithinLimits config (S.slots store) guests.items × All HoldsImage guests.items × AreAdmitted config (S.slots store) guests.items }
+    ensures broken_off { IsErrOf result Memory → BreaksOff S.SwapStore numbered config seed guests.items store
+        (course_of (length guests.items) (map block_view blocks.now)) (W.contents out.old) (W.contents out.new) }
 {
     let mut world = match World::boot(alloc, config, guests, store) {
         Ok(world) => world,
@@ -82,8 +74,12 @@ pub fn simulate<S: Damage + Drop>(
         }
     };
     world.is_sound();
+    let count = world.count() as u32;
     let mut rng = Pcg32::seed_from_u64(u64::from(seed));
-    let text = play(alloc, &mut world, &mut rng, events);
+    let played = play(alloc, &mut world, &mut rng, count, blocks, numbered, out);
     drop(world.close());
-    Ok(text?)
+    match played {
+        Ok(()) => Ok(()),
+        Err(interruption) => Err(SimError::from(interruption)),
+    }
 }

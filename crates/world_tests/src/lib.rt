@@ -1,4 +1,5 @@
-//! The tests of `world`: what its events answer and leave in small worlds, worked out by hand, and want of memory at each request.
+//! The tests of `world`: what its events answer and leave in small worlds, worked out by hand; want of memory at each request; and thousands
+//! of random events.
 //!
 //! They stand apart from it so that a run of the tests proves them alone.
 #![tactic(auto)]
@@ -9,6 +10,8 @@ mod boot_tests;
 mod debugging_tests;
 #[cfg(test)]
 mod event_tests;
+#[cfg(test)]
+mod random_event_tests;
 #[cfg(test)]
 mod running_tests;
 #[cfg(test)]

@@ -1,11 +1,13 @@
 //! Files that fail in mid-stream, and streams that can't be written.
 use super::{Said, clear, file_of, say, words_of, write};
 use command_line::program::{program, unreadable};
-use commands::asm::{executable_of, write_file};
+use commands::asm::executable_of;
 use commands::dis::disassembly;
+use commands::fault::of_file;
 use commands::image_file::{elf_image, raw_image};
 use commands::{Exec, Fault, Format, MachineKind};
 use guest::Stop;
+use output_file::write_bytes;
 use std::alloc::Global;
 use std::io;
 use std::io::{Read, Write};
@@ -117,7 +119,7 @@ fn write_narrow(
     got: &[u8],
 ) -> Option<Fault<'static>> {
     let mut file = Narrow::new(rt.alloc(), room);
-    let fault = write_file(&mut file, "x", CONTENT).err();
+    let fault = of_file("x", write_bytes(&mut file, CONTENT)).err();
     assert_eq!(rt; file.got.as_slice(), got);
     fault
 }

@@ -1,4 +1,4 @@
-use Rattle.std.proofs.Common.{◌≡◌, ◌∙◌, Err, ap, sym}
+use Rattle.std.proofs.Common.{◌∙◌, Err, ap, sym}
 use Rattle.guest.specs.Guests.{GuestIs}
 use Rattle.physmap.specs.Pages.{kind_at}
 use Rattle.tenant.specs.Tenants.{TenantIs}

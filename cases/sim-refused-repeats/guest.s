@@ -1,0 +1,2 @@
+        addiu $2,$2,1
+again:  b     again

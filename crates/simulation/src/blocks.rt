@@ -1,0 +1,199 @@
+//! What the blocks of a script say is done, one event after another, and the replies, each written as it is made.
+ghost use Rattle.std.specs.Prelude.{◌≡◌, ◌++◌, ◌∷◌, [], All, IfOk, IsErrOf, OnOk, length, map, string_bytes};
+ghost use Rattle.std.specs.Io.KnownBytes.{Appends};
+ghost use Rattle.script.specs.Courses.{block_events, course_of, line_events, lines_events};
+ghost use Rattle.script.specs.Views.{block_view, event_view, line_view};
+ghost use Rattle.simulation.specs.Acts.{IsBlockFor, IsFor, IsLineFor};
+ghost use Rattle.simulation.specs.Lines.{number_text, said_text};
+ghost use Rattle.simulation.specs.Playing.{IsOutcome};
+ghost use Rattle.simulation.specs.declared.blocks.Interruption.TheVariants.{Memory};
+
+use crate::Said;
+use crate::acts::act_of;
+use crate::doing::perform;
+use crate::text::{Heading, heading_of, push_said};
+use rand_core::Rng;
+use script::{ActionLine, Block, Event};
+use std::alloc::{AllocError, Global};
+use std::io::Write;
+use swapstore::Damage;
+use world::World;
+
+/// Why not all is done.
+#[derive(Clone, Copy, Debug, PartialEq, Eq)]
+pub enum Interruption {
+    /// A request for memory was refused.
+    Memory,
+    /// A reply could not be written.
+    Output,
+}
+
+impl From<AllocError> for Interruption {
+    ghost from_gives = { λ _ error. error ≡ Memory };
+
+    fn from(_error: AllocError) -> Self {
+        Interruption::Memory
+    }
+}
+
+// The reply to an act, behind the number of its line where it is to have that.
+fn reply(
+    alloc: Global,
+    line: u64,
+    numbered: bool,
+    heading: Heading,
+    said: &Said,
+) -> Result<String, AllocError>
+    ensures { IfOk result (λ text. string_bytes text ≡ number_text numbered line ++ said_text heading said.now) }
+{
+    let mut text = String::new(alloc);
+    if numbered {
+        write!(text, "{line}: ")?;
+    }
+    push_said(&mut text, heading, said)?;
+    Ok(text)
+}
+
+// Writes a reply through, so that it can be seen.
+fn write_reply<W: Write>(out: &mut W, text: &str) -> Result<(), Interruption>
+    ensures written { OnOk result (Appends (W.contents out.old) (W.contents out.new) text.now) }
+    ensures no_want { ¬ IsErrOf result Memory }
+{
+    if out.write_all(text.as_bytes()).is_err() {
+        return Err(Interruption::Output);
+    }
+    match out.flush() {
+        Ok(()) => Ok(()),
+        Err(_) => Err(Interruption::Output),
+    }
+}
+
+// Does an event of the line of this number, and writes the reply.
+fn play_event<S: Damage, R: Rng, W: Write>(
+    alloc: Global,
+    world: &mut World<S>,
+    rng: &mut R,
+    event: Event,
+    line: u64,
+    numbered: bool,
+    out: &mut W,
+) -> Result<(), Interruption>
+    requires { IsFor (length world.old.tenants) (S.slots world.old.store) (event_view event) }
+    ensures { IsOutcome S.SwapStore numbered (length world.old.tenants) (S.slots world.old.store) (R.stream rng.old) world.old
+        (record { line = line; event = event_view event } ∷ []) (R.stream rng.new) world.new (W.contents out.old) (W.contents out.new) result }
+{
+    let act = act_of(event);
+    let heading = heading_of(&act);
+    let said = perform(alloc, world, rng, act);
+    let text = reply(alloc, line, numbered, heading, &said);
+    drop(said);
+    let text = text?;
+    write_reply(out, &text)
+}
+
+// Does the events of the line of this number.
+fn play_events<S: Damage, R: Rng, W: Write>(
+    alloc: Global,
+    world: &mut World<S>,
+    rng: &mut R,
+    events: Vec<Event>,
+    line: u64,
+    numbered: bool,
+    out: &mut W,
+) -> Result<(), Interruption>
+    requires { All (IsFor (length world.old.tenants) (S.slots world.old.store)) (map event_view events.items) }
+    ensures { IsOutcome S.SwapStore numbered (length world.old.tenants) (S.slots world.old.store) (R.stream rng.old) world.old
+        (map (λ e. record { line = line; event = e }) (map event_view events.items)) (R.stream rng.new) world.new (W.contents out.old) (W.contents out.new) result }
+{
+    for event in events {
+        play_event(alloc, world, rng, event, line, numbered, out)?;
+    }
+    Ok(())
+}
+
+// Does what a line says, in a world of so many guests.
+fn play_line<S: Damage, R: Rng, W: Write>(
+    alloc: Global,
+    world: &mut World<S>,
+    rng: &mut R,
+    guests: u32,
+    line: &ActionLine,
+    numbered: bool,
+    out: &mut W,
+) -> Result<(), Interruption>
+    requires guests { length world.old.tenants ≡ guests }
+    requires can { IsLineFor guests (S.slots world.old.store) (line_view line.now) }
+    ensures { IsOutcome S.SwapStore numbered guests (S.slots world.old.store) (R.stream rng.old) world.old
+        (line_events guests (line_view line.now)) (R.stream rng.new) world.new (W.contents out.old) (W.contents out.new) result }
+{
+    let events = line.action.events(alloc, guests)?;
+    play_events(alloc, world, rng, events, line.number, numbered, out)
+}
+
+// Does what lines say, one after another.
+fn play_lines<S: Damage, R: Rng, W: Write>(
+    alloc: Global,
+    world: &mut World<S>,
+    rng: &mut R,
+    guests: u32,
+    lines: &[ActionLine],
+    numbered: bool,
+    out: &mut W,
+) -> Result<(), Interruption>
+    requires guests { length world.old.tenants ≡ guests }
+    requires can { All (IsLineFor guests (S.slots world.old.store)) (map line_view lines.now) }
+    ensures { IsOutcome S.SwapStore numbered guests (S.slots world.old.store) (R.stream rng.old) world.old
+        (lines_events guests (map line_view lines.now)) (R.stream rng.new) world.new (W.contents out.old) (W.contents out.new) result }
+{
+    for line in lines {
+        play_line(alloc, world, rng, guests, line, numbered, out)?;
+    }
+    Ok(())
+}
+
+// Does what the lines of a block say, so many times.
+fn play_block<S: Damage, R: Rng, W: Write>(
+    alloc: Global,
+    world: &mut World<S>,
+    rng: &mut R,
+    guests: u32,
+    block: &Block,
+    numbered: bool,
+    out: &mut W,
+) -> Result<(), Interruption>
+    requires guests { length world.old.tenants ≡ guests }
+    requires can { IsBlockFor guests (S.slots world.old.store) (block_view block.now) }
+    ensures { IsOutcome S.SwapStore numbered guests (S.slots world.old.store) (R.stream rng.old) world.old
+        (block_events guests (block_view block.now)) (R.stream rng.new) world.new (W.contents out.old) (W.contents out.new) result }
+{
+    for turn in 0..block.times {
+        // The number of turns that were made: the loop's invariant speaks of it.
+        let _turn = turn;
+        play_lines(alloc, world, rng, guests, &block.lines, numbered, out)?;
+    }
+    Ok(())
+}
+
+/// Does what blocks say in a world of so many guests, and writes the reply to each event as soon as it is done.
+///
+/// `Memory` where a request for memory was refused: then the replies to the first events are written, and no more. `Output` where a
+/// reply could not be written.
+pub(crate) fn play<S: Damage, R: Rng, W: Write>(
+    alloc: Global,
+    world: &mut World<S>,
+    rng: &mut R,
+    guests: u32,
+    blocks: &[Block],
+    numbered: bool,
+    out: &mut W,
+) -> Result<(), Interruption>
+    requires guests { length world.old.tenants ≡ guests }
+    requires can { All (IsBlockFor guests (S.slots world.old.store)) (map block_view blocks.now) }
+    ensures { IsOutcome S.SwapStore numbered guests (S.slots world.old.store) (R.stream rng.old) world.old
+        (course_of guests (map block_view blocks.now)) (R.stream rng.new) world.new (W.contents out.old) (W.contents out.new) result }
+{
+    for block in blocks {
+        play_block(alloc, world, rng, guests, block, numbered, out)?;
+    }
+    Ok(())
+}
