@@ -1,5 +1,5 @@
 -- A guest whose pages move over machine memory.
-use Rattle.std.proofs.Common.{◌≡◌, ◌≢◌, ℕ, ◌<◌, Bool, true, false, ◌||◌, ◌&&◌, List, [], ◌++◌, Option, Some, None, Result, Ok, Err, OnOk, OnErr, length, nat_eq, set, refl, sym, ap, subst, ◌∙◌}
+use Rattle.std.proofs.Common.{◌≡◌, ◌≢◌, ℕ, ◌<◌, Bool, true, false, ◌||◌, ◌&&◌, List, [], ◌++◌, Option, Some, None, IfSome, Result, Ok, Err, OnOk, OnErr, length, nat_eq, set, refl, sym, ap, subst, ◌∙◌}
 use Rattle.std.proofs.lemmas.Bool.Decides.{Decides-eqb}
 use Rattle.std.proofs.lemmas.Slice.Eq.{slice_eq-Decides}
 use lib.Pointwise.{pointwise}
@@ -8,9 +8,13 @@ use Rattle.physmap.specs.declared.page.Page.{Page}
 use Rattle.physmap.specs.declared.page.Returned.{Returned}
 use Rattle.physmap.specs.declared.page.PageKind.{PageKind}
 use Rattle.physmap.specs.declared.page.PageKind.TheVariants as kind
-use Rattle.physmap.specs.Pages.{kind_at, page_at, shown}
+use Rattle.physmap.specs.Pages.{kind_of, kind_at, page_at, shown}
 use Rattle.physmap.specs.Outline.{outline}
-use Rattle.paging.specs.Faith.{Faithful}
+use Rattle.physmap.proofs.Outlines.{outline_length}
+use Rattle.physmap.specs.declared.page.Page.TheVariants as p
+use Rattle.paging.specs.Faith.{IsFaithful, Faithful, Kept}
+use Rattle.lent_pages.specs.Contents.{its_slots}
+use Rattle.cell.specs.Sitting.{RunIsWritten}
 use Rattle.guest.specs.Guests.{GuestIs, view_of, Intact, without_pages, HasPaused}
 use Rattle.guest.specs.Views.{pages_seen}
 use Rattle.guest.specs.declared.progress.Pause.{Pause}
@@ -18,8 +22,7 @@ use Rattle.guest.specs.declared.progress.Pause.TheVariants as pause
 use Rattle.mips_step.specs.declared.access.Why.{Why}
 use Rattle.guest.proofs.Keeping.{still_intact, same_view}
 use Rattle.machine_memory.specs.declared.stake.Stake.{Stake}
-use Rattle.accounts.specs.declared.account.Account.TheVariants.{Guest}
-use Rattle.accounts.specs.OwnerShares.{share_of, on_its_way}
+use Rattle.machine_memory.proofs.Stakes.{level_by_outline, level_lags}
 use Rattle.machine_memory.specs.Memories.{MemoryIs, IsLevel}
 use Rattle.machine_memory.specs.Returns.{Lags}
 use Rattle.seated.specs.Acts.{Stays}
@@ -27,32 +30,25 @@ use Rattle.std.proofs.lemmas.List.{length-set}
 use Rattle.cell.specs.Narrowing.{is_away, comes_right}
 use Rattle.cell.specs.Pausing.{LevelBefore}
 
-level_by_outline : {Store : Type 0} (memory : MemoryIs Store) (stake : Stake) (old new : List Page) → outline new ≡ outline old → IsLevel memory stake old → IsLevel memory stake new
-level_by_outline memory stake old new same level = record {
-  share = level.share ∙ ap (λ (o : List Page). share_of memory.books.id (Guest (o ++ on_its_way []))) (sym same);
-  pass = level.pass;
-}
-
 -- where a run of steps has not given a page, the stake is level for the pages as they are
 pub level_none : {Store : Type 0} (memory : MemoryIs Store) (stake : Stake) (given : Option ℕ) (old new : List Page) (why : Option Pause) → why ≡ None → IsLevel memory stake old
     → HasPaused given old why new → IsLevel memory stake new
 level_none memory stake given old new why is level paused =
     let calm : HasPaused given old None new = subst (λ (w : Option Pause). HasPaused given old w new) is paused in
-    level_by_outline memory stake old new calm.1 level
+    level_by_outline memory stake old new [] calm.1 level
 
 pub level_need : {Store : Type 0} (memory : MemoryIs Store) (stake : Stake) (given : Option ℕ) (old new : List Page) (why : Option Pause) (page : ℕ) (w : Why) → why ≡ Some (pause.Need page w)
     → IsLevel memory stake old → HasPaused given old why new → IsLevel memory stake new
 level_need memory stake given old new why page w is level paused =
     let calm : HasPaused given old (Some (pause.Need page w)) new = subst (λ (v : Option Pause). HasPaused given old v new) is paused in
-    level_by_outline memory stake old new calm.1 level
+    level_by_outline memory stake old new [] calm.1 level
 
 -- and where it has given one, it lags
 pub lags_by : {Store : Type 0} (memory : MemoryIs Store) (stake : Stake) (given : Option ℕ) (old new : List Page) (returned : Returned) → IsLevel memory stake old
     → HasPaused given old (Some (pause.Gave returned)) new → Lags memory stake returned new
 lags_by memory stake None old new returned level paused = absurd (paused.0 refl)
 lags_by memory stake (Some page) old new returned level paused =
-    let was = level_by_outline memory stake old paused.1.before paused.1.same level in
-    record { share = record { before = paused.1.before; given = page; was = was.share; pages = paused.1.pages; what = paused.1.what }; pass = was.pass }
+    level_lags memory stake old paused.1.before new page returned level paused.1.same paused.1.pages paused.1.what
 
 pub lags_gave : {Store : Type 0} (memory : MemoryIs Store) (stake : Stake) (given : Option ℕ) (old new : List Page) (why : Option Pause) (returned : Returned) → why ≡ Some (pause.Gave returned)
     → IsLevel memory stake old → HasPaused given old why new → Lags memory stake returned new
@@ -129,3 +125,46 @@ same_count (Err e) ps ps' p q s none = ap length none
 pub evicted_intact : {T E : Type 0} (r : Result T E) (g g' : GuestIs) (p : ℕ) (q : Page) → without_pages g' ≡ without_pages g → OnOk r (g'.bus.pages ≡ set g.bus.pages p q) → OnErr r (g'.bus.pages ≡ g.bus.pages)
     → ((view : ℕ → List ℕ) → Faithful view g.bus.pages → Faithful view g'.bus.pages) → Intact g → Intact g'
 evicted_intact r g g' p q rest page none faithful intact = moved_intact g g' rest (same_count r g.bus.pages g'.bus.pages p q page none) faithful intact
+
+-- ---- what was written to the slots
+
+-- pages that are kept as the guest's run has them come right
+pub right_by_faithful : (g : GuestIs) (page : ℕ) → page < length g.bus.pages → Faithful (pages_seen (view_of g)) g.bus.pages → comes_right g page ≡ true
+right_by_faithful g page there all = by (page_at g.bus.pages page) (all page there)
+  where
+    same : (xs ys : List ℕ) → xs ≡ ys → pointwise nat_eq xs ys ≡ true
+    same xs ys e = (slice_eq-Decides Decides-eqb xs ys (pointwise nat_eq xs ys) refl).1 e
+
+    or_true : (b : Bool) → b ≡ true → (false || b) ≡ true
+    or_true b e = e
+
+    by : (q : Page) → IsFaithful (pages_seen (view_of g) page) q → (is_away (kind_of q) || pointwise nat_eq (shown q) (pages_seen (view_of g) page)) ≡ true
+    by p.Zero f = same (shown p.Zero) (pages_seen (view_of g) page) f
+    by p.Given f = same (shown p.Given) (pages_seen (view_of g) page) f
+    by (p.Private frame) f = same (shown (p.Private frame)) (pages_seen (view_of g) page) f
+    by (p.Shared share ticket) f = same (shown (p.Shared share ticket)) (pages_seen (view_of g) page) f
+    by (p.Swapped slot digest) f = refl
+
+-- a guest whose pages alone have moved
+pub moved_written : (stake stake' : Stake) (g g' : GuestIs) → without_pages g' ≡ without_pages g
+    → ((view : ℕ → List ℕ) → Kept (its_slots stake.contents) view g.bus.pages → Kept (its_slots stake'.contents) view g'.bus.pages) → RunIsWritten stake g → RunIsWritten stake' g'
+moved_written stake stake' g g' rest kept written =
+    subst (λ (m : Machine). Kept (its_slots stake'.contents) (pages_seen m) g'.bus.pages) (sym (same_view g g' rest)) (kept (pages_seen (view_of g)) written)
+
+pub written_right : (stake : Stake) (g : GuestIs) (page : ℕ) → page < length g.bus.pages → RunIsWritten stake g → comes_right g page ≡ true
+written_right stake g page there written = right_by_faithful g page there written.faithful
+
+-- and one that has made steps, of which a page that was given handed something back
+pub stepped_written : (stake stake' : Stake) (g g' : GuestIs)
+    → (Intact g → (held : ℕ → Option (List ℕ)) → Kept held (pages_seen (view_of g)) g.bus.pages → Kept held (pages_seen (view_of g')) g'.bus.pages)
+    → ((view : ℕ → List ℕ) → Kept (its_slots stake.contents) view g'.bus.pages → Kept (its_slots stake'.contents) view g'.bus.pages) → Intact g → RunIsWritten stake g → RunIsWritten stake' g'
+stepped_written stake stake' g g' steps back intact written = back (pages_seen (view_of g')) (steps intact (its_slots stake.contents) written)
+
+-- the page that the next step needs is one of those that stand after the run
+pub needs_there : (needs : Option ℕ) (why : Option Pause) (given : Option ℕ) (old new : List Page) → IfSome needs (λ (page : ℕ). (w : Why) × (why ≡ Some (pause.Need page w)))
+    → ((page : ℕ) (w : Why) → why ≡ Some (pause.Need page w) → page < length old) → HasPaused given old why new → IfSome needs (λ (page : ℕ). page < length new)
+needs_there None why given old new needed there paused = tt
+needs_there (Some page) why given old new needed there paused =
+    let calm : HasPaused given old (Some (pause.Need page needed.0)) new = subst (λ (v : Option Pause). HasPaused given old v new) needed.1 paused in
+    let same : length new ≡ length old = sym (outline_length new) ∙ ap length calm.1 ∙ outline_length old in
+    subst (λ (n : ℕ). page < n) (sym same) (there page needed.0 needed.1)

@@ -25,5 +25,5 @@ no_byte (what.Target pages) h = refl
 no_byte (what.Poke register value) h = refl
 no_byte (what.Write address bytes) h = refl
 
-pub happens : (front : Front) (s : Seat) (i : Item) (s' : Seat) (a : Option (List ℕ)) → Answers front s i s' a → Happens front s i s'
+pub happens : {S : Type 0} (front : Front S) (s : Seat) (i : Item) (s' : Seat) (a : Option (List ℕ)) → Answers front s i s' a → Happens front s i s'
 happens front s i s' a h = record { before = h.before; acts = h.acts; accepted = h.accepted }

@@ -17,17 +17,16 @@ pub record IsFresh (head : HeadId) (number : ℕ) (seat : SeatIs) : Type 0 where
   pub made : seat.made ≡ []
 
 -- a front says what the guest was made of
-pub record HasParts (front : Front) (parts : Parts) : Type 0 where
+pub record HasParts {S : Type 0} (front : Front S) (parts : Parts) : Type 0 where
   pub head : front.head.value ≡ parts.guest.head
   pub image : front.image ≡ parts.image
   pub pages : front.pages ≡ parts.pages
   pub limit : front.limit ≡ parts.limit
-  pub first : front.first.value ≡ parts.stake
   pub shares : front.shares ≡ parts.shares
   pub minimum : front.minimum ≡ parts.minimum
 
 -- the four are of the guest behind a front
-pub record AreOf (front : Front) (seats : Seats) : Type 0 where
+pub record AreOf {S : Type 0} (front : Front S) (seats : Seats) : Type 0 where
   pub runner : IsOf front seats.runner
   pub console : IsOf front seats.console
   pub policy : IsOf front seats.policy

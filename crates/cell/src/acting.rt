@@ -1,5 +1,5 @@
 //! What is done with a guest under its lock by whoever has a seat of it, and the truth of it.
-ghost use Rattle.std.specs.Prelude.{◌≡◌, ◌↔◌, ◌∷◌, ℕ, [], true, false, None, Some, OnOk, OnErr, IfOk, IsErrOf, length};
+ghost use Rattle.std.specs.Prelude.{◌≡◌, ◌↔◌, ◌∷◌, ℕ, List, Option, [], true, false, None, Some, OnOk, OnErr, IfOk, IsErrOf, length};
 ghost use Rattle.items.specs.Items.{is_step};
 ghost use Rattle.flatvm.specs.Answers.{replied};
 ghost use Rattle.flatvm.specs.Items.{accepts, reply};
@@ -8,7 +8,9 @@ ghost use Rattle.guest_log.specs.Logs.{IsFull};
 ghost use Rattle.guest_log.specs.declared.stop.Stop.{Stop};
 ghost use Rattle.physmap.specs.Outline.{outline};
 ghost use Rattle.paged_bus.specs.Writes.{WritesTo};
+ghost use Rattle.paging.specs.Faith.{Kept};
 ghost use Rattle.guest.specs.Guests.{view_of, standing, Intact};
+ghost use Rattle.guest.specs.Views.{pages_seen};
 ghost use Rattle.seated.specs.Acts.{Acts, Sees, Stays};
 
 use crate::Seat;
@@ -41,6 +43,8 @@ pub(crate) fn act(
     ensures unmoved { OnErr result (guest.new.log.items ≡ guest.old.log.items) }
     ensures stays { Stays guest.old guest.new }
     ensures intact { Intact guest.old → Intact guest.new }
+    ensures kept { Intact guest.old → (held : ℕ → Option (List ℕ)) →
+        Kept held (pages_seen (view_of guest.old)) guest.old.bus.pages → Kept held (pages_seen (view_of guest.new)) guest.new.bus.pages }
     ensures outline { outline guest.new.bus.pages ≡ outline guest.old.bus.pages }
     ensures accepted { OnOk result (Intact guest.old → accepts item.what (view_of guest.old) ≡ true) }
     ensures reply { IfOk result (λ r. Intact guest.old → replied r ≡ reply item.what (view_of guest.old)) }

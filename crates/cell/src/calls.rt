@@ -19,6 +19,7 @@ use flatvm::Reply;
 use guest::{Refused, Stop};
 use items::{DebugRegister, Item, What};
 use std::sync::Wait;
+use swapstore::SwapStore;
 
 // The bytes that a drain replied.
 fn output_of(answer: Reply) -> Vec<u8>
@@ -31,8 +32,8 @@ fn output_of(answer: Reply) -> Vec<u8>
     }
 }
 
-impl Cell {
-    ghost use Rattle.cell.specs.Sitting.{IsOf, Lasts, Answers, Happens, Sits, IsFullOf, IsPlain, front_boot};
+impl<S: SwapStore + Drop> Cell<S> {
+    ghost use Rattle.cell.specs.Sitting.{IsOf, Lasts, IsTrusted, Answers, Happens, Sits, IsFullOf, IsPlain, front_boot};
 
     // What happens to the guest by an item of the seat that is neither a step nor a byte of input.
     fn input<R: Wait>(&self, rt: &R, seat: &mut Seat, what: What) -> Result<Reply, Refused>
@@ -41,6 +42,7 @@ impl Cell {
         requires no_byte { byte_in what ≡ [] }
         ensures of { IsOf self.now.front seat.new }
         ensures lasts { Lasts seat.old seat.new }
+        ensures lasts_with_store { IsTrusted S.true_to_digests self.now.front → seat.new.witness.held ≡ true }
         ensures ok { IfOk result (λ r. Answers self.now.front seat.old (record { seat = seat.old.seat.number; what = what }) seat.new (replied r)) }
         ensures err { OnErr result (Sees seat.old.seat seat.new.seat) }
         ensures machine { IsErrOf result Refused.Machine → seat.new.witness.held ≡ true →
@@ -67,6 +69,7 @@ impl Cell {
         requires plain { IsPlain what }
         ensures of { IsOf self.now.front seat.new }
         ensures lasts { Lasts seat.old seat.new }
+        ensures lasts_with_store { IsTrusted S.true_to_digests self.now.front → seat.new.witness.held ≡ true }
         ensures ok { IfOk result (λ r. Answers self.now.front seat.old (record { seat = seat.old.seat.number; what = what }) seat.new (replied r)) }
         ensures err { OnErr result (Sees seat.old.seat seat.new.seat) }
         ensures full { IsErrOf result Stop.LogFull → IsFullOf self.now.front seat.new.seat.saw }
@@ -86,6 +89,7 @@ impl Cell {
         requires { IsOf self.now.front seat.old }
         ensures of { IsOf self.now.front seat.new }
         ensures lasts { Lasts seat.old seat.new }
+        ensures lasts_with_store { IsTrusted S.true_to_digests self.now.front → seat.new.witness.held ≡ true }
         ensures ok { IfOk result (λ bytes. Answers self.now.front seat.old (record { seat = seat.old.seat.number; what = What.Drain }) seat.new (Some bytes.items)) }
         ensures err { OnErr result (Sees seat.old.seat seat.new.seat) }
         ensures full { IsErrOf result Stop.LogFull → IsFullOf self.now.front seat.new.seat.saw }
@@ -102,6 +106,7 @@ impl Cell {
         requires { IsOf self.now.front seat.old }
         ensures of { IsOf self.now.front seat.new }
         ensures lasts { Lasts seat.old seat.new }
+        ensures lasts_with_store { IsTrusted S.true_to_digests self.now.front → seat.new.witness.held ≡ true }
         ensures ok { OnOk result (Happens self.now.front seat.old (record { seat = seat.old.seat.number; what = What.Target pages }) seat.new) }
         ensures err { OnErr result (Sees seat.old.seat seat.new.seat) }
         ensures full { IsErrOf result Stop.LogFull → IsFullOf self.now.front seat.new.seat.saw }
@@ -127,6 +132,7 @@ impl Cell {
         requires { IsOf self.now.front seat.old }
         ensures of { IsOf self.now.front seat.new }
         ensures lasts { Lasts seat.old seat.new }
+        ensures lasts_with_store { IsTrusted S.true_to_digests self.now.front → seat.new.witness.held ≡ true }
         ensures ok { OnOk result (Happens self.now.front seat.old (record { seat = seat.old.seat.number; what = What.Poke register value }) seat.new) }
         ensures err { OnErr result (Sees seat.old.seat seat.new.seat) }
         ensures full { IsErrOf result Stop.LogFull → IsFullOf self.now.front seat.new.seat.saw }
@@ -152,6 +158,7 @@ impl Cell {
         requires { IsOf self.now.front seat.old }
         ensures of { IsOf self.now.front seat.new }
         ensures lasts { Lasts seat.old seat.new }
+        ensures lasts_with_store { IsTrusted S.true_to_digests self.now.front → seat.new.witness.held ≡ true }
         ensures sees { Sees seat.old.seat seat.new.seat }
         ensures ok { OnOk result (seat.new.witness.held ≡ true →
             bytes_at (run seat.new.seat.saw (front_boot self.now.front)) address (length bytes.old) ≡ Some bytes.new) }
@@ -171,6 +178,7 @@ impl Cell {
         requires { IsOf self.now.front seat.old }
         ensures of { IsOf self.now.front seat.new }
         ensures lasts { Lasts seat.old seat.new }
+        ensures lasts_with_store { IsTrusted S.true_to_digests self.now.front → seat.new.witness.held ≡ true }
         ensures sees { Sees seat.old.seat seat.new.seat }
         ensures registers { seat.new.witness.held ≡ true → (number : ℕ) → number < 38 →
             slice_index result number ≡ register_shown number (run seat.new.seat.saw (front_boot self.now.front)) }

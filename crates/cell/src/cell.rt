@@ -7,14 +7,15 @@ use elf32::Image;
 use guest::{Guest, Head};
 use keyed_lock::{Close, Fits, KeyedLock};
 use lasting_truth::{Keeper, Truth};
-use machine_memory::Stake;
+use machine_memory::{MachineMemory, Stake};
 use std::alloc::Global;
 use std::snapshot::Snapshot;
 use std::sync::Arc;
+use swapstore::SwapStore;
 
 /// What threads reach of a guest without its lock.
 #[derive(Drop)]
-pub struct Front {
+pub struct Front<S: SwapStore + Drop> {
     /// The head of the guest's log.
     pub head: Arc<Head, Global>,
     /// What the guest has booted.
@@ -25,10 +26,10 @@ pub struct Front {
     pub limit: u32,
     /// The bytes that wait for its console.
     pub queue: ConsoleQueue,
-    /// Whether it is its run, which lasts until bytes come from a slot that are not those of its run.
+    /// Whether it is its run, which lasts until bytes come from a slot that are not those of its run: as long as the store is true to digests.
     pub truth: Truth,
-    /// Its stake in machine memory as it was at first, for the proofs: which books and which pool it is of.
-    pub first: Snapshot<Stake>,
+    /// The machine memory that its pages move over, for the proofs.
+    pub first: Snapshot<MachineMemory<S>>,
     /// How many shares of the memory it has.
     pub shares: u32,
     /// How many of its resident pages it always keeps.
@@ -43,7 +44,7 @@ pub struct Locked {
     pub keeper: Keeper,
     /// The right to take bytes from its console queue.
     pub taker: TakePass,
-    /// Its account in the books of machine memory, and its right to take frames.
+    /// Its account in the books of machine memory, its right to take frames, and what it wrote to its slots.
     pub stake: Stake,
     /// Whether it is to make no step while memory is low.
     pub blocked: bool,
@@ -72,18 +73,19 @@ impl Close for Locked {
     }
 }
 
-impl Fits<Front> for Locked {
+impl<S: SwapStore + Drop> Fits<Front<S>> for Locked {
     ghost use Rattle.cell.specs.Sitting.{Sits};
 
-    ghost fits = { Sits };
+    ghost fits = { Sits S.true_to_digests };
 }
 
 /// A guest under its lock, of which the front is the key. Threads share it by reference.
 #[derive(Drop)]
-pub struct Cell {
+pub struct Cell<S: SwapStore + Drop> {
     /// What is reached without the lock.
-    pub front: Front,
-    pub(crate) lock: KeyedLock<Locked, Front>,
+    pub front: Front<S>,
+    /// What lies under the lock. Whoever takes it puts back what fits the front.
+    pub lock: KeyedLock<Locked, Front<S>>,
     // room for the bytes that wait when the guest ends
     pub(crate) rest: Vec<u8>,
     /// The lock's content fits the front.

@@ -3,8 +3,9 @@ ghost use Rattle.std.specs.Prelude.{◌≡◌, ◌≤◌, ◌++◌, [], true, If
 ghost use Rattle.flatvm.specs.Boot.{boot_machine};
 ghost use Rattle.guest.specs.Guests.{Intact};
 ghost use Rattle.cell.specs.Inputs.{bytes_in};
-ghost use Rattle.cell.specs.Level.{IsLevelAs};
-ghost use Rattle.cell.specs.Sitting.{IsOf, Sits, front_boot};
+ghost use Rattle.machine_memory.specs.Memories.{IsLevel};
+ghost use Rattle.cell.specs.Level.{IsMemoryOf};
+ghost use Rattle.cell.specs.Sitting.{IsOf, Sits, IsTrusted, RunIsWritten, front_boot};
 ghost use Rattle.cell.specs.Ends.{AreOf, AreNew, IsFresh, IsSettled, AreSettled};
 
 use crate::{Breakpoints, Cell, Front, Locked, Parts, Seat, Seats};
@@ -12,19 +13,20 @@ use console_queue::{ConsoleQueue, FeedPass, TakePass};
 use guest::{Guest, Head};
 use keyed_lock::KeyedLock;
 use lasting_truth::{Keeper, Truth};
-use machine_memory::Stake;
+use machine_memory::{MachineMemory, Stake};
 use std::alloc::{AllocError, AllocFailed, Global};
 use std::snapshot::Snapshot;
 use std::sync::{Arc, Wait};
+use swapstore::SwapStore;
 
 /// How many bytes may wait for a guest's console.
 pub const QUEUE_ROOM: usize = 1024;
 
 /// A guest under its lock, with what is handed out of it.
 #[derive(Drop)]
-pub struct Made {
+pub struct Made<S: SwapStore + Drop> {
     /// The guest under its lock.
-    pub cell: Cell,
+    pub cell: Cell<S>,
     /// Its seats.
     pub seats: Seats,
     /// The right to put bytes for its console.
@@ -93,14 +95,14 @@ fn with_witness(truth: &Truth, keeper: &mut Keeper, seat: guest::Seat) -> Seat
 }
 
 // Where there is no memory for the lock, the guest comes back.
-fn lock_up(
+fn lock_up<S: SwapStore + Drop>(
     alloc: Global,
     guest: Guest,
-    front: &Front,
+    front: &Front<S>,
     keeper: Keeper,
     taker: TakePass,
     stake: Stake,
-) -> Result<KeyedLock<Locked, Front>, (Guest, Stake)>
+) -> Result<KeyedLock<Locked, Front<S>>, (Guest, Stake)>
     requires boots { guest.boot ≡ front_boot front.now }
     requires head { guest.head ≡ front.now.head.value }
     requires limit { guest.log.limit ≡ front.now.limit }
@@ -108,7 +110,9 @@ fn lock_up(
     requires items { guest.log.items ≡ [] }
     requires keeper { keeper.truth ≡ front.now.truth.id }
     requires taker { taker ≡ record { queue = front.now.queue.id; taken = [] } }
-    requires level { IsLevelAs front.now.first.value stake guest.bus.pages }
+    requires holds { keeper.holds ≡ true }
+    requires level { IsLevel front.now.first.value stake guest.bus.pages }
+    requires written { IsTrusted S.true_to_digests front.now → RunIsWritten stake guest }
     ensures key { IfOk result (λ lock. lock.key ≡ front.now) }
     ensures guest { IfErr result (λ back. back.0 ≡ guest) }
     ensures stake { IfErr result (λ back. back.1 ≡ stake) }
@@ -164,7 +168,12 @@ fn settle(truth: &Truth, keeper: &mut Keeper, guest: &mut Guest, seat: &mut Seat
     truth.look(keeper, &mut seat.witness);
 }
 
-fn settle_all(front: &Front, keeper: &mut Keeper, guest: &mut Guest, seats: &mut Seats)
+fn settle_all<S: SwapStore + Drop>(
+    front: &Front<S>,
+    keeper: &mut Keeper,
+    guest: &mut Guest,
+    seats: &mut Seats,
+)
     requires keeper { keeper.old.truth ≡ front.now.truth.id }
     requires head { guest.old.head ≡ front.now.head.value }
     requires seats { AreOf front.now seats.old }
@@ -178,15 +187,15 @@ fn settle_all(front: &Front, keeper: &mut Keeper, guest: &mut Guest, seats: &mut
     settle(&front.truth, keeper, guest, &mut seats.debugger);
 }
 
-fn take_apart<R: Wait>(
+fn take_apart<S: SwapStore + Drop, R: Wait>(
     rt: &R,
-    front: Front,
+    front: Front<S>,
     locked: Locked,
     mut rest: Vec<u8>,
     mut seats: Seats,
     feed: FeedPass,
 ) -> Ended
-    requires sits { Sits front locked }
+    requires sits { Sits S.true_to_digests front locked }
     requires room { front.queue.room ≤ vec_capacity rest }
     requires empty { rest.items ≡ [] }
     requires seats { AreOf front seats }
@@ -220,28 +229,32 @@ fn take_apart<R: Wait>(
     }
 }
 
-impl Cell {
+impl<S: SwapStore + Drop> Cell<S> {
     ghost use Rattle.std.specs.Prelude.{◌≡◌, ◌++◌, [], true, IfOk, IfErr};
     ghost use Rattle.flatvm.specs.Boot.{boot_machine};
     ghost use Rattle.guest.specs.Guests.{Intact};
     ghost use Rattle.cell.specs.Inputs.{bytes_in};
-    ghost use Rattle.cell.specs.Level.{IsLevelAs};
-    ghost use Rattle.cell.specs.Sitting.{front_boot};
+    ghost use Rattle.machine_memory.specs.Memories.{IsLevel};
+    ghost use Rattle.cell.specs.Level.{IsMemoryOf};
+    ghost use Rattle.cell.specs.Sitting.{IsTrusted, RunIsWritten, front_boot};
     ghost use Rattle.cell.specs.Ends.{AreOf, AreNew, IsFresh, AreSettled, HasParts};
 
-    /// A guest at its boot comes under a lock, with room for 1,024 bytes that wait for its console. All comes back where there is no
-    /// memory for it.
-    pub fn new(alloc: Global, parts: Parts) -> Result<Made, Parts>
+    /// A guest at its boot, whose pages move over this machine memory, comes under a lock, with room for 1,024 bytes that wait for its
+    /// console. Where the store is true to digests, the pages that are in slots were written to them as they are at the boot. All comes back
+    /// where there is no memory for it.
+    pub fn new(alloc: Global, memory: &MachineMemory<S>, parts: Parts) -> Result<Made<S>, Parts>
         requires boots { parts.guest.boot ≡ boot_machine parts.image.value parts.pages }
         requires limit { parts.guest.log.limit ≡ parts.limit }
         requires items { parts.guest.log.items ≡ [] }
         requires intact { Intact parts.guest }
-        requires level { IsLevelAs parts.stake parts.stake parts.guest.bus.pages }
+        requires level { IsLevel memory.now parts.stake parts.guest.bus.pages }
+        requires written { S.true_to_digests memory.now.first → RunIsWritten parts.stake parts.guest }
         requires runner { IsFresh parts.guest.head 0 parts.runner }
         requires console { IsFresh parts.guest.head 1 parts.console }
         requires policy { IsFresh parts.guest.head 2 parts.policy }
         requires debugger { IsFresh parts.guest.head 3 parts.debugger }
         ensures front { IfOk result (λ made. HasParts made.cell.front parts) }
+        ensures memory { IfOk result (λ made. IsMemoryOf made.cell.front.first.value memory.now) }
         ensures seats { IfOk result (λ made. AreOf made.cell.front made.seats) }
         ensures fresh { IfOk result (λ made. AreNew made.seats) }
         ensures feed { IfOk result (λ made. made.feed ≡ record { queue = made.cell.front.queue.id; put = [] }) }
@@ -250,15 +263,21 @@ impl Cell {
         let Ok(room) = make_room(alloc, &parts.guest) else {
             return Err(parts);
         };
-        Cell::of(alloc, room, parts)
+        Cell::of(alloc, room, memory, parts)
     }
 
-    fn of(alloc: Global, room: Room, parts: Parts) -> Result<Made, Parts>
+    fn of(
+        alloc: Global,
+        room: Room,
+        memory: &MachineMemory<S>,
+        parts: Parts,
+    ) -> Result<Made<S>, Parts>
         requires boots { parts.guest.boot ≡ boot_machine parts.image.value parts.pages }
         requires limit { parts.guest.log.limit ≡ parts.limit }
         requires items { parts.guest.log.items ≡ [] }
         requires intact { Intact parts.guest }
-        requires level { IsLevelAs parts.stake parts.stake parts.guest.bus.pages }
+        requires level { IsLevel memory.now parts.stake parts.guest.bus.pages }
+        requires written { S.true_to_digests memory.now.first → RunIsWritten parts.stake parts.guest }
         requires runner { IsFresh parts.guest.head 0 parts.runner }
         requires console { IsFresh parts.guest.head 1 parts.console }
         requires policy { IsFresh parts.guest.head 2 parts.policy }
@@ -271,6 +290,7 @@ impl Cell {
         requires rest { 1024 ≤ vec_capacity room.rest }
         requires empty { room.rest.items ≡ [] }
         ensures front { IfOk result (λ made. HasParts made.cell.front parts) }
+        ensures memory { IfOk result (λ made. IsMemoryOf made.cell.front.first.value memory.now) }
         ensures seats { IfOk result (λ made. AreOf made.cell.front made.seats) }
         ensures fresh { IfOk result (λ made. AreNew made.seats) }
         ensures feed { IfOk result (λ made. made.feed ≡ record { queue = made.cell.front.queue.id; put = [] }) }
@@ -305,7 +325,7 @@ impl Cell {
             limit,
             queue,
             truth,
-            first: Snapshot::of(&stake),
+            first: Snapshot::of(memory),
             shares,
             minimum,
         };
@@ -328,15 +348,18 @@ impl Cell {
     /// Ends the lock and the console queue, once no thread uses them: the guest, which is its run while its truth holds; its seats, each of
     /// which was legal for its log and has seen it; and the bytes that were put for its console and have not come to it.
     ///
-    /// Where its truth holds, it held whenever a seat looked before: so what each call answered about the seat's truth stands.
+    /// Where its truth holds, it held whenever a seat looked before: so what each call answered about the seat's truth stands. It holds where the
+    /// swap store was true to digests when the memory was made.
     pub fn finish<R: Wait>(self, rt: &R, seats: Seats, feed: FeedPass) -> Ended
         requires seats { AreOf self.front seats }
         requires feed { feed.queue ≡ self.front.queue.id }
         ensures boots { result.guest.boot ≡ front_boot self.front }
         ensures head { result.guest.head ≡ self.front.head.value }
         ensures limit { result.guest.log.limit ≡ self.front.limit }
-        ensures level { IsLevelAs self.front.first.value result.stake result.guest.bus.pages }
+        ensures level { IsLevel self.front.first.value result.stake result.guest.bus.pages }
         ensures is_run { result.keeper.holds ≡ true → Intact result.guest }
+        ensures lasts_with_store { IsTrusted S.true_to_digests self.front → result.keeper.holds ≡ true }
+        ensures written { IsTrusted S.true_to_digests self.front → RunIsWritten result.stake result.guest }
         ensures seats { AreSettled result.guest.log.items result.keeper.holds seats result.seats }
         ensures input { feed.put ≡ bytes_in result.guest.log.items ++ result.rest.items }
     {
@@ -348,7 +371,12 @@ impl Cell {
     }
 }
 
-fn parts_again(guest: Guest, stake: Stake, front: Front, seats: Seats) -> Parts
+fn parts_again<S: SwapStore + Drop>(
+    guest: Guest,
+    stake: Stake,
+    front: Front<S>,
+    seats: Seats,
+) -> Parts
     ensures { result ≡ record {
       guest = guest;
       runner = seats.runner.seat;

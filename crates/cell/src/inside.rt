@@ -11,30 +11,32 @@ ghost use Rattle.physmap.specs.Outline.{outline};
 ghost use Rattle.seated.specs.Acts.{Sees};
 ghost use Rattle.cell.specs.Inputs.{byte_in};
 ghost use Rattle.cell.specs.Registers.{register_shown};
-ghost use Rattle.cell.specs.Sitting.{IsOf, Lasts, Answers, Sits, IsFullOf, IsPlain, front_boot};
+ghost use Rattle.cell.specs.Sitting.{IsOf, Lasts, IsTrusted, Answers, Sits, IsFullOf, IsPlain, front_boot};
 
 use crate::registers::registers_of;
 use crate::{Front, Locked, Registers, Seat, acting};
 use flatvm::Reply;
 use guest::{Refused, Stop};
 use items::{Item, What};
+use swapstore::SwapStore;
 
 // What happens to the guest by an item of the seat that is neither a step nor a byte of input.
-#[tactic(auto, using(crate::proofs::Sitting::sits_on, crate::proofs::Sitting::no_byte_added, crate::proofs::Level::level_on))]
-pub(crate) fn act(
-    front: &Front,
+#[tactic(auto, using(crate::proofs::Sitting::looked_true))]
+pub(crate) fn act<S: SwapStore + Drop>(
+    front: &Front<S>,
     locked: &mut Locked,
     seat: &mut Seat,
     item: Item,
 ) -> Result<Reply, Refused>
-    requires sits { Sits front.now locked.old }
+    requires sits { Sits S.true_to_digests front.now locked.old }
     requires of { IsOf front.now seat.old }
     requires seat { item.seat ≡ seat.old.seat.number }
     requires input { is_step item.what ≡ false }
     requires no_byte { byte_in item.what ≡ [] }
-    ensures sits { Sits front.now locked.new }
+    ensures sits { Sits S.true_to_digests front.now locked.new }
     ensures of { IsOf front.now seat.new }
     ensures lasts { Lasts seat.old seat.new }
+    ensures lasts_with_store { IsTrusted S.true_to_digests front.now → seat.new.witness.held ≡ true }
     ensures ok { IfOk result (λ r. Answers front.now seat.old item seat.new (replied r)) }
     ensures err { OnErr result (Sees seat.old.seat seat.new.seat) }
     ensures machine { IsErrOf result Refused.Machine → seat.new.witness.held ≡ true →
@@ -55,13 +57,14 @@ pub(crate) fn act(
 }
 
 // Shows the seat the whole log.
-#[tactic(auto, using(crate::proofs::Sitting::sits_still))]
-pub(crate) fn see(front: &Front, locked: &mut Locked, seat: &mut Seat)
-    requires sits { Sits front.now locked.old }
+#[tactic(auto, using(crate::proofs::Sitting::sits_still, crate::proofs::Sitting::looked_true))]
+pub(crate) fn see<S: SwapStore + Drop>(front: &Front<S>, locked: &mut Locked, seat: &mut Seat)
+    requires sits { Sits S.true_to_digests front.now locked.old }
     requires of { IsOf front.now seat.old }
-    ensures sits { Sits front.now locked.new }
+    ensures sits { Sits S.true_to_digests front.now locked.new }
     ensures of { IsOf front.now seat.new }
     ensures lasts { Lasts seat.old seat.new }
+    ensures lasts_with_store { IsTrusted S.true_to_digests front.now → seat.new.witness.held ≡ true }
     ensures sees { Sees seat.old.seat seat.new.seat }
     ensures guest { locked.new.guest.value ≡ locked.old.guest.value }
     ensures saw { seat.new.seat.saw ≡ locked.old.guest.value.log.items }
@@ -71,18 +74,19 @@ pub(crate) fn see(front: &Front, locked: &mut Locked, seat: &mut Seat)
 }
 
 // Reads bytes of the guest's memory.
-pub(crate) fn read(
-    front: &Front,
+pub(crate) fn read<S: SwapStore + Drop>(
+    front: &Front<S>,
     locked: &mut Locked,
     seat: &mut Seat,
     address: u32,
     bytes: &mut [u8],
 ) -> Result<(), Refused>
-    requires sits { Sits front.now locked.old }
+    requires sits { Sits S.true_to_digests front.now locked.old }
     requires of { IsOf front.now seat.old }
-    ensures sits { Sits front.now locked.new }
+    ensures sits { Sits S.true_to_digests front.now locked.new }
     ensures of { IsOf front.now seat.new }
     ensures lasts { Lasts seat.old seat.new }
+    ensures lasts_with_store { IsTrusted S.true_to_digests front.now → seat.new.witness.held ≡ true }
     ensures sees { Sees seat.old.seat seat.new.seat }
     ensures guest { locked.new.guest.value ≡ locked.old.guest.value }
     ensures ok { OnOk result (seat.new.witness.held ≡ true → bytes_at (run seat.new.seat.saw (front_boot front.now)) address (length bytes.old) ≡ Some bytes.new) }
@@ -96,12 +100,17 @@ pub(crate) fn read(
 }
 
 // Reads the registers.
-pub(crate) fn registers(front: &Front, locked: &mut Locked, seat: &mut Seat) -> Registers
-    requires sits { Sits front.now locked.old }
+pub(crate) fn registers<S: SwapStore + Drop>(
+    front: &Front<S>,
+    locked: &mut Locked,
+    seat: &mut Seat,
+) -> Registers
+    requires sits { Sits S.true_to_digests front.now locked.old }
     requires of { IsOf front.now seat.old }
-    ensures sits { Sits front.now locked.new }
+    ensures sits { Sits S.true_to_digests front.now locked.new }
     ensures of { IsOf front.now seat.new }
     ensures lasts { Lasts seat.old seat.new }
+    ensures lasts_with_store { IsTrusted S.true_to_digests front.now → seat.new.witness.held ≡ true }
     ensures sees { Sees seat.old.seat seat.new.seat }
     ensures guest { locked.new.guest.value ≡ locked.old.guest.value }
     ensures registers { seat.new.witness.held ≡ true → (number : ℕ) → number < 38 →

@@ -12,6 +12,9 @@ ghost use Rattle.guest.specs.declared.progress.Pause.{Pause};
 ghost use Rattle.cell.specs.Pausing.{LevelBefore};
 ghost use Rattle.cell.specs.Inputs.{bytes_in};
 ghost use Rattle.cell.specs.Narrowing.{comes_right};
+ghost use Rattle.paging.specs.Faith.{Kept};
+ghost use Rattle.lent_pages.specs.Contents.{its_slots};
+ghost use Rattle.cell.specs.Sitting.{RunIsWritten};
 ghost use Rattle.cell.specs.Slices.{Slice};
 
 use crate::narrowing::narrow;
@@ -36,7 +39,7 @@ pub(crate) struct Stepped {
 }
 
 // At most so many steps, up to one that needs a page or gives one. What a page that was given hands back goes where it belongs.
-#[tactic(auto, using(crate::proofs::Lent::level_before))]
+#[tactic(auto, using(crate::proofs::Lent::level_before, crate::proofs::Lent::stepped_written))]
 pub(crate) fn steps_over<S: SwapStore + Drop, R: Wait>(
     rt: &R,
     memory: &MachineMemory<S>,
@@ -58,6 +61,7 @@ pub(crate) fn steps_over<S: SwapStore + Drop, R: Wait>(
     ensures few { IfOk result (λ s. s.steps ≤ count) }
     ensures stays { Stays guest.old guest.new }
     ensures intact { Intact guest.old → Intact guest.new }
+    ensures written { Intact guest.old → RunIsWritten stake.old guest.old → RunIsWritten stake.new guest.new }
     ensures there { IfOk result (λ s. IfSome s.needs (λ page. page < length guest.new.bus.pages)) }
     ensures full { IsErrOf result Stop.LogFull → IsFull guest.new.log }
 {
@@ -82,6 +86,7 @@ fn settle_pause<S: SwapStore + Drop, R: Wait>(
 ) -> Option<Ppn>
     requires { LevelBefore memory.now stake.old pause guest.now.bus.pages }
     ensures level { IsLevel memory.now stake.new guest.now.bus.pages }
+    ensures kept { (view : ℕ → List ℕ) → Kept (its_slots stake.old.contents) view guest.now.bus.pages → Kept (its_slots stake.new.contents) view guest.now.bus.pages }
     ensures needs { IfSome result (λ page. (why : Why) × (pause ≡ Some (Pause.Need page why))) }
 {
     match pause {
@@ -98,7 +103,7 @@ fn settle_pause<S: SwapStore + Drop, R: Wait>(
 
 // A page of the guest gets a frame of its own, with its bytes. The guest's truth holds still exactly where the bytes that came are those of
 // its own run (`narrow`).
-#[tactic(auto, using(crate::proofs::Lent::intact_still))]
+#[tactic(auto, using(crate::proofs::Lent::intact_still, crate::proofs::Lent::moved_written, crate::proofs::Lent::written_right))]
 pub(crate) fn supply_over<S: SwapStore + Drop, R: Wait>(
     rt: &R,
     alloc: Global,
@@ -117,6 +122,8 @@ pub(crate) fn supply_over<S: SwapStore + Drop, R: Wait>(
     ensures count { length guest.new.bus.pages ≡ length guest.old.bus.pages }
     ensures truth { keeper.new ≡ record keeper.old { holds = keeper.old.holds && comes_right guest.new page } }
     ensures intact { keeper.new.holds ≡ true → Intact guest.old → Intact guest.new }
+    ensures written { S.true_to_digests memory.now.first → RunIsWritten stake.old guest.old → RunIsWritten stake.new guest.new }
+    ensures right { S.true_to_digests memory.now.first → RunIsWritten stake.old guest.old → comes_right guest.new page ≡ true }
     ensures private { OnOk result (kind_at guest.new.bus.pages page ≡ PageKind.Private) }
 {
     let done = memory.supply(rt, alloc, stake, guest, page);
@@ -125,7 +132,7 @@ pub(crate) fn supply_over<S: SwapStore + Drop, R: Wait>(
 }
 
 // A page of the guest that is in a frame leaves it for a slot.
-#[tactic(auto, using(crate::proofs::Lent::moved_stays, crate::proofs::Lent::moved_items, crate::proofs::Lent::evicted_intact))]
+#[tactic(auto, using(crate::proofs::Lent::moved_stays, crate::proofs::Lent::moved_items, crate::proofs::Lent::evicted_intact, crate::proofs::Lent::moved_written))]
 pub(crate) fn evict_over<S: SwapStore + Drop, R: Wait>(
     rt: &R,
     memory: &MachineMemory<S>,
@@ -140,12 +147,13 @@ pub(crate) fn evict_over<S: SwapStore + Drop, R: Wait>(
     ensures stays { Stays guest.old guest.new }
     ensures items { guest.new.log.items ≡ guest.old.log.items }
     ensures intact { Intact guest.old → Intact guest.new }
+    ensures written { RunIsWritten stake.old guest.old → RunIsWritten stake.new guest.new }
 {
     memory.evict(rt, stake, guest, page)
 }
 
 // A page of the guest is scanned.
-#[tactic(auto, using(crate::proofs::Lent::moved_stays, crate::proofs::Lent::moved_items, crate::proofs::Lent::moved_intact))]
+#[tactic(auto, using(crate::proofs::Lent::moved_stays, crate::proofs::Lent::moved_items, crate::proofs::Lent::moved_intact, crate::proofs::Lent::moved_written))]
 pub(crate) fn scan_over<S: SwapStore + Drop, R: Wait>(
     rt: &R,
     memory: &MachineMemory<S>,
@@ -159,6 +167,7 @@ pub(crate) fn scan_over<S: SwapStore + Drop, R: Wait>(
     ensures stays { Stays guest.old guest.new }
     ensures items { guest.new.log.items ≡ guest.old.log.items }
     ensures intact { Intact guest.old → Intact guest.new }
+    ensures written { RunIsWritten stake.old guest.old → RunIsWritten stake.new guest.new }
 {
     memory.scan(rt, stake, guest, number, page)
 }

@@ -8,8 +8,9 @@
 //!
 //! The guest's pages move over a `MachineMemory` while its lock is held: `Cell::piece` and `Cell::write` supply what they need, `Cell::evict`
 //! and `Cell::scan` are for those who look after the memory. A supply alone narrows the guest's truth, to whether the bytes that came are
-//! those of its own run (`specs/Narrowing.antt`). A guest's stake stays level for its pages (`IsLevelAs`), in the memory that its first one
-//! was of (`IsMemoryOf`), as `laws` has it.
+//! those of its own run (`specs/Narrowing.antt`). A guest's stake stays level for its pages in the memory that it was made over
+//! (`IsMemoryOf`), and says what was written to their slots: so where the store was true to digests when the memory was made, the truth holds
+//! at each call and to the end (`lasts_with_store`).
 //!
 //! No clause says that a slice makes a step, that a byte that waits is taken, nor what `hold`, `block` and the breakpoints do.
 //!

@@ -35,6 +35,8 @@ pub struct PageStat {
     pub resident: u32,
     /// Those that its balloon holds.
     pub given: u32,
+    /// Those that its balloon is asked to hold.
+    pub target: u32,
 }
 
 // A page that is in a frame leaves it for a slot.
@@ -42,15 +44,15 @@ pub struct PageStat {
 fn evict_in<S: SwapStore + Drop, R: Wait>(
     rt: &R,
     memory: &MachineMemory<S>,
-    front: &Front,
+    front: &Front<S>,
     locked: &mut Locked,
     page: Ppn,
 ) -> Result<(), EvictError>
-    requires sits { Sits front.now locked.old }
+    requires sits { Sits S.true_to_digests front.now locked.old }
     requires memory { IsMemoryOf front.now.first.value memory.now }
     requires there { page < length locked.old.guest.value.bus.pages }
     requires resident { IsTrue (is_resident (kind_at locked.old.guest.value.bus.pages page)) }
-    ensures sits { Sits front.now locked.new }
+    ensures sits { Sits S.true_to_digests front.now locked.new }
 {
     evict_over(rt, memory, &mut locked.stake, &mut locked.guest, page)
 }
@@ -59,20 +61,20 @@ fn evict_in<S: SwapStore + Drop, R: Wait>(
 fn evict_drawn<S: SwapStore + Drop, R: Wait>(
     rt: &R,
     memory: &MachineMemory<S>,
-    front: &Front,
+    front: &Front<S>,
     locked: &mut Locked,
     word: u32,
-) -> Result<(), Kept>
-    requires sits { Sits front.now locked.old }
+) -> Result<Ppn, Kept>
+    requires sits { Sits S.true_to_digests front.now locked.old }
     requires memory { IsMemoryOf front.now.first.value memory.now }
-    ensures sits { Sits front.now locked.new }
+    ensures sits { Sits S.true_to_digests front.now locked.new }
 {
     if locked.guest.resident() <= front.minimum.max(2) {
         return Err(Kept::AtMinimum);
     }
     let page = drawn_page(&locked.guest, &None, word);
     match evict_in(rt, memory, front, locked, page) {
-        Ok(()) => Ok(()),
+        Ok(()) => Ok(page),
         Err(EvictError::NoSwap) => Err(Kept::NoSwap),
         Err(EvictError::SwapWrite) => Err(Kept::SwapWrite),
     }
@@ -83,14 +85,14 @@ fn evict_drawn<S: SwapStore + Drop, R: Wait>(
 fn scan_in<S: SwapStore + Drop, R: Wait>(
     rt: &R,
     memory: &MachineMemory<S>,
-    front: &Front,
+    front: &Front<S>,
     locked: &mut Locked,
     guest: GuestNo,
     page: Ppn,
 ) -> Scan
-    requires sits { Sits front.now locked.old }
+    requires sits { Sits S.true_to_digests front.now locked.old }
     requires memory { IsMemoryOf front.now.first.value memory.now }
-    ensures sits { Sits front.now locked.new }
+    ensures sits { Sits S.true_to_digests front.now locked.new }
 {
     scan_over(
         rt,
@@ -102,18 +104,13 @@ fn scan_in<S: SwapStore + Drop, R: Wait>(
     )
 }
 
-impl Cell {
+impl<S: SwapStore + Drop> Cell<S> {
     ghost use Rattle.std.specs.Prelude.{◌≤◌};
     ghost use Rattle.cell.specs.Level.{IsMemoryOf};
 
     /// A page of the guest leaves its frame for a slot, where the guest has more pages in frames than it always keeps: the first one in a
-    /// frame at or after the word modulo its pages, going round. The guest doesn't notice. It takes no memory.
-    pub fn evict<S: SwapStore + Drop, R: Wait>(
-        &self,
-        rt: &R,
-        memory: &MachineMemory<S>,
-        word: u32,
-    ) -> Result<(), Kept>
+    /// frame at or after the word modulo its pages, going round, which is answered. The guest doesn't notice. It takes no memory.
+    pub fn evict<R: Wait>(&self, rt: &R, memory: &MachineMemory<S>, word: u32) -> Result<Ppn, Kept>
         requires { IsMemoryOf self.now.front.first.value memory.now }
     {
         let (mut locked, loan) = self.lock.take(rt);
@@ -123,7 +120,7 @@ impl Cell {
     }
 
     /// Scans a page of the guest, of this number, for one of equal bytes, as `MachineMemory::scan` does. The guest doesn't notice.
-    pub fn scan<S: SwapStore + Drop, R: Wait>(
+    pub fn scan<R: Wait>(
         &self,
         rt: &R,
         memory: &MachineMemory<S>,
@@ -138,7 +135,7 @@ impl Cell {
         scan
     }
 
-    /// How many pages the guest has, how many of them are in a frame, and how many its balloon holds.
+    /// How many pages the guest has, how many of them are in a frame, how many its balloon holds, and how many it is asked to hold.
     pub fn stat<R: Wait>(&self, rt: &R) -> PageStat
         ensures { result.resident ≤ result.pages }
     {
@@ -147,6 +144,7 @@ impl Cell {
             pages: locked.guest.page_count(),
             resident: locked.guest.resident(),
             given: locked.guest.view().devices.given(),
+            target: locked.guest.view().devices.target(),
         };
         self.lock.put_back(locked, loan);
         stat

@@ -4,7 +4,7 @@ ghost use Rattle.guest_log.specs.Logs.{IsFull};
 ghost use Rattle.loghead.specs.Legal.{Legal};
 ghost use Rattle.cell.specs.Level.{IsMemoryOf};
 ghost use Rattle.cell.specs.Slices.{Slice};
-ghost use Rattle.cell.specs.Sitting.{Sits, Narrows, IsOf, Lasts, IsFullOf};
+ghost use Rattle.cell.specs.Sitting.{Sits, Narrows, IsOf, Lasts, IsTrusted, IsFullOf};
 ghost use Rattle.seated.specs.Acts.{Sees};
 
 use crate::inside::see;
@@ -107,19 +107,19 @@ fn piece_in<S: SwapStore + Drop, R: Wait, G: Gate>(
     rt: &R,
     alloc: Global,
     memory: &MachineMemory<S>,
-    front: &Front,
+    front: &Front<S>,
     locked: &mut Locked,
     seat: &mut guest::Seat,
     most: u32,
     place: Place,
     gate: &G,
 ) -> Piece
-    requires sits { Sits front.now locked.old }
+    requires sits { Sits S.true_to_digests front.now locked.old }
     requires memory { IsMemoryOf front.now.first.value memory.now }
     requires head { seat.old.head ≡ front.now.head.value }
     requires legal { Legal seat.old.saw seat.old.number seat.old.saw seat.old.made }
     requires saw { seat.old.saw ≡ locked.old.guest.value.log.items }
-    ensures sits { Sits front.now locked.new }
+    ensures sits { Sits S.true_to_digests front.now locked.new }
     ensures slice { Slice seat.old result.steps seat.new }
     ensures saw { seat.new.saw ≡ locked.new.guest.value.log.items }
     ensures few { result.steps ≤ most }
@@ -168,13 +168,14 @@ fn idle(locked: &Locked, seat: &Seat) -> Option<End>
 }
 
 // The seat looks whether the guest's truth holds.
-#[tactic(auto, using(crate::proofs::Sitting::sits_still))]
-fn look_in(front: &Front, locked: &mut Locked, seat: &mut Seat)
-    requires sits { Sits front.now locked.old }
+#[tactic(auto, using(crate::proofs::Sitting::sits_still, crate::proofs::Sitting::looked_true))]
+fn look_in<S: SwapStore + Drop>(front: &Front<S>, locked: &mut Locked, seat: &mut Seat)
+    requires sits { Sits S.true_to_digests front.now locked.old }
     requires of { IsOf front.now seat.old }
-    ensures sits { Sits front.now locked.new }
+    ensures sits { Sits S.true_to_digests front.now locked.new }
     ensures of { IsOf front.now seat.new }
     ensures lasts { Lasts seat.old seat.new }
+    ensures lasts_with_store { IsTrusted S.true_to_digests front.now → seat.new.witness.held ≡ true }
     ensures seat { seat.new.seat ≡ seat.old.seat }
     ensures guest { locked.new.guest ≡ locked.old.guest }
 {
@@ -187,21 +188,22 @@ fn steps_of_piece<S: SwapStore + Drop, R: Wait, G: Gate>(
     rt: &R,
     alloc: Global,
     memory: &MachineMemory<S>,
-    front: &Front,
+    front: &Front<S>,
     locked: &mut Locked,
     seat: &mut Seat,
     most: u32,
     place: Place,
     gate: &G,
 ) -> Piece
-    requires sits { Sits front.now locked.old }
+    requires sits { Sits S.true_to_digests front.now locked.old }
     requires memory { IsMemoryOf front.now.first.value memory.now }
     requires of { IsOf front.now seat.old }
     requires legal { Legal seat.old.seat.saw seat.old.seat.number seat.old.seat.saw seat.old.seat.made }
     requires saw { seat.old.seat.saw ≡ locked.old.guest.value.log.items }
-    ensures sits { Sits front.now locked.new }
+    ensures sits { Sits S.true_to_digests front.now locked.new }
     ensures of { IsOf front.now seat.new }
     ensures lasts { Lasts seat.old seat.new }
+    ensures lasts_with_store { IsTrusted S.true_to_digests front.now → seat.new.witness.held ≡ true }
     ensures slice { Slice seat.old.seat result.steps seat.new.seat }
     ensures few { result.steps ≤ most }
     ensures full { result.end ≡ End.LogFull → IsFullOf front.now seat.new.seat.saw }
@@ -228,19 +230,20 @@ fn whole_piece<S: SwapStore + Drop, R: Wait, G: Gate>(
     rt: &R,
     alloc: Global,
     memory: &MachineMemory<S>,
-    front: &Front,
+    front: &Front<S>,
     locked: &mut Locked,
     seat: &mut Seat,
     most: u32,
     place: Place,
     gate: &G,
 ) -> Piece
-    requires sits { Sits front.now locked.old }
+    requires sits { Sits S.true_to_digests front.now locked.old }
     requires memory { IsMemoryOf front.now.first.value memory.now }
     requires of { IsOf front.now seat.old }
-    ensures sits { Sits front.now locked.new }
+    ensures sits { Sits S.true_to_digests front.now locked.new }
     ensures of { IsOf front.now seat.new }
     ensures lasts { Lasts seat.old seat.new }
+    ensures lasts_with_store { IsTrusted S.true_to_digests front.now → seat.new.witness.held ≡ true }
     ensures slice { Slice seat.old.seat result.steps seat.new.seat }
     ensures few { result.steps ≤ most }
     ensures full { result.end ≡ End.LogFull → IsFullOf front.now seat.new.seat.saw }
@@ -253,11 +256,11 @@ fn whole_piece<S: SwapStore + Drop, R: Wait, G: Gate>(
     steps_of_piece(rt, alloc, memory, front, locked, seat, most, place, gate)
 }
 
-impl Cell {
+impl<S: SwapStore + Drop> Cell<S> {
     ghost use Rattle.std.specs.Prelude.{◌≡◌, ◌≤◌};
     ghost use Rattle.cell.specs.Level.{IsMemoryOf};
     ghost use Rattle.cell.specs.Slices.{Slice};
-    ghost use Rattle.cell.specs.Sitting.{IsOf, Lasts, IsFullOf};
+    ghost use Rattle.cell.specs.Sitting.{IsOf, Lasts, IsTrusted, IsFullOf};
 
     /// At most `count` steps of the guest, and at most 1,024, under one take of its lock. The bytes that wait for its console come before
     /// each step, as far as the console has room for them. A page that a step needs is supplied from machine memory; where no frame is
@@ -265,7 +268,7 @@ impl Cell {
     ///
     /// A guest that is blocked makes no step, nor does one that is held, but for seat 3. A piece of seat 3 ends after a step that leaves
     /// PC at a breakpoint. The gate is asked before steps, with the guest's number and how many steps the slice had.
-    pub fn piece<S: SwapStore + Drop, R: Wait, G: Gate>(
+    pub fn piece<R: Wait, G: Gate>(
         &self,
         rt: &R,
         alloc: Global,
@@ -279,6 +282,7 @@ impl Cell {
         requires memory { IsMemoryOf self.now.front.first.value memory.now }
         ensures of { IsOf self.now.front seat.new }
         ensures lasts { Lasts seat.old seat.new }
+        ensures lasts_with_store { IsTrusted S.true_to_digests self.now.front → seat.new.witness.held ≡ true }
         ensures slice { Slice seat.old.seat result.steps seat.new.seat }
         ensures few { result.steps ≤ count }
         ensures short { result.steps ≤ 1024 }

@@ -19,18 +19,17 @@ use swapstore::SwapStore;
 use word32::Ppn;
 
 // The console's input, as `take_bytes` has it.
-#[tactic(auto, using(crate::proofs::Sitting::sits_on, crate::proofs::Level::level_at))]
-fn input_in<R: Wait>(
+fn input_in<S: SwapStore + Drop, R: Wait>(
     rt: &R,
-    front: &Front,
+    front: &Front<S>,
     locked: &mut Locked,
     seat: &mut Seat,
 ) -> Result<bool, Stop>
-    requires sits { Sits front.now locked.old }
+    requires sits { Sits S.true_to_digests front.now locked.old }
     requires head { seat.old.head ≡ front.now.head.value }
     requires legal { Legal seat.old.saw seat.old.number seat.old.saw seat.old.made }
     requires saw { seat.old.saw ≡ locked.old.guest.value.log.items }
-    ensures sits { Sits front.now locked.new }
+    ensures sits { Sits S.true_to_digests front.now locked.new }
     ensures slice { Slice seat.old 0 seat.new }
     ensures saw { seat.new.saw ≡ locked.new.guest.value.log.items }
     ensures keeper { locked.new.keeper ≡ locked.old.keeper }
@@ -44,15 +43,15 @@ fn input_in<R: Wait>(
 fn steps_in<S: SwapStore + Drop, R: Wait>(
     rt: &R,
     memory: &MachineMemory<S>,
-    front: &Front,
+    front: &Front<S>,
     locked: &mut Locked,
     seat: &mut Seat,
     count: u32,
 ) -> Result<Stepped, Stop>
-    requires sits { Sits front.now locked.old }
+    requires sits { Sits S.true_to_digests front.now locked.old }
     requires memory { IsMemoryOf front.now.first.value memory.now }
     requires head { seat.old.head ≡ front.now.head.value }
-    ensures sits { Sits front.now locked.new }
+    ensures sits { Sits S.true_to_digests front.now locked.new }
     ensures slice { IfOk result (λ s. Slice seat.old s.steps seat.new) }
     ensures refused { OnErr result (Slice seat.old 0 seat.new) }
     ensures saw { seat.new.saw ≡ locked.new.guest.value.log.items }
@@ -78,14 +77,14 @@ pub(crate) fn supply_in<S: SwapStore + Drop, R: Wait>(
     rt: &R,
     alloc: Global,
     memory: &MachineMemory<S>,
-    front: &Front,
+    front: &Front<S>,
     locked: &mut Locked,
     page: Ppn,
 ) -> Result<(), SupplyError>
-    requires sits { Sits front.now locked.old }
+    requires sits { Sits S.true_to_digests front.now locked.old }
     requires memory { IsMemoryOf front.now.first.value memory.now }
     requires there { page < length locked.old.guest.value.bus.pages }
-    ensures sits { Sits front.now locked.new }
+    ensures sits { Sits S.true_to_digests front.now locked.new }
     ensures items { locked.new.guest.value.log.items ≡ locked.old.guest.value.log.items }
     ensures count { length locked.new.guest.value.bus.pages ≡ length locked.old.guest.value.bus.pages }
     ensures narrows { Narrows locked.old locked.new }
@@ -117,18 +116,18 @@ pub(crate) fn turn<S: SwapStore + Drop, R: Wait>(
     rt: &R,
     alloc: Global,
     memory: &MachineMemory<S>,
-    front: &Front,
+    front: &Front<S>,
     locked: &mut Locked,
     seat: &mut Seat,
     count: u32,
 ) -> (u32, Option<End>)
-    requires sits { Sits front.now locked.old }
+    requires sits { Sits S.true_to_digests front.now locked.old }
     requires memory { IsMemoryOf front.now.first.value memory.now }
     requires head { seat.old.head ≡ front.now.head.value }
     requires legal { Legal seat.old.saw seat.old.number seat.old.saw seat.old.made }
     requires saw { seat.old.saw ≡ locked.old.guest.value.log.items }
     requires some { 0 < count }
-    ensures sits { Sits front.now locked.new }
+    ensures sits { Sits S.true_to_digests front.now locked.new }
     ensures slice { Slice seat.old result.0 seat.new }
     ensures saw { seat.new.saw ≡ locked.new.guest.value.log.items }
     ensures few { result.0 ≤ count }

@@ -1,12 +1,14 @@
 //! A turn of a slice: the console's input, and then steps, with the guest's lock held.
-ghost use Rattle.std.specs.Prelude.{◌≡◌, ◌<◌, ◌≤◌, ◌∷◌, ℕ, [], true, Option, Some, OnErr, IfOk, IsErrOf, length};
+ghost use Rattle.std.specs.Prelude.{◌≡◌, ◌<◌, ◌≤◌, ◌∷◌, ℕ, List, [], true, Option, Some, OnErr, IfOk, IsErrOf, length};
 ghost use Rattle.guest_log.specs.Logs.{IsFull};
 ghost use Rattle.guest_log.specs.declared.stop.Stop.{Stop};
 ghost use Rattle.loghead.specs.Legal.{Legal};
 ghost use Rattle.mips_step.specs.declared.access.Why.{Why};
 ghost use Rattle.physmap.specs.Outline.{outline};
 ghost use Rattle.guest.specs.declared.progress.Pause.{Pause};
-ghost use Rattle.guest.specs.Guests.{Intact, HasPaused};
+ghost use Rattle.paging.specs.Faith.{Kept};
+ghost use Rattle.guest.specs.Guests.{view_of, Intact, HasPaused};
+ghost use Rattle.guest.specs.Views.{pages_seen};
 ghost use Rattle.seated.specs.Acts.{Stays};
 ghost use Rattle.cell.specs.Inputs.{bytes_in};
 ghost use Rattle.cell.specs.Slices.{Slice};
@@ -52,6 +54,8 @@ fn take_byte<R: Wait>(
     ensures saw { seat.new.saw ≡ guest.new.log.items }
     ensures stays { Stays guest.old guest.new }
     ensures intact { Intact guest.old → Intact guest.new }
+    ensures kept { Intact guest.old → (held : ℕ → Option (List ℕ)) →
+        Kept held (pages_seen (view_of guest.old)) guest.old.bus.pages → Kept held (pages_seen (view_of guest.new)) guest.new.bus.pages }
     ensures pages { guest.new.bus.pages ≡ guest.old.bus.pages }
     ensures full { IsErrOf result Stop.LogFull → IsFull guest.new.log }
 {
@@ -91,6 +95,8 @@ pub(crate) fn take_bytes<R: Wait>(
     ensures saw { seat.new.saw ≡ guest.new.log.items }
     ensures stays { Stays guest.old guest.new }
     ensures intact { Intact guest.old → Intact guest.new }
+    ensures kept { Intact guest.old → (held : ℕ → Option (List ℕ)) →
+        Kept held (pages_seen (view_of guest.old)) guest.old.bus.pages → Kept held (pages_seen (view_of guest.new)) guest.new.bus.pages }
     ensures pages { guest.new.bus.pages ≡ guest.old.bus.pages }
     ensures full { IsErrOf result Stop.LogFull → IsFull guest.new.log }
 {
@@ -123,6 +129,8 @@ pub(crate) fn make_steps(
     ensures few { IfOk result (λ p. p.steps ≤ count) }
     ensures stays { Stays guest.old guest.new }
     ensures intact { Intact guest.old → Intact guest.new }
+    ensures kept { Intact guest.old → (held : ℕ → Option (List ℕ)) →
+        Kept held (pages_seen (view_of guest.old)) guest.old.bus.pages → Kept held (pages_seen (view_of guest.new)) guest.new.bus.pages }
     ensures there { IfOk result (λ p. (page : ℕ) (why : Why) → p.pause ≡ Some (Pause.Need page why) → page < length guest.old.bus.pages) }
     ensures paused { IfOk result (λ p. (given : Option ℕ) × HasPaused given guest.old.bus.pages p.pause guest.new.bus.pages) }
     ensures unmoved { OnErr result (guest.new.bus ≡ guest.old.bus) }

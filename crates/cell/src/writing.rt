@@ -6,7 +6,7 @@ ghost use Rattle.flatvm.specs.Items.{accepts, run};
 ghost use Rattle.guest_log.specs.declared.stop.Stop.{Stop};
 ghost use Rattle.seated.specs.Acts.{Sees};
 ghost use Rattle.cell.specs.Level.{IsMemoryOf};
-ghost use Rattle.cell.specs.Sitting.{IsOf, Lasts, Happens, Sits, Narrows, IsFullOf, front_boot};
+ghost use Rattle.cell.specs.Sitting.{IsOf, Lasts, IsTrusted, Happens, Sits, Narrows, IsFullOf, front_boot};
 
 use crate::inside::{act, see};
 use crate::turning::supply_in;
@@ -34,14 +34,14 @@ fn supply_written<S: SwapStore + Drop, R: Wait>(
     rt: &R,
     alloc: Global,
     memory: &MachineMemory<S>,
-    front: &Front,
+    front: &Front<S>,
     locked: &mut Locked,
     address: u32,
     count: usize,
 ) -> Result<(), SupplyError>
-    requires sits { Sits front.now locked.old }
+    requires sits { Sits S.true_to_digests front.now locked.old }
     requires memory { IsMemoryOf front.now.first.value memory.now }
-    ensures sits { Sits front.now locked.new }
+    ensures sits { Sits S.true_to_digests front.now locked.new }
 {
     if count == 0 || count > 1024 {
         return Ok(());
@@ -60,18 +60,19 @@ fn write_in<S: SwapStore + Drop, R: Wait>(
     rt: &R,
     alloc: Global,
     memory: &MachineMemory<S>,
-    front: &Front,
+    front: &Front<S>,
     locked: &mut Locked,
     seat: &mut Seat,
     address: u32,
     bytes: WriteBytes,
 ) -> Result<(), WriteError>
-    requires sits { Sits front.now locked.old }
+    requires sits { Sits S.true_to_digests front.now locked.old }
     requires memory { IsMemoryOf front.now.first.value memory.now }
     requires of { IsOf front.now seat.old }
-    ensures sits { Sits front.now locked.new }
+    ensures sits { Sits S.true_to_digests front.now locked.new }
     ensures of { IsOf front.now seat.new }
     ensures lasts { Lasts seat.old seat.new }
+    ensures lasts_with_store { IsTrusted S.true_to_digests front.now → seat.new.witness.held ≡ true }
     ensures ok { OnOk result (Happens front.now seat.old (record { seat = seat.old.seat.number; what = What.Write address bytes }) seat.new) }
     ensures err { OnErr result (Sees seat.old.seat seat.new.seat) }
     ensures machine { IsErrOf result (WriteError.Refused Refused.Machine) → seat.new.witness.held ≡ true →
@@ -95,19 +96,19 @@ fn write_in<S: SwapStore + Drop, R: Wait>(
     }
 }
 
-impl Cell {
+impl<S: SwapStore + Drop> Cell<S> {
     ghost use Rattle.std.specs.Prelude.{◌≡◌, true, false, OnOk, OnErr, IsErrOf};
     ghost use Rattle.items.specs.declared.item.What.{What};
     ghost use Rattle.flatvm.specs.Items.{accepts, run};
     ghost use Rattle.guest_log.specs.declared.stop.Stop.{Stop};
     ghost use Rattle.seated.specs.Acts.{Sees};
     ghost use Rattle.cell.specs.Level.{IsMemoryOf};
-    ghost use Rattle.cell.specs.Sitting.{IsOf, Lasts, Happens, IsFullOf, front_boot};
+    ghost use Rattle.cell.specs.Sitting.{IsOf, Lasts, IsTrusted, Happens, IsFullOf, front_boot};
 
     /// Writes bytes from a virtual address on, as an item of the seat: all of them, or none. The pages that they lie in get frames of their
     /// own first: `Lacks` where one gets none. Of the guest's refusals `Machine` where the machine refuses it: more than 1,024 bytes, or one
     /// with no place in memory; `Stop` as in `drain`. The seat has seen the log where it is refused, and has added nothing.
-    pub fn write<S: SwapStore + Drop, R: Wait>(
+    pub fn write<R: Wait>(
         &self,
         rt: &R,
         alloc: Global,
@@ -120,6 +121,7 @@ impl Cell {
         requires memory { IsMemoryOf self.now.front.first.value memory.now }
         ensures of { IsOf self.now.front seat.new }
         ensures lasts { Lasts seat.old seat.new }
+        ensures lasts_with_store { IsTrusted S.true_to_digests self.now.front → seat.new.witness.held ≡ true }
         ensures ok { OnOk result (Happens self.now.front seat.old (record { seat = seat.old.seat.number; what = What.Write address bytes }) seat.new) }
         ensures err { OnErr result (Sees seat.old.seat seat.new.seat) }
         ensures machine { IsErrOf result (WriteError.Refused Refused.Machine) → seat.new.witness.held ≡ true →

@@ -28,10 +28,10 @@ frames_stay ps ps' hand es es' stays same =
     subst (λ (x : List Page). KeepsFrames ps hand es x hand es') (sym stays)
     (subst (λ (x : EntriesAre). KeepsFrames ps hand es ps hand x) (sym same) (record { numbers = λ k. refl; out = refl }))
 
-abbrev pool_of : List ℕ → ℕ → FreeList
+abbrev pub pool_of : List ℕ → ℕ → FreeList
 pool_of free out = record { free = free; out = out }
 
-one_taken : (number : ℕ) → Takes (pool_of (number ∷ []) 0) number (pool_of [] 1)
+pub one_taken : (number : ℕ) → Takes (pool_of (number ∷ []) 0) number (pool_of [] 1)
 one_taken number = record { numbers = λ k. omega (arith, count_one k number); out = refl }
 
 -- the number in hand, which might have been taken from any pool, has moved

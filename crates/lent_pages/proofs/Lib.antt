@@ -1,2 +1,3 @@
-mod Slots
-mod Frames
+pub mod Slots
+pub mod Frames
+pub mod Holding

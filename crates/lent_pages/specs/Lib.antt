@@ -1,4 +1,5 @@
 pub mod Stores
+pub mod Contents
 pub mod Locked
 pub mod Supplies
 pub mod Evictions

@@ -13,6 +13,7 @@
 #![tactic(auto)]
 
 pub mod evicting;
+mod noting;
 pub mod returning;
 pub mod scanning;
 pub mod supplying;

@@ -1,9 +1,11 @@
 //! What a page that was given to the balloon handed back.
-ghost use Rattle.std.specs.Prelude.{◌≡◌, []};
+ghost use Rattle.std.specs.Prelude.{◌≡◌, ℕ, List, []};
 ghost use Rattle.std.specs.Option.{option_to_list};
 ghost use Rattle.physmap.specs.declared.page.Returned.TheVariants as returned;
 ghost use Rattle.sharetab.specs.Entries.{EntriesAre};
 ghost use Rattle.accounts.specs.OwnerShares.{guest_share};
+ghost use Rattle.paging.specs.Faith.{Kept};
+ghost use Rattle.lent_pages.specs.Contents.{IsWritten, IsWrittenBack, IsHolding, its_slots};
 ghost use Rattle.lent_pages.specs.Locked.{IsTable, IsSwap};
 ghost use Rattle.lent_pages.specs.Returns.{IsBehind, KeepsFramesBack};
 
@@ -11,6 +13,7 @@ use crate::{Swap, Table};
 use accounts::{BookShare, Books};
 use frames::{Frame, FrameNo, ShareTicket, SlotTicket};
 use paging::Pages;
+use slot_contents::{ContentShare, Contents};
 use std::snapshot::Snapshot;
 use swapstore::SwapStore;
 
@@ -39,6 +42,7 @@ pub fn frame_returned<P: Pages>(
     hand
 }
 
+/// The ticket of a page that was given to the balloon goes back to its entry; the frame is in hand where that was the last one. The
 /// table's lock is held.
 pub fn ticket_returned<P: Pages>(
     books: &Books,
@@ -62,7 +66,9 @@ pub fn ticket_returned<P: Pages>(
 /// The slot of a page that was given to the balloon is free. The swap book's lock is held.
 pub fn slot_returned<P: Pages, S: SwapStore + Drop>(
     books: &Books,
+    contents: &Contents,
     share: &mut BookShare,
+    written: &mut ContentShare,
     pages: &P,
     slot: SlotTicket,
     swap: &mut Swap<S>,
@@ -70,11 +76,25 @@ pub fn slot_returned<P: Pages, S: SwapStore + Drop>(
 )
     requires behind { IsBehind books.now.id share.old (returned.Slot slot) (P.pages pages.now) }
     requires swap { IsSwap S.honest S.true_to_digests S.slots books.now first.now.value swap.old.slots swap.old.store swap.old.share }
+    requires written { IsWrittenBack contents.now.id written.old (returned.Slot slot) (P.pages pages.now) }
+    requires holding { IsHolding S.held contents.now swap.old.slots swap.old.store swap.old.contents }
     ensures share { share.new ≡ guest_share books.now.id (P.pages pages.now) [] }
     ensures swap { IsSwap S.honest S.true_to_digests S.slots books.now first.now.value swap.new.slots swap.new.store swap.new.share }
+    ensures written { IsWritten contents.now.id written.new (P.pages pages.now) }
+    ensures holding { IsHolding S.held contents.now swap.new.slots swap.new.store swap.new.contents }
+    ensures kept { (view : ℕ → List ℕ) → Kept (its_slots written.old) view (P.pages pages.now) → Kept (its_slots written.new) view (P.pages pages.now) }
     ensures frames { (entries : EntriesAre) → KeepsFramesBack books.now.id share.old (returned.Slot slot) entries (P.pages pages.now) [] entries }
 {
     accounts::meet_slots(books, share, &mut swap.share, &swap.slots);
+    let number = slot.number();
     swap.slots.give(slot);
     accounts::settle_slots(books, share, &mut swap.share, pages, &None, &swap.slots);
+    slot_contents::freed(
+        contents,
+        written,
+        &mut swap.contents,
+        number,
+        &swap.store,
+        &swap.slots,
+    );
 }

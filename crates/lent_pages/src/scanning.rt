@@ -1,7 +1,8 @@
 //! Pages of equal bytes that come to share one frame.
-ghost use Rattle.std.specs.Prelude.{◌≡◌, ℕ, List, [], length};
+ghost use Rattle.std.specs.Prelude.{◌≡◌, ℕ, List, Option, [], length};
 ghost use Rattle.std.specs.Option.{option_to_list};
-ghost use Rattle.paging.specs.Faith.{Faithful};
+ghost use Rattle.physmap.specs.Holdings.{slots_held};
+ghost use Rattle.paging.specs.Faith.{Faithful, Kept};
 ghost use Rattle.accounts.specs.OwnerShares.{guest_share};
 ghost use Rattle.accounts.specs.Settling.{KeepsFrames};
 ghost use Rattle.lent_pages.specs.Locked.{IsTable};
@@ -28,6 +29,8 @@ pub fn scanned<P: Pages>(
     ensures share { share.new ≡ guest_share books.now.id (P.pages pages.new) (option_to_list result.1) }
     ensures table { IsTable books.now table.new.shares.entries table.new.share }
     ensures faithful { (view : ℕ → List ℕ) → Faithful view (P.pages pages.old) → Faithful view (P.pages pages.new) }
+    ensures slots { (k : ℕ) → slots_held k (P.pages pages.new) ≡ slots_held k (P.pages pages.old) }
+    ensures kept { (held : ℕ → Option (List ℕ)) (view : ℕ → List ℕ) → Kept held view (P.pages pages.old) → Kept held view (P.pages pages.new) }
     ensures rest { P.rest pages.new ≡ P.rest pages.old }
     ensures count { length (P.pages pages.new) ≡ length (P.pages pages.old) }
     ensures frames { KeepsFrames (P.pages pages.old) [] table.old.shares.entries (P.pages pages.new) (option_to_list result.1) table.new.shares.entries }

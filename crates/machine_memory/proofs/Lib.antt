@@ -1,6 +1,7 @@
 mod Passing
-mod Stakes
+pub mod Stakes
 mod Auditing
 mod Locks
 mod Supplying
 mod Frames
+mod Dealing

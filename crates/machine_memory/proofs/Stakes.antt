@@ -1,5 +1,5 @@
 -- Stakes that are dealt one after another.
-use Rattle.std.proofs.Common.{◌≡◌, ℕ, zero, suc, ◌+◌, ◌<◌, List, [], ◌∷◌, ◌++◌, length, map, take, drop, get_or, set, Option, Some, None, length-append, refl, sym, ap, ◌∙◌, subst, arith, append-nil}
+use Rattle.std.proofs.Common.{◌≡◌, ℕ, zero, suc, ◌+◌, ◌<◌, List, [], ◌∷◌, ◌++◌, length, map, take, drop, get_or, set, Option, Some, None, length-append, refl, sym, ap, ◌∙◌, subst, arith, append-nil, inl, inr}
 use Rattle.std.specs.List.{slice_get}
 use Rattle.std.proofs.Math.Numerals.{add-one}
 use Rattle.ledger.specs.Shares.{LedgerId, ShareIs}
@@ -11,6 +11,14 @@ use Rattle.physmap.specs.Pages.{page_at, handed_back}
 use Rattle.physmap.specs.Outline.{outline}
 use Rattle.accounts.specs.declared.account.Account.TheVariants.{Guest}
 use Rattle.accounts.specs.OwnerShares.{share_of, guest_share, on_its_way}
+use Rattle.std.proofs.lemmas.Bool.{cases_lt}
+use Rattle.std.proofs.lemmas.List.{set_past}
+use Rattle.physmap.specs.Holdings.{slot_in, slots_held}
+use Rattle.paging.specs.Returns.{slot_of}
+use Rattle.paging.proofs.Exchanging.{exchanged}
+use Rattle.paging.proofs.GoingBack.{hands_back}
+use Rattle.accounts.proofs.OnItsWay.{past_is_zero}
+use Rattle.accounts.proofs.Outlines.{same_slots}
 use Rattle.machine_memory.specs.declared.stake.Stake.{Stake}
 use Rattle.machine_memory.specs.Memories.{MemoryIs, HasInHand, IsLevel, AreLevel}
 use Rattle.machine_memory.specs.Returns.{Lags}
@@ -73,13 +81,28 @@ pub level_by_outline : {Store : Type 0} (m : MemoryIs Store) (stake : Stake) (ps
 level_by_outline m stake ps ps' hand same is = record {
   share = is.share ∙ ap (λ (o : List Page). share_of m.books.id (Guest (o ++ on_its_way hand))) (sym same);
   pass = is.pass;
+  contents = record { owner = is.contents.owner; slots = λ k. is.contents.slots k ∙ sym (same_slots ps ps' same k) };
 }
+
+-- the slot of a page that is given is handed back
+slots_back : (before new : List Page) (p : ℕ) (returned : Returned) → new ≡ set before p Given → returned ≡ handed_back (page_at before p) → (k : ℕ)
+    → slots_held k before ≡ slots_held k new + slot_of k returned
+slots_back before new p returned pages what k = elim (cases_lt p (length before)) [
+  | inl there ↦ omega (arith, ap (slot_of k) what, (hands_back (page_at before p)).slot k, exchanged (slot_in k) before new p Given there pages)
+  | inr past ↦
+      let same : new ≡ before = pages ∙ set_past before p Given past in
+      omega (arith, ap (slots_held k) same, ap (slot_of k) what, ap (λ (q : Page). slot_of k (handed_back q)) (past_is_zero before p past))
+]
 
 pub level_lags : {Store : Type 0} (m : MemoryIs Store) (stake : Stake) (old before new : List Page) (p : ℕ) (returned : Returned) → IsLevel m stake old
     → outline before ≡ outline old → new ≡ set before p Given → returned ≡ handed_back (page_at before p) → Lags m stake returned new
 level_lags m stake old before new p returned is same pages what =
     let level = level_by_outline m stake old before [] same is in
-    record { share = record { before = before; given = p; was = level.share; pages = pages; what = what }; pass = level.pass }
+    record {
+      share = record { before = before; given = p; was = level.share; pages = pages; what = what };
+      pass = level.pass;
+      contents = record { owner = level.contents.owner; slots = λ k. level.contents.slots k ∙ slots_back before new p returned pages what k };
+    }
 
 pub level_count : {Store : Type 0} (m : MemoryIs Store) (stakes : List Stake) (all : List (List Page)) → AreLevel m stakes all → length stakes ≡ length all
 level_count m [] [] are = refl

@@ -6,6 +6,7 @@ use Rattle.physmap.specs.Holdings.{private_pages, shared_pages, swapped_pages}
 use Rattle.ledger.specs.Shares.{LedgerId}
 use Rattle.accounts.specs.declared.account.Account.{Account}
 use Rattle.accounts.specs.declared.account.Account.TheVariants.{Guest}
+use Rattle.lent_pages.specs.Contents.{IsWritten}
 use Rattle.machine_memory.specs.Memories.{MemoryIs, IsPassOf}
 use Rattle.machine_memory.specs.declared.stake.Stake.{Stake}
 
@@ -47,7 +48,8 @@ pub record AreCounted (pages : List Page) (private shared swapped : ℕ) : Type 
   pub in_shared_frames : shared ≡ shared_pages pages
   pub in_slots : swapped ≡ swapped_pages pages
 
--- the account of a stake is gathered elsewhere
-pub record IsEmptied {Store : Type 0} (memory : MemoryIs Store) (stake : Stake) : Type 0 where
+-- the account of a stake, of a guest with these pages, is gathered elsewhere
+pub record IsEmptied {Store : Type 0} (memory : MemoryIs Store) (stake : Stake) (pages : List Page) : Type 0 where
   pub share : stake.share ≡ record { ledger = memory.books.id; parts = [] }
   pub pass : IsPassOf memory stake.pass
+  pub contents : IsWritten memory.contents.id stake.contents pages

@@ -3,3 +3,4 @@ pub mod Frames
 pub mod Returns
 pub mod Gathered
 pub mod Audits
+pub mod Dealt

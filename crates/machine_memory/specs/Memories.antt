@@ -5,12 +5,15 @@ use Rattle.ledger.specs.Shares.{LedgerIs}
 use Rattle.physmap.specs.declared.page.Page.{Page}
 use Rattle.accounts.specs.declared.account.Extent.{Extent}
 use Rattle.accounts.specs.OwnerShares.{guest_share}
+use Rattle.lent_pages.specs.Contents.{IsWritten}
 use Rattle.shared_pool.specs.Pools.{PoolIs, PassIs}
 use Rattle.machine_memory.specs.declared.stake.Stake.{Stake}
 
 pub record MemoryIs (Store : Type 0) : Type 0 where
   -- the books of all frames, slots and tickets
   pub books : LedgerIs Extent
+  -- what was written to the slots
+  pub contents : LedgerIs ℕ
   -- the pool of the free frames
   pub pool : PoolIs
   -- the swap store as it was when the memory was made
@@ -22,10 +25,12 @@ pub record IsPassOf {Store : Type 0} (memory : MemoryIs Store) (pass : PassIs) :
   pub ledger : pass.hand.of ≡ memory.books.id
   pub whole : pass.hand.whole ≡ range_with_len 0 memory.books.key.frames
 
--- A guest has these pages and these frames in hand: so its account in the memory's books says, and its pass is one of the memory's pool.
+-- A guest has these pages and these frames in hand: so its account in the memory's books says, its pass is one of the memory's pool, and
+-- it has what was written to the slots that its pages are in.
 pub record HasInHand {Store : Type 0} (memory : MemoryIs Store) (stake : Stake) (pages : List Page) (hand : List ℕ) : Type 0 where
   pub share : stake.share ≡ guest_share memory.books.id pages hand
   pub pass : IsPassOf memory stake.pass
+  pub contents : IsWritten memory.contents.id stake.contents pages
 
 -- A guest's stake says what its pages are: no frame is in hand.
 abbrev pub IsLevel : {Store : Type 0} → MemoryIs Store → Stake → List Page → Type 0

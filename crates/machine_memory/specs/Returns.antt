@@ -2,6 +2,7 @@
 use Rattle.std.specs.Prelude.{List}
 use Rattle.physmap.specs.declared.page.Page.{Page}
 use Rattle.physmap.specs.declared.page.Returned.{Returned}
+use Rattle.lent_pages.specs.Contents.{IsWrittenBack}
 use Rattle.lent_pages.specs.Returns.{IsBehind}
 use Rattle.machine_memory.specs.declared.stake.Stake.{Stake}
 use Rattle.machine_memory.specs.Memories.{MemoryIs, IsPassOf}
@@ -10,3 +11,4 @@ use Rattle.machine_memory.specs.Memories.{MemoryIs, IsPassOf}
 pub record Lags {Store : Type 0} (memory : MemoryIs Store) (stake : Stake) (returned : Returned) (new : List Page) : Type 0 where
   pub share : IsBehind memory.books.id stake.share returned new
   pub pass : IsPassOf memory stake.pass
+  pub contents : IsWrittenBack memory.contents.id stake.contents returned new

@@ -155,7 +155,8 @@ impl<S: SwapStore + Drop> MachineMemory<S> {
         requires level { IsLevel self.now stake.old (P.pages pages.now) }
         requires counts { AreCounted (P.pages pages.now) counts.private counts.shared counts.swapped }
         ensures gathered { gathered.new ≡ record gathered.old { pages = outline (P.pages pages.now) ∷ gathered.old.pages } }
-        ensures stake { IsEmptied self.now stake.new }
+        ensures stake { IsEmptied self.now stake.new (P.pages pages.now) }
+        ensures contents { stake.new.contents ≡ stake.old.contents }
     {
         let _guests = self.extent.guests;
         let _pages = pages.count();
@@ -176,10 +177,11 @@ impl<S: SwapStore + Drop> MachineMemory<S> {
     )
         requires ledger { gathered.old.ledger ≡ self.now.books.id }
         requires last { take 1 gathered.old.pages ≡ outline (P.pages pages.now) ∷ [] }
-        requires stake { IsEmptied self.now stake.old }
+        requires stake { IsEmptied self.now stake.old (P.pages pages.now) }
         requires counts { AreCounted (P.pages pages.now) counts.private counts.shared counts.swapped }
         ensures gathered { gathered.new ≡ record gathered.old { pages = drop 1 gathered.old.pages } }
         ensures stake { IsLevel self.now stake.new (P.pages pages.now) }
+        ensures contents { stake.new.contents ≡ stake.old.contents }
     {
         stake.share = self.books.part(&mut gathered.share);
         gathered.guests -= 1;

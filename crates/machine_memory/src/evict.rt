@@ -11,7 +11,8 @@ impl<S: SwapStore + Drop> MachineMemory<S> {
     ghost use Rattle.sha2.specs.Sha256.{sha256};
     ghost use Rattle.physmap.specs.declared.page.Page.TheVariants.{Swapped};
     ghost use Rattle.physmap.specs.Pages.{page_at, kind_at, is_resident, shown, slot_of};
-    ghost use Rattle.paging.specs.Faith.{Faithful};
+    ghost use Rattle.paging.specs.Faith.{Faithful, Kept};
+    ghost use Rattle.lent_pages.specs.Contents.{its_slots};
     ghost use Rattle.machine_memory.specs.Memories.{IsLevel};
     ghost use Rattle.machine_memory.specs.Frames.{KeepsEachFrame};
     ghost use Rattle.lent_pages.specs.Stores.{HasFailed};
@@ -33,6 +34,7 @@ impl<S: SwapStore + Drop> MachineMemory<S> {
         requires level { IsLevel self.now stake.old (P.pages pages.old) }
         ensures level { IsLevel self.now stake.new (P.pages pages.new) }
         ensures faithful { (view : ℕ → List ℕ) → Faithful view (P.pages pages.old) → Faithful view (P.pages pages.new) }
+        ensures kept { (view : ℕ → List ℕ) → Kept (its_slots stake.old.contents) view (P.pages pages.old) → Kept (its_slots stake.new.contents) view (P.pages pages.new) }
         ensures rest { P.rest pages.new ≡ P.rest pages.old }
         ensures frames { KeepsEachFrame (P.pages pages.old) stake.old.pass (P.pages pages.new) stake.new.pass }
         ensures page { OnOk result (P.pages pages.new ≡ slice_set (P.pages pages.old) p
@@ -46,7 +48,9 @@ impl<S: SwapStore + Drop> MachineMemory<S> {
         let (mut swap, swap_loan) = self.swap.take(rt);
         let (done, hand) = evicted(
             &self.books,
+            &self.contents,
             &mut stake.share,
+            &mut stake.contents,
             pages,
             p,
             &mut table,

@@ -23,6 +23,7 @@ impl<S: SwapStore + Drop> MachineMemory<S> {
         let counts = self.books(rt, &mut gathered);
         let MachineMemory {
             books: _,
+            contents: _,
             pool: _,
             table,
             swap,
@@ -39,6 +40,7 @@ impl<S: SwapStore + Drop> MachineMemory<S> {
             slots,
             store,
             share: _,
+            contents: _,
         } = swap;
         slots.close();
         (counts, store)

@@ -23,6 +23,7 @@ impl<S: SwapStore + Drop> MachineMemory<S> {
         ensures hand { HasInHand self.now stake.new (P.pages pages.now) (option_to_list result) }
         ensures taken { IfSome result (λ no. stake.new.pass.hand ≡ hand_taken stake.old.pass.hand no) }
         ensures unchanged { IfNone result (stake.new ≡ stake.old) }
+        ensures contents { stake.new.contents ≡ stake.old.contents }
         ensures none { IfNone result (Stands stake.old.pass.hand []) }
     {
         match self.pool.take_as(rt, &mut stake.pass) {
@@ -45,6 +46,7 @@ impl<S: SwapStore + Drop> MachineMemory<S> {
     )
         requires { HasInHand self.now stake.old (P.pages pages.now) (option_to_list hand) }
         ensures level { IsLevel self.now stake.new (P.pages pages.now) }
+        ensures contents { stake.new.contents ≡ stake.old.contents }
         ensures given { stake.new.pass.hand ≡ record stake.old.pass.hand { put = stake.old.pass.hand.put ++ option_to_list hand } }
     {
         match hand {

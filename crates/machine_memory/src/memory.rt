@@ -3,6 +3,7 @@ use accounts::{Books, Extent};
 use keyed_lock::KeyedLock;
 use lent_pages::{Swap, SwapKey, Table, TableKey};
 use shared_pool::SharedPool;
+use slot_contents::Contents;
 use std::marker::Model;
 use std::snapshot::Snapshot;
 use swapstore::SwapStore;
@@ -12,6 +13,7 @@ use swapstore::SwapStore;
 #[derive(Drop)]
 pub struct MachineMemory<S: SwapStore + Drop> {
     pub(crate) books: Books,
+    pub(crate) contents: Contents,
     pub(crate) pool: SharedPool,
     pub(crate) table: KeyedLock<Table, TableKey>,
     pub(crate) swap: KeyedLock<Swap<S>, SwapKey<S>>,
@@ -25,9 +27,9 @@ impl<S: SwapStore + Drop> Model for MachineMemory<S> {
 
     ghost Value = { MemoryIs S };
 
-    ghost view = { λ m. record { books = m.books; pool = m.pool; first = m.first.value } };
+    ghost view = { λ m. record { books = m.books; contents = m.contents; pool = m.pool; first = m.first.value } };
 
-    ghost invariant = { λ m. (m.table.key.books.value ≡ m.books) × (m.swap.key.books.value ≡ m.books) × (m.swap.key.first.value ≡ m.first.value) × (m.extent ≡ m.books.key) };
+    ghost invariant = { λ m. (m.table.key.books.value ≡ m.books) × (m.swap.key.books.value ≡ m.books) × (m.swap.key.contents.value ≡ m.contents) × (m.swap.key.first.value ≡ m.first.value) × (m.extent ≡ m.books.key) };
 }
 
 unsafe impl<S: SwapStore + Drop + Send> Sync for MachineMemory<S> {}

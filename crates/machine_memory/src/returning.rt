@@ -8,9 +8,11 @@ use std::sync::Wait;
 use swapstore::SwapStore;
 
 impl<S: SwapStore + Drop> MachineMemory<S> {
-    ghost use Rattle.std.specs.Prelude.{◌≡◌, []};
+    ghost use Rattle.std.specs.Prelude.{◌≡◌, ℕ, List, []};
     ghost use Rattle.std.specs.Option.{option_to_list};
     ghost use Rattle.physmap.specs.declared.page.Returned.{Returned};
+    ghost use Rattle.paging.specs.Faith.{Kept};
+    ghost use Rattle.lent_pages.specs.Contents.{its_slots};
     ghost use Rattle.machine_memory.specs.Memories.{HasInHand, IsLevel};
     ghost use Rattle.machine_memory.specs.Returns.{Lags};
     ghost use Rattle.machine_memory.specs.Frames.{HaveComeBack, KeepsEachFrameBack};
@@ -26,6 +28,7 @@ impl<S: SwapStore + Drop> MachineMemory<S> {
         requires { Lags self.now stake.old (Returned.Ticket ticket) (P.pages pages.now) }
         ensures hand { HasInHand self.now stake.new (P.pages pages.now) (option_to_list result) }
         ensures pass { stake.new.pass ≡ stake.old.pass }
+        ensures contents { stake.new.contents ≡ stake.old.contents }
         ensures frames { HaveComeBack self.now.books.id stake.old.share (Returned.Ticket ticket) (P.pages pages.now) (option_to_list result) }
     {
         let (mut table, loan) = self.table.take(rt);
@@ -39,12 +42,15 @@ impl<S: SwapStore + Drop> MachineMemory<S> {
         requires { Lags self.now stake.old (Returned.Slot slot) (P.pages pages.now) }
         ensures level { IsLevel self.now stake.new (P.pages pages.now) }
         ensures pass { stake.new.pass ≡ stake.old.pass }
+        ensures kept { (view : ℕ → List ℕ) → Kept (its_slots stake.old.contents) view (P.pages pages.now) → Kept (its_slots stake.new.contents) view (P.pages pages.now) }
         ensures frames { HaveComeBack self.now.books.id stake.old.share (Returned.Slot slot) (P.pages pages.now) [] }
     {
         let (mut swap, loan) = self.swap.take(rt);
         slot_returned(
             &self.books,
+            &self.contents,
             &mut stake.share,
+            &mut stake.contents,
             pages,
             slot,
             &mut swap,
@@ -64,6 +70,7 @@ impl<S: SwapStore + Drop> MachineMemory<S> {
         requires { Lags self.now stake.old returned (P.pages pages.now) }
         ensures hand { HasInHand self.now stake.new (P.pages pages.now) (option_to_list result) }
         ensures pass { stake.new.pass ≡ stake.old.pass }
+        ensures kept { (view : ℕ → List ℕ) → Kept (its_slots stake.old.contents) view (P.pages pages.now) → Kept (its_slots stake.new.contents) view (P.pages pages.now) }
         ensures frames { HaveComeBack self.now.books.id stake.old.share returned (P.pages pages.now) (option_to_list result) }
     {
         match returned {
@@ -92,6 +99,7 @@ impl<S: SwapStore + Drop> MachineMemory<S> {
     )
         requires { Lags self.now stake.old returned (P.pages pages.now) }
         ensures level { IsLevel self.now stake.new (P.pages pages.now) }
+        ensures kept { (view : ℕ → List ℕ) → Kept (its_slots stake.old.contents) view (P.pages pages.now) → Kept (its_slots stake.new.contents) view (P.pages pages.now) }
         ensures frames { KeepsEachFrameBack self.now.books.id stake.old.share returned stake.old.pass (P.pages pages.now) stake.new.pass }
     {
         let hand = self.back(rt, stake, pages, returned);

@@ -9,7 +9,8 @@ use word32::Ppn;
 
 impl<S: SwapStore + Drop> MachineMemory<S> {
     ghost use Rattle.std.specs.Prelude.{◌≡◌, ℕ, List, length};
-    ghost use Rattle.paging.specs.Faith.{Faithful};
+    ghost use Rattle.paging.specs.Faith.{Faithful, Kept};
+    ghost use Rattle.lent_pages.specs.Contents.{its_slots};
     ghost use Rattle.machine_memory.specs.Memories.{IsLevel};
     ghost use Rattle.machine_memory.specs.Frames.{KeepsEachFrame};
     ghost use Rattle.lent_pages.specs.Scans.{WasScanned};
@@ -27,6 +28,7 @@ impl<S: SwapStore + Drop> MachineMemory<S> {
         requires { IsLevel self.now stake.old (P.pages pages.old) }
         ensures level { IsLevel self.now stake.new (P.pages pages.new) }
         ensures faithful { (view : ℕ → List ℕ) → Faithful view (P.pages pages.old) → Faithful view (P.pages pages.new) }
+        ensures kept { (view : ℕ → List ℕ) → Kept (its_slots stake.old.contents) view (P.pages pages.old) → Kept (its_slots stake.new.contents) view (P.pages pages.new) }
         ensures rest { P.rest pages.new ≡ P.rest pages.old }
         ensures frames { KeepsEachFrame (P.pages pages.old) stake.old.pass (P.pages pages.new) stake.new.pass }
         ensures count { length (P.pages pages.new) ≡ length (P.pages pages.old) }

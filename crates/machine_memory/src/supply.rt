@@ -14,7 +14,8 @@ impl<S: SwapStore + Drop> MachineMemory<S> {
     ghost use Rattle.word32.specs.Zeros.{zeros};
     ghost use Rattle.physmap.specs.declared.page.PageKind.{PageKind};
     ghost use Rattle.physmap.specs.Pages.{page_at, kind_at, shown, slot_of, digest_of};
-    ghost use Rattle.paging.specs.Faith.{Faithful};
+    ghost use Rattle.paging.specs.Faith.{Faithful, Kept};
+    ghost use Rattle.lent_pages.specs.Contents.{its_slots};
     ghost use Rattle.paging.specs.Supplies.{Supplies};
     ghost use Rattle.shared_pool.specs.Balance.{Stands};
     ghost use Rattle.machine_memory.specs.Memories.{IsLevel};
@@ -36,6 +37,7 @@ impl<S: SwapStore + Drop> MachineMemory<S> {
         requires level { IsLevel self.now stake.old (P.pages pages.old) }
         ensures level { IsLevel self.now stake.new (P.pages pages.new) }
         ensures faithful { (view : ℕ → List ℕ) → Faithful view (P.pages pages.old) → Faithful view (P.pages pages.new) }
+        ensures kept { (view : ℕ → List ℕ) → Kept (its_slots stake.old.contents) view (P.pages pages.old) → Kept (its_slots stake.new.contents) view (P.pages pages.new) }
         ensures rest { P.rest pages.new ≡ P.rest pages.old }
         ensures frames { KeepsEachFrame (P.pages pages.old) stake.old.pass (P.pages pages.new) stake.new.pass }
         ensures supplied { OnOk result (Supplies (P.pages pages.old) p (zeros 4096) (P.pages pages.new)) }
@@ -64,6 +66,7 @@ impl<S: SwapStore + Drop> MachineMemory<S> {
         requires level { IsLevel self.now stake.old (P.pages pages.old) }
         ensures level { IsLevel self.now stake.new (P.pages pages.new) }
         ensures faithful { (view : ℕ → List ℕ) → Faithful view (P.pages pages.old) → Faithful view (P.pages pages.new) }
+        ensures kept { (view : ℕ → List ℕ) → Kept (its_slots stake.old.contents) view (P.pages pages.old) → Kept (its_slots stake.new.contents) view (P.pages pages.new) }
         ensures rest { P.rest pages.new ≡ P.rest pages.old }
         ensures frames { KeepsEachFrame (P.pages pages.old) stake.old.pass (P.pages pages.new) stake.new.pass }
         ensures supplied { OnOk result (Supplies (P.pages pages.old) p (shown (page_at (P.pages pages.old) p)) (P.pages pages.new)) }
@@ -104,6 +107,8 @@ impl<S: SwapStore + Drop> MachineMemory<S> {
         ensures slot { slot_of (page_at (P.pages pages.old) p) < self.now.books.key.slots }
         ensures faithful { (view : ℕ → List ℕ) → Faithful view (P.pages pages.old) →
             OnOk result (shown (page_at (P.pages pages.new) p) ≡ view p) → Faithful view (P.pages pages.new) }
+        ensures kept { S.true_to_digests self.now.first → (view : ℕ → List ℕ) →
+            Kept (its_slots stake.old.contents) view (P.pages pages.old) → Kept (its_slots stake.new.contents) view (P.pages pages.new) }
         ensures rest { P.rest pages.new ≡ P.rest pages.old }
         ensures frames { KeepsEachFrame (P.pages pages.old) stake.old.pass (P.pages pages.new) stake.new.pass }
         ensures supplied { OnOk result (Supplies (P.pages pages.old) p (shown (page_at (P.pages pages.new) p)) (P.pages pages.new)) }
@@ -121,7 +126,9 @@ impl<S: SwapStore + Drop> MachineMemory<S> {
         let (done, hand) = swapped_supplied(
             alloc,
             &self.books,
+            &self.contents,
             &mut stake.share,
+            &mut stake.contents,
             pages,
             p,
             no,
@@ -140,6 +147,9 @@ impl<S: SwapStore + Drop> MachineMemory<S> {
     /// `NoFrame` only where no frame was free at a moment of the call; `Memory` where a request for memory was refused; of a swapped
     /// page `SwapRead` where the store failed to read the slot, `SwapDamaged` where what was read has another SHA-256 than the page had.
     /// No page has changed then, and the frame is free again.
+    ///
+    /// Where the store was true to digests at first, a page comes back as it was written: pages that are kept by what was written to their
+    /// slots are so still (`kept`).
     pub fn supply<P: Pages, R: Wait>(
         &self,
         rt: &R,
@@ -160,6 +170,8 @@ impl<S: SwapStore + Drop> MachineMemory<S> {
         ensures private { OnOk result (kind_at (P.pages pages.new) p ≡ PageKind.Private) }
         ensures others { (other : ℕ) → (other ≡ p → ⊥) → page_at (P.pages pages.new) other ≡ page_at (P.pages pages.old) other }
         ensures count { length (P.pages pages.new) ≡ length (P.pages pages.old) }
+        ensures kept { S.true_to_digests self.now.first → (view : ℕ → List ℕ) →
+            Kept (its_slots stake.old.contents) view (P.pages pages.old) → Kept (its_slots stake.new.contents) view (P.pages pages.new) }
         ensures rest { P.rest pages.new ≡ P.rest pages.old }
         ensures frames { KeepsEachFrame (P.pages pages.old) stake.old.pass (P.pages pages.new) stake.new.pass }
         ensures err { IfErr result (WhyLeft (Stands stake.old.pass.hand [])

@@ -5,7 +5,7 @@ use Rattle.cell.proofs.piece.piece_in.Given as goal
 
 abbrev pub invariant-loop : goal.invariant-loop
 invariant-loop g l = record {
-  sits : Sits l.front l.locked;
+  sits : Sits g.S.SwapStore.true_to_digests l.front l.locked;
   slice : Slice l.fn.seat l.steps l.seat;
   saw : l.seat.saw ≡ l.locked.guest.value.log.items;
   few : l.steps ≤ l.most;

@@ -3,6 +3,7 @@ use Rattle.frames.specs.Counts.{one_at, count_of}
 use Rattle.accounts.proofs.Settled.{evict_moved, stays_moved, taken_was_free}
 use Rattle.lent_pages.proofs.Slots.{slot_gone_inside}
 use Rattle.lent_pages.proofs.Frames.{frames_from_none}
+use Rattle.lent_pages.proofs.Holding.{kept_more, noted_by}
 use Rattle.lent_pages.proofs.evicting.evicted.Goals as goal
 
 pub evict_in-requires-clause-slot : goal.evict_in-requires-clause-slot
@@ -40,3 +41,11 @@ returns-in_default-clause-err g c =
 
 pub returns-in-Ok-clause-frames : goal.returns-in-Ok-clause-frames
 returns-in-Ok-clause-frames g c = frames_from_none _ _ _ _ _ c.in-Ok.ensures.frames
+
+pub returns-in-Ok-clause-kept : goal.returns-in-Ok-clause-kept
+returns-in-Ok-clause-kept g c view =
+    let ps = g.P.Pages.pages c.args.pages.now in
+    let free = taken_was_free c.args.swap.now.slots.free c.take.new.self.free c.in-Some.slot c.in-Some.ensures.taken in
+    kept_more c.args.contents.now.id c.args.written.now c.note_written.new.written view ps (g.P.Pages.pages c.evict_in.new.pages) c.args.p c.in-Some.slot c.requires.there c.requires.resident c.in-Ok.ensures.page
+    (noted_by c.args.contents.now.id c.note_written.new.written _ ps (g.P.Pages.pages c.of-before.result.value) c.args.p c.in-Some.slot c.number-number.result (ap g.P.Pages.pages c.of-before.ensures) c.number-number.ensures c.note_written.ensures.written)
+    (c.meet_both.ensures.free_apart ps [] c.requires.share c.in-Some.slot free)

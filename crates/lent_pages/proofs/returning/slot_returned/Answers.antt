@@ -1,6 +1,7 @@
 use Rattle.std.proofs.Common.{[], refl, sym, ◌∙◌}
 use Rattle.accounts.proofs.Settled.{given_slot_moved}
 use Rattle.lent_pages.proofs.Frames.{slot_came}
+use Rattle.lent_pages.proofs.Holding.{kept_back}
 use Rattle.lent_pages.proofs.returning.slot_returned.Goals as goal
 
 pub give-requires : goal.give-requires
@@ -18,3 +19,6 @@ settle_slots-requires g c =
 
 pub returns-clause-frames : goal.returns-clause-frames
 returns-clause-frames g c es before given was is what = slot_came before _ given c.args.slot es is what
+
+pub returns-clause-kept : goal.returns-clause-kept
+returns-clause-kept g c view = kept_back c.args.contents.now.id c.args.written.now c.freed.new.owner view (g.P.Pages.pages c.args.pages.now) _ c.freed.ensures.owner

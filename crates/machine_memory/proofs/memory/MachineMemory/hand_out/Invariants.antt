@@ -1,6 +1,7 @@
 use Rattle.std.proofs.Common.{◌≡◌, ◌+◌, ◌<◌, ◌++◌, length, map, take, drop, vec_len, vec_capacity}
 use Rattle.physmap.specs.Outline.{outline}
 use Rattle.accounts.specs.declared.account.Account.TheVariants.{Guest, Frame}
+use Rattle.machine_memory.specs.Dealt.{guest_part, Each, IsFound}
 use Rattle.machine_memory.specs.Memories.{IsPassOf, AreLevel}
 use Rattle.machine_memory.proofs.memory.MachineMemory.hand_out.Given as goal
 
@@ -12,6 +13,8 @@ invariant-loop-guest g l = record {
     ledger = l.self.books.id;
     parts = drop l._guest-index (map (λ x. Guest (outline (g.P.Pages.pages x))) l.guests ++ map Frame l.free.free);
   };
+  written : l.written ≡ record { ledger = l.self.contents.id; parts = drop l._guest-index (map (λ x. guest_part (g.S.SwapStore.held l.self.first) (g.P.Pages.pages x)) l.guests) };
+  contents : Each (IsFound (g.S.SwapStore.held l.self.first)) l.stakes.items (take l._guest-index (map g.P.Pages.pages l.guests));
   pass : IsPassOf l.self l.pass;
   put : l.pass.hand.put ≡ l.fn.pass.hand.put;
   parts : length l.guests < l.pass.hand.parts + l._guest-index;

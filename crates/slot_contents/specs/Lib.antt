@@ -1,0 +1,4 @@
+pub mod Held
+pub mod Contents
+pub mod Shares
+pub mod Laws
