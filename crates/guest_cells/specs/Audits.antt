@@ -1,0 +1,8 @@
+-- Accounts that are gathered of guests whose locks are held.
+use Rattle.std.specs.Prelude.{◌≡◌, List, map}
+use Rattle.physmap.specs.declared.page.Page.{Page}
+use Rattle.physmap.specs.Outline.{outline}
+
+-- these are outlines of pages
+abbrev pub AreOutlines : List (List Page) → Type 0
+AreOutlines gathered = (all : List (List Page)) × (gathered ≡ map outline all)

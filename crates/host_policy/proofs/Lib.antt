@@ -1,0 +1,4 @@
+pub mod Places
+pub mod Found
+pub mod Planned
+pub mod Turned

@@ -1,0 +1,5 @@
+pub mod Samples
+pub mod Numbers
+pub mod Policies
+pub mod Evictions
+pub mod Turns
