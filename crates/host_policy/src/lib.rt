@@ -16,9 +16,13 @@ pub mod evicting;
 pub mod made;
 mod numbers;
 pub mod policy;
+#[cfg(test)]
+mod policy_tests;
 mod samples;
 mod state;
 mod swapping;
+#[cfg(test)]
+mod tests;
 pub mod turning;
 
 pub use aiming::Aim;

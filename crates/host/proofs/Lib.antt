@@ -1,0 +1,6 @@
+pub mod Admitted
+pub mod Ending
+pub mod Fronts
+pub mod Guests
+pub mod Rooms
+pub mod Seeing
