@@ -13,9 +13,10 @@ ghost use Rattle.lent_pages.specs.Stores.{HasFailed};
 ghost use Rattle.lent_pages.specs.Evictions.{NoSlotWasFree, WhyStays};
 
 use crate::noting::{note_failed, note_written};
-use crate::{Swap, Table};
+use crate::{Swap, SwapKey, Table};
 use accounts::{BookShare, Books};
 use frames::FrameNo;
+use keyed_lock::KeyedLock;
 use paging::{Pages, evict_in};
 use slot_contents::{ContentShare, Contents};
 use std::snapshot::Snapshot;
@@ -32,7 +33,8 @@ pub enum EvictError {
 }
 
 /// A page that is in a frame is written to a slot and leaves it, and the slot is known to hold its bytes. The frame is in hand, but where
-/// other pages read it too. The locks of the table and of the swap book are held.
+/// other pages read it too. The locks of the table and of the swap book are held;
+/// the latter, from which the book was taken, says which store it was at first.
 pub fn evicted<P: Pages, S: SwapStore + Drop>(
     books: &Books,
     contents: &Contents,
@@ -42,18 +44,18 @@ pub fn evicted<P: Pages, S: SwapStore + Drop>(
     p: Ppn,
     table: &mut Table,
     swap: &mut Swap<S>,
-    first: &Snapshot<S>,
+    swap_lock: &KeyedLock<Swap<S>, SwapKey<S>>,
 ) -> (Result<(), EvictError>, Option<FrameNo>)
     requires there { p < length (P.pages pages.old) }
     requires resident { IsTrue (is_resident (kind_at (P.pages pages.old) p)) }
     requires share { share.old ≡ guest_share books.now.id (P.pages pages.old) [] }
     requires table { IsTable books.now table.old.shares.entries table.old.share }
-    requires swap { IsSwap S.honest S.true_to_digests S.slots books.now first.now.value swap.old.slots swap.old.store swap.old.share }
+    requires swap { IsSwap S.honest S.true_to_digests S.slots books.now swap_lock.now.key.first.value swap.old.slots swap.old.store swap.old.share }
     requires written { IsWritten contents.now.id written.old (P.pages pages.old) }
     requires holding { IsHolding S.held contents.now swap.old.slots swap.old.store swap.old.contents }
     ensures share { share.new ≡ guest_share books.now.id (P.pages pages.new) (option_to_list result.1) }
     ensures table { IsTable books.now table.new.shares.entries table.new.share }
-    ensures swap { IsSwap S.honest S.true_to_digests S.slots books.now first.now.value swap.new.slots swap.new.store swap.new.share }
+    ensures swap { IsSwap S.honest S.true_to_digests S.slots books.now swap_lock.now.key.first.value swap.new.slots swap.new.store swap.new.share }
     ensures written { IsWritten contents.now.id written.new (P.pages pages.new) }
     ensures holding { IsHolding S.held contents.now swap.new.slots swap.new.store swap.new.contents }
     ensures kept { (view : ℕ → List ℕ) → Kept (its_slots written.old) view (P.pages pages.old) → Kept (its_slots written.new) view (P.pages pages.new) }
@@ -64,7 +66,7 @@ pub fn evicted<P: Pages, S: SwapStore + Drop>(
         (Swapped (slot_of (page_at (P.pages pages.new) p)) (sha256 (shown (page_at (P.pages pages.old) p))))) }
     ensures slot { OnOk result.0 (slot_of (page_at (P.pages pages.new) p) < books.now.key.slots) }
     ensures err { IfErr result.0 (WhyStays (NoSlotWasFree books.now.key (P.pages pages.old))
-        (HasFailed S.honest S.true_to_digests S.failed first.now.value)) }
+        (HasFailed S.honest S.true_to_digests S.failed swap_lock.now.key.first.value)) }
     ensures unchanged { OnErr result.0 (P.pages pages.new ≡ P.pages pages.old) }
 {
     accounts::meet_both(

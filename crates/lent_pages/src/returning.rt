@@ -9,12 +9,12 @@ ghost use Rattle.lent_pages.specs.Contents.{IsWritten, IsWrittenBack, IsHolding,
 ghost use Rattle.lent_pages.specs.Locked.{IsTable, IsSwap};
 ghost use Rattle.lent_pages.specs.Returns.{IsBehind, KeepsFramesBack};
 
-use crate::{Swap, Table};
+use crate::{Swap, SwapKey, Table};
 use accounts::{BookShare, Books};
 use frames::{Frame, FrameNo, ShareTicket, SlotTicket};
+use keyed_lock::KeyedLock;
 use paging::Pages;
 use slot_contents::{ContentShare, Contents};
-use std::snapshot::Snapshot;
 use swapstore::SwapStore;
 
 /// A page was given to the balloon that was in no frame and no slot.
@@ -72,14 +72,14 @@ pub fn slot_returned<P: Pages, S: SwapStore + Drop>(
     pages: &P,
     slot: SlotTicket,
     swap: &mut Swap<S>,
-    first: &Snapshot<S>,
+    swap_lock: &KeyedLock<Swap<S>, SwapKey<S>>,
 )
     requires behind { IsBehind books.now.id share.old (returned.Slot slot) (P.pages pages.now) }
-    requires swap { IsSwap S.honest S.true_to_digests S.slots books.now first.now.value swap.old.slots swap.old.store swap.old.share }
+    requires swap { IsSwap S.honest S.true_to_digests S.slots books.now swap_lock.now.key.first.value swap.old.slots swap.old.store swap.old.share }
     requires written { IsWrittenBack contents.now.id written.old (returned.Slot slot) (P.pages pages.now) }
     requires holding { IsHolding S.held contents.now swap.old.slots swap.old.store swap.old.contents }
     ensures share { share.new ≡ guest_share books.now.id (P.pages pages.now) [] }
-    ensures swap { IsSwap S.honest S.true_to_digests S.slots books.now first.now.value swap.new.slots swap.new.store swap.new.share }
+    ensures swap { IsSwap S.honest S.true_to_digests S.slots books.now swap_lock.now.key.first.value swap.new.slots swap.new.store swap.new.share }
     ensures written { IsWritten contents.now.id written.new (P.pages pages.now) }
     ensures holding { IsHolding S.held contents.now swap.new.slots swap.new.store swap.new.contents }
     ensures kept { (view : ℕ → List ℕ) → Kept (its_slots written.old) view (P.pages pages.now) → Kept (its_slots written.new) view (P.pages pages.now) }

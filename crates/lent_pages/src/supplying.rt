@@ -17,9 +17,10 @@ ghost use Rattle.lent_pages.specs.Locked.{IsTable, IsSwap};
 ghost use Rattle.lent_pages.specs.Stores.{HasFailed, HasDamaged};
 ghost use Rattle.lent_pages.specs.Supplies.{WhyLeft};
 
-use crate::{Swap, Table};
+use crate::{Swap, SwapKey, Table};
 use accounts::{BookShare, Books};
 use frames::FrameNo;
+use keyed_lock::KeyedLock;
 use paging::{Pages, SupplyError, supply_copy, supply_first, supply_swapped};
 use slot_contents::{ContentShare, Contents};
 use std::alloc::Global;
@@ -112,19 +113,19 @@ pub fn swapped_supplied<P: Pages, S: SwapStore + Drop>(
     p: Ppn,
     no: FrameNo,
     swap: &mut Swap<S>,
-    first: &Snapshot<S>,
+    swap_lock: &KeyedLock<Swap<S>, SwapKey<S>>,
 ) -> (Result<(), SupplyError>, Option<FrameNo>)
     requires there { p < length (P.pages pages.old) }
     requires kind { kind_at (P.pages pages.old) p ≡ PageKind.Swapped }
     requires share { share.old ≡ guest_share books.now.id (P.pages pages.old) (no ∷ []) }
-    requires swap { IsSwap S.honest S.true_to_digests S.slots books.now first.now.value swap.old.slots swap.old.store swap.old.share }
+    requires swap { IsSwap S.honest S.true_to_digests S.slots books.now swap_lock.now.key.first.value swap.old.slots swap.old.store swap.old.share }
     requires written { IsWritten contents.now.id written.old (P.pages pages.old) }
     requires holding { IsHolding S.held contents.now swap.old.slots swap.old.store swap.old.contents }
     ensures share { share.new ≡ guest_share books.now.id (P.pages pages.new) (option_to_list result.1) }
-    ensures swap { IsSwap S.honest S.true_to_digests S.slots books.now first.now.value swap.new.slots swap.new.store swap.new.share }
+    ensures swap { IsSwap S.honest S.true_to_digests S.slots books.now swap_lock.now.key.first.value swap.new.slots swap.new.store swap.new.share }
     ensures written { IsWritten contents.now.id written.new (P.pages pages.new) }
     ensures holding { IsHolding S.held contents.now swap.new.slots swap.new.store swap.new.contents }
-    ensures kept { S.true_to_digests first.now.value → (view : ℕ → List ℕ) →
+    ensures kept { S.true_to_digests swap_lock.now.key.first.value → (view : ℕ → List ℕ) →
         Kept (its_slots written.old) view (P.pages pages.old) → Kept (its_slots written.new) view (P.pages pages.new) }
     ensures faithful { (view : ℕ → List ℕ) → Faithful view (P.pages pages.old) →
         OnOk result.0 (shown (page_at (P.pages pages.new) p) ≡ view p) → Faithful view (P.pages pages.new) }
@@ -133,8 +134,8 @@ pub fn swapped_supplied<P: Pages, S: SwapStore + Drop>(
     ensures supplied { OnOk result.0 (Supplies (P.pages pages.old) p (shown (page_at (P.pages pages.new) p)) (P.pages pages.new)) }
     ensures digest { OnOk result.0 (sha256 (shown (page_at (P.pages pages.new) p)) ≡ digest_of (page_at (P.pages pages.old) p)) }
     ensures err { IfErr result.0 (WhyLeft ⊥
-        (HasFailed S.honest S.true_to_digests S.failed first.now.value)
-        (HasDamaged S.honest S.true_to_digests S.gives S.held first.now.value (page_at (P.pages pages.old) p))) }
+        (HasFailed S.honest S.true_to_digests S.failed swap_lock.now.key.first.value)
+        (HasDamaged S.honest S.true_to_digests S.gives S.held swap_lock.now.key.first.value (page_at (P.pages pages.old) p))) }
     ensures unchanged { OnErr result.0 (P.pages pages.new ≡ P.pages pages.old) }
 {
     accounts::meet_slots(books, share, &mut swap.share, &swap.slots);

@@ -215,7 +215,6 @@ fn lock_up<S: SwapStore + Drop, R: Wait>(
         contents: Snapshot::of(&contents),
         first: Snapshot::of(&store),
     };
-    let first = Snapshot::of(&store);
     let table = Table {
         shares,
         share: table_account,
@@ -243,7 +242,6 @@ fn lock_up<S: SwapStore + Drop, R: Wait>(
             pool,
             table,
             swap,
-            first,
             extent,
         }),
         Err(swap) => {

@@ -55,7 +55,7 @@ impl<S: SwapStore + Drop> MachineMemory<S> {
             p,
             &mut table,
             &mut swap,
-            &self.first,
+            &self.swap,
         );
         self.swap.put_back(swap, swap_loan);
         self.table.put_back(table, table_loan);

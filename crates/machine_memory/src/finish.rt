@@ -27,7 +27,6 @@ impl<S: SwapStore + Drop> MachineMemory<S> {
             pool: _,
             table,
             swap,
-            first: _,
             extent: _,
         } = self;
         let (table, table_loan) = table.take(rt);

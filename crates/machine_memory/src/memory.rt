@@ -5,7 +5,6 @@ use lent_pages::{Swap, SwapKey, Table, TableKey};
 use shared_pool::SharedPool;
 use slot_contents::Contents;
 use std::marker::Model;
-use std::snapshot::Snapshot;
 use swapstore::SwapStore;
 
 /// The frames and slots of a machine, which the threads of a host share by reference. In clauses it is a record, `MemoryIs`. Where it is
@@ -17,7 +16,6 @@ pub struct MachineMemory<S: SwapStore + Drop> {
     pub(crate) pool: SharedPool,
     pub(crate) table: KeyedLock<Table, TableKey>,
     pub(crate) swap: KeyedLock<Swap<S>, SwapKey<S>>,
-    pub(crate) first: Snapshot<S>,
     pub(crate) extent: Extent,
 }
 
@@ -27,9 +25,9 @@ impl<S: SwapStore + Drop> Model for MachineMemory<S> {
 
     ghost Value = { MemoryIs S };
 
-    ghost view = { λ m. record { books = m.books; contents = m.contents; pool = m.pool; first = m.first.value } };
+    ghost view = { λ m. record { books = m.books; contents = m.contents; pool = m.pool; first = m.swap.key.first.value } };
 
-    ghost invariant = { λ m. (m.table.key.books.value ≡ m.books) × (m.swap.key.books.value ≡ m.books) × (m.swap.key.contents.value ≡ m.contents) × (m.swap.key.first.value ≡ m.first.value) × (m.extent ≡ m.books.key) };
+    ghost invariant = { λ m. (m.table.key.books.value ≡ m.books) × (m.swap.key.books.value ≡ m.books) × (m.swap.key.contents.value ≡ m.contents) × (m.extent ≡ m.books.key) };
 }
 
 unsafe impl<S: SwapStore + Drop + Send> Sync for MachineMemory<S> {}

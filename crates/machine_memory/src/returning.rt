@@ -54,7 +54,7 @@ impl<S: SwapStore + Drop> MachineMemory<S> {
             pages,
             slot,
             &mut swap,
-            &self.first,
+            &self.swap,
         );
         self.swap.put_back(swap, loan);
     }

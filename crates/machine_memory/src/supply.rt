@@ -133,7 +133,7 @@ impl<S: SwapStore + Drop> MachineMemory<S> {
             p,
             no,
             &mut swap,
-            &self.first,
+            &self.swap,
         );
         self.swap.put_back(swap, loan);
         self.give(rt, stake, pages, hand);
