@@ -1,5 +1,5 @@
 -- A guest whose pages move over machine memory.
-use Rattle.std.proofs.Common.{◌≡◌, ◌≢◌, ℕ, ◌<◌, Bool, true, false, ◌||◌, ◌&&◌, List, [], ◌++◌, Option, Some, None, IfSome, Result, Ok, Err, OnOk, OnErr, length, nat_eq, set, refl, sym, ap, subst, ◌∙◌}
+use Rattle.std.proofs.Common.{◌≡◌, ◌≢◌, ℕ, ◌<◌, Bool, true, false, ◌||◌, ◌&&◌, List, [], Option, Some, None, IfSome, Result, Ok, Err, OnOk, OnErr, length, nat_eq, set, refl, sym, ap, subst, ◌∙◌}
 use Rattle.std.proofs.lemmas.Bool.Decides.{Decides-eqb}
 use Rattle.std.proofs.lemmas.Slice.Eq.{slice_eq-Decides}
 use lib.Pointwise.{pointwise}
@@ -9,7 +9,6 @@ use Rattle.physmap.specs.declared.page.Returned.{Returned}
 use Rattle.physmap.specs.declared.page.PageKind.{PageKind}
 use Rattle.physmap.specs.declared.page.PageKind.TheVariants as kind
 use Rattle.physmap.specs.Pages.{kind_of, kind_at, page_at, shown}
-use Rattle.physmap.specs.Outline.{outline}
 use Rattle.physmap.proofs.Outlines.{outline_length}
 use Rattle.physmap.specs.declared.page.Page.TheVariants as p
 use Rattle.paging.specs.Faith.{IsFaithful, Faithful, Kept}
@@ -29,6 +28,14 @@ use Rattle.seated.specs.Acts.{Stays}
 use Rattle.std.proofs.lemmas.List.{length-set}
 use Rattle.cell.specs.Narrowing.{is_away, comes_right}
 use Rattle.cell.specs.Pausing.{LevelBefore}
+use Rattle.lent_pages.specs.Scans.{WasScanned}
+use Rattle.paging.specs.Scans.{Answered}
+use Rattle.paging.specs.declared.scan.Scan.{Scan}
+use Rattle.paging.specs.declared.scan.Scan.TheVariants as scan
+use Rattle.sha2.specs.Sha256.{sha256}
+use Rattle.sharetab.specs.Shares.{Answers}
+use Rattle.sharetab.specs.declared.shares.Offer.TheVariants as offer
+use Rattle.sharetab.specs.declared.guest_page.GuestPage.{GuestPage}
 
 -- where a run of steps has not given a page, the stake is level for the pages as they are
 pub level_none : {Store : Type 0} (memory : MemoryIs Store) (stake : Stake) (given : Option ℕ) (old new : List Page) (why : Option Pause) → why ≡ None → IsLevel memory stake old
@@ -168,3 +175,12 @@ needs_there (Some page) why given old new needed there paused =
     let calm : HasPaused given old (Some (pause.Need page needed.0)) new = subst (λ (v : Option Pause). HasPaused given old v new) needed.1 paused in
     let same : length new ≡ length old = sym (outline_length new) ∙ ap length calm.1 ∙ outline_length old in
     subst (λ (n : ℕ). page < n) (sym same) (there page needed.0 needed.1)
+
+-- ---- what a scan is answered
+
+-- a page that an entry is admitted for was noted as another one
+pub admits_another : (page other : GuestPage) (old new : List Page) (answer : Scan) → WasScanned page old answer new → answer ≡ scan.Admitted other → other ≢ page
+admits_another page other old new answer w is =
+    let a : Answered w.found old page (scan.Admitted other) = subst (λ (s : Scan). Answered w.found old page s) is w.answer in
+    let b : Answers w.found (sha256 (shown (page_at old page.page))) page (offer.Match other) = a.2 in
+    b.1

@@ -4,3 +4,4 @@ pub mod Narrowed
 pub mod Plain
 pub mod Sitting
 pub mod Slicing
+pub mod Supplied

@@ -1,5 +1,5 @@
 -- A guest under its lock, of which a page has come.
-use Rattle.std.proofs.Common.{◌≡◌, ℕ, true, false, Bool, ◌&&◌, ◌+◌, refl, ap, sym, subst, ◌∙◌}
+use Rattle.std.proofs.Common.{◌≡◌, ℕ, true, false, Bool, ◌&&◌, ap, sym, ◌∙◌}
 use Rattle.loghead.specs.Heads.{SeatIs}
 use Rattle.guest.specs.Guests.{GuestIs, Intact, without_pages}
 use Rattle.console_queue.specs.Queues.{TakeIs}

@@ -7,8 +7,8 @@ use Rattle.items.specs.Entries.{steps_of, step_by}
 use Rattle.loghead.specs.Heads.{SeatIs}
 use Rattle.loghead.specs.Legal.{Legal}
 use Rattle.seated.specs.Acts.{Acts, Sees}
-use Rattle.cell.specs.Inputs.{byte_in, bytes_in}
-use Rattle.cell.specs.Slices.{Slice, one_step, steps_in, IsOfSlice, AreOfSlice}
+use Rattle.cell.specs.Inputs.{bytes_in}
+use Rattle.cell.specs.Slices.{Slice, steps_in, AreOfSlice}
 
 steps_join : (xs ys : List Item) → steps_in (xs ++ ys) ≡ steps_in xs + steps_in ys
 steps_join [] ys = omega arith

@@ -1,5 +1,5 @@
 -- A guest under its lock, the seats of it, and what is seen of both.
-use Rattle.std.specs.Prelude.{◌≡◌, ℕ, Bool, true, List, Option, [], ◌∷◌}
+use Rattle.std.specs.Prelude.{◌≡◌, ℕ, true, List, Option, [], ◌∷◌}
 use Rattle.items.specs.declared.item.Item.{Item}
 use Rattle.items.specs.declared.item.What.{What}
 use Rattle.items.specs.declared.item.What.TheVariants as what

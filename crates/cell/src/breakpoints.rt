@@ -41,4 +41,9 @@ impl Breakpoints {
     pub fn clear(&mut self, address: u32) {
         self.addresses.retain(|it| *it != address);
     }
+
+    /// None at all any more.
+    pub fn clear_all(&mut self) {
+        self.addresses.clear();
+    }
 }

@@ -146,33 +146,6 @@ impl<S: SwapStore + Drop> Cell<S> {
         }
     }
 
-    /// Reads as many bytes as `bytes` has, from a virtual address on: those of the machine after the log that the seat has then seen.
-    /// `Machine` where one of them has no place in memory, `Away` where one lies in a page that is in a slot.
-    pub fn read<R: Wait>(
-        &self,
-        rt: &R,
-        seat: &mut Seat,
-        address: u32,
-        bytes: &mut [u8],
-    ) -> Result<(), Refused>
-        requires { IsOf self.now.front seat.old }
-        ensures of { IsOf self.now.front seat.new }
-        ensures lasts { Lasts seat.old seat.new }
-        ensures lasts_with_store { IsTrusted S.true_to_digests self.now.front → seat.new.witness.held ≡ true }
-        ensures sees { Sees seat.old.seat seat.new.seat }
-        ensures ok { OnOk result (seat.new.witness.held ≡ true →
-            bytes_at (run seat.new.seat.saw (front_boot self.now.front)) address (length bytes.old) ≡ Some bytes.new) }
-        ensures machine { seat.new.witness.held ≡ true →
-            (IsErrOf result Refused.Machine ↔ (bytes_at (run seat.new.seat.saw (front_boot self.now.front)) address (length bytes.old) ≡ None)) }
-        ensures never_stops { (stop : Stop) → IsErrOf result (Refused.Stop stop) → ⊥ }
-        ensures err { OnErr result (bytes.new ≡ bytes.old) }
-    {
-        let (mut locked, loan) = self.lock.take(rt);
-        let done = inside::read(&self.front, &mut locked, seat, address, bytes);
-        self.lock.put_back(locked, loan);
-        done
-    }
-
     /// Reads the registers, by their numbers 0 to 37: those of the machine after the log that the seat has then seen.
     pub fn registers<R: Wait>(&self, rt: &R, seat: &mut Seat) -> Registers
         requires { IsOf self.now.front seat.old }
@@ -187,6 +160,19 @@ impl<S: SwapStore + Drop> Cell<S> {
         let words = inside::registers(&self.front, &mut locked, seat);
         self.lock.put_back(locked, loan);
         words
+    }
+
+    /// The seat sees the whole log, and whether the guest's truth holds.
+    pub fn see<R: Wait>(&self, rt: &R, seat: &mut Seat)
+        requires { IsOf self.now.front seat.old }
+        ensures of { IsOf self.now.front seat.new }
+        ensures lasts { Lasts seat.old seat.new }
+        ensures lasts_with_store { IsTrusted S.true_to_digests self.now.front → seat.new.witness.held ≡ true }
+        ensures sees { Sees seat.old.seat seat.new.seat }
+    {
+        let (mut locked, loan) = self.lock.take(rt);
+        inside::see(&self.front, &mut locked, seat);
+        self.lock.put_back(locked, loan);
     }
 
     /// How long the log is that the seat has then seen. It waits for nobody.
@@ -252,6 +238,14 @@ impl<S: SwapStore + Drop> Cell<S> {
     pub fn clear_break<R: Wait>(&self, rt: &R, address: u32) {
         let (mut locked, loan) = self.lock.take(rt);
         locked.breakpoints.clear(address);
+        self.lock.put_back(locked, loan);
+    }
+
+    /// Takes all breakpoints away.
+    #[tactic(auto, using(crate::proofs::Sitting::sits_still))]
+    pub fn clear_breaks<R: Wait>(&self, rt: &R) {
+        let (mut locked, loan) = self.lock.take(rt);
+        locked.breakpoints.clear_all();
         self.lock.put_back(locked, loan);
     }
 }

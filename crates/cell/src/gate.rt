@@ -14,6 +14,7 @@ pub trait Gate {
 }
 
 /// Nobody is asked.
+#[derive(Drop)]
 pub struct Open;
 
 impl Gate for Open {

@@ -67,36 +67,11 @@ pub(crate) fn see<S: SwapStore + Drop>(front: &Front<S>, locked: &mut Locked, se
     ensures lasts_with_store { IsTrusted S.true_to_digests front.now → seat.new.witness.held ≡ true }
     ensures sees { Sees seat.old.seat seat.new.seat }
     ensures guest { locked.new.guest.value ≡ locked.old.guest.value }
+    ensures keeper { locked.new.keeper ≡ locked.old.keeper }
     ensures saw { seat.new.seat.saw ≡ locked.old.guest.value.log.items }
     ensures holds { seat.new.witness.held ≡ true → locked.new.keeper.holds ≡ true }
 {
     acting::see(&front.truth, &mut locked.keeper, &mut locked.guest, seat);
-}
-
-// Reads bytes of the guest's memory.
-pub(crate) fn read<S: SwapStore + Drop>(
-    front: &Front<S>,
-    locked: &mut Locked,
-    seat: &mut Seat,
-    address: u32,
-    bytes: &mut [u8],
-) -> Result<(), Refused>
-    requires sits { Sits S.true_to_digests front.now locked.old }
-    requires of { IsOf front.now seat.old }
-    ensures sits { Sits S.true_to_digests front.now locked.new }
-    ensures of { IsOf front.now seat.new }
-    ensures lasts { Lasts seat.old seat.new }
-    ensures lasts_with_store { IsTrusted S.true_to_digests front.now → seat.new.witness.held ≡ true }
-    ensures sees { Sees seat.old.seat seat.new.seat }
-    ensures guest { locked.new.guest.value ≡ locked.old.guest.value }
-    ensures ok { OnOk result (seat.new.witness.held ≡ true → bytes_at (run seat.new.seat.saw (front_boot front.now)) address (length bytes.old) ≡ Some bytes.new) }
-    ensures machine { seat.new.witness.held ≡ true →
-        (IsErrOf result Refused.Machine ↔ (bytes_at (run seat.new.seat.saw (front_boot front.now)) address (length bytes.old) ≡ None)) }
-    ensures never_stops { (stop : Stop) → IsErrOf result (Refused.Stop stop) → ⊥ }
-    ensures err { OnErr result (bytes.new ≡ bytes.old) }
-{
-    see(front, locked, seat);
-    locked.guest.debug_read(address, bytes)
 }
 
 // Reads the registers.

@@ -1,8 +1,9 @@
 //! Steps and pages of a guest under its lock, over the machine memory around it.
-ghost use Rattle.std.specs.Prelude.{◌≡◌, ◌<◌, ◌≤◌, ◌&&◌, ℕ, List, [], true, Option, None, Some, IfSome, IsTrue, OnOk, OnErr, IfOk, IsErrOf, length};
+ghost use Rattle.std.specs.Prelude.{◌≡◌, ◌≢◌, ◌+◌, ◌<◌, ◌≤◌, ◌&&◌, ℕ, List, [], true, Option, None, Some, IfSome, IsTrue, OnOk, OnErr, IfOk, IsErrOf, length};
 ghost use Rattle.guest_log.specs.Logs.{IsFull};
 ghost use Rattle.guest_log.specs.declared.stop.Stop.{Stop};
 ghost use Rattle.physmap.specs.declared.page.PageKind.{PageKind};
+ghost use Rattle.physmap.specs.Holdings.{swapped_pages};
 ghost use Rattle.physmap.specs.Pages.{kind_at, is_resident};
 ghost use Rattle.guest.specs.Guests.{Intact, without_pages};
 ghost use Rattle.seated.specs.Acts.{Stays};
@@ -16,6 +17,7 @@ ghost use Rattle.paging.specs.Faith.{Kept};
 ghost use Rattle.lent_pages.specs.Contents.{its_slots};
 ghost use Rattle.cell.specs.Sitting.{RunIsWritten};
 ghost use Rattle.cell.specs.Slices.{Slice};
+ghost use Rattle.sharetab.specs.declared.guest_page.GuestPage.{GuestPage};
 
 use crate::narrowing::narrow;
 use crate::turns::make_steps;
@@ -103,7 +105,7 @@ fn settle_pause<S: SwapStore + Drop, R: Wait>(
 
 // A page of the guest gets a frame of its own, with its bytes. The guest's truth holds still exactly where the bytes that came are those of
 // its own run (`narrow`).
-#[tactic(auto, using(crate::proofs::Lent::intact_still, crate::proofs::Lent::moved_written, crate::proofs::Lent::written_right))]
+#[tactic(auto, using(crate::proofs::Lent::intact_still, crate::proofs::Lent::moved_written, crate::proofs::Lent::written_right, crate::proofs::Supplied::one_fewer))]
 pub(crate) fn supply_over<S: SwapStore + Drop, R: Wait>(
     rt: &R,
     alloc: Global,
@@ -125,6 +127,8 @@ pub(crate) fn supply_over<S: SwapStore + Drop, R: Wait>(
     ensures written { S.true_to_digests memory.now.first → RunIsWritten stake.old guest.old → RunIsWritten stake.new guest.new }
     ensures right { S.true_to_digests memory.now.first → RunIsWritten stake.old guest.old → comes_right guest.new page ≡ true }
     ensures private { OnOk result (kind_at guest.new.bus.pages page ≡ PageKind.Private) }
+    ensures fewer { kind_at guest.old.bus.pages page ≡ PageKind.Swapped →
+        OnOk result (swapped_pages guest.new.bus.pages + 1 ≡ swapped_pages guest.old.bus.pages) }
 {
     let done = memory.supply(rt, alloc, stake, guest, page);
     narrow(truth, keeper, guest, page);
@@ -153,7 +157,7 @@ pub(crate) fn evict_over<S: SwapStore + Drop, R: Wait>(
 }
 
 // A page of the guest is scanned.
-#[tactic(auto, using(crate::proofs::Lent::moved_stays, crate::proofs::Lent::moved_items, crate::proofs::Lent::moved_intact, crate::proofs::Lent::moved_written))]
+#[tactic(auto, using(crate::proofs::Lent::moved_stays, crate::proofs::Lent::moved_items, crate::proofs::Lent::moved_intact, crate::proofs::Lent::moved_written, crate::proofs::Lent::admits_another))]
 pub(crate) fn scan_over<S: SwapStore + Drop, R: Wait>(
     rt: &R,
     memory: &MachineMemory<S>,
@@ -168,6 +172,7 @@ pub(crate) fn scan_over<S: SwapStore + Drop, R: Wait>(
     ensures items { guest.new.log.items ≡ guest.old.log.items }
     ensures intact { Intact guest.old → Intact guest.new }
     ensures written { RunIsWritten stake.old guest.old → RunIsWritten stake.new guest.new }
+    ensures another { (other : GuestPage) → result ≡ Scan.Admitted other → other ≢ record { guest = number; page = page } }
 {
     memory.scan(rt, stake, guest, number, page)
 }

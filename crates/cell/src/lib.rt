@@ -6,13 +6,14 @@
 //! witness knows: a seat that knows it then knew it before (`Lasts`), and where the truth holds to the end (`Cell::finish`), each seat knew
 //! it all along. At the end the bytes that were put for the console are the input of the log and then the rest.
 //!
-//! The guest's pages move over a `MachineMemory` while its lock is held: `Cell::piece` and `Cell::write` supply what they need, `Cell::evict`
-//! and `Cell::scan` are for those who look after the memory. A supply alone narrows the guest's truth, to whether the bytes that came are
-//! those of its own run (`specs/Narrowing.antt`). A guest's stake stays level for its pages in the memory that it was made over
+//! The guest's pages move over a `MachineMemory` while its lock is held: `Cell::piece`, `Cell::write` and `Cell::read` supply what they
+//! need, `Cell::evict` and `Cell::scan` are for those who look after the memory. A supply alone narrows the guest's truth, to whether the
+//! bytes that came are those of its own run (`specs/Narrowing.antt`). A guest's stake stays level for its pages in the memory that it was made over
 //! (`IsMemoryOf`), and says what was written to their slots: so where the store was true to digests when the memory was made, the truth holds
 //! at each call and to the end (`lasts_with_store`).
 //!
-//! No clause says that a slice makes a step, that a byte that waits is taken, nor what `hold`, `block` and the breakpoints do.
+//! A piece that ends as `AllMade` has made as many steps as it was to, and one that is held or blocked none. No clause says when it ends so,
+//! that a byte that waits is taken, nor where a breakpoint ends it: `cell_tests` has them.
 //!
 //! Definitions: `specs/Sitting.antt` has what lies under the lock (`Sits`), `specs/Ends.antt` the seats at first and at the end,
 //! `specs/Slices.antt` a slice of steps with its input, whose law is `slices_join`.
@@ -31,6 +32,7 @@ pub mod moves;
 mod narrowing;
 pub mod parts;
 pub mod piece;
+pub mod reading;
 pub mod registers;
 pub mod seat;
 mod turning;
@@ -44,6 +46,7 @@ pub use gate::{Gate, Open};
 pub use moves::{Kept, PageStat};
 pub use parts::Parts;
 pub use piece::{End, Piece, Place};
+pub use reading::ReadError;
 pub use registers::Registers;
 pub use seat::{Seat, Seats};
 pub use writing::WriteError;

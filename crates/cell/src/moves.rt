@@ -1,5 +1,6 @@
 //! Moves of a guest's pages for those who look after the memory.
-ghost use Rattle.std.specs.Prelude.{◌≡◌, ◌<◌, ◌≤◌, true, IsTrue, length};
+ghost use Rattle.std.specs.Prelude.{◌≡◌, ◌≢◌, ◌<◌, ◌≤◌, true, IsTrue, length};
+ghost use Rattle.sharetab.specs.declared.guest_page.GuestPage.{GuestPage};
 ghost use Rattle.physmap.specs.Pages.{kind_at, is_resident};
 ghost use Rattle.cell.specs.Level.{IsMemoryOf};
 ghost use Rattle.cell.specs.Sitting.{Sits};
@@ -93,6 +94,7 @@ fn scan_in<S: SwapStore + Drop, R: Wait>(
     requires sits { Sits S.true_to_digests front.now locked.old }
     requires memory { IsMemoryOf front.now.first.value memory.now }
     ensures sits { Sits S.true_to_digests front.now locked.new }
+    ensures another { (other : GuestPage) → result ≡ Scan.Admitted other → other ≢ record { guest = guest; page = page } }
 {
     scan_over(
         rt,
@@ -105,7 +107,8 @@ fn scan_in<S: SwapStore + Drop, R: Wait>(
 }
 
 impl<S: SwapStore + Drop> Cell<S> {
-    ghost use Rattle.std.specs.Prelude.{◌≤◌};
+    ghost use Rattle.std.specs.Prelude.{◌≡◌, ◌≢◌, ◌≤◌};
+    ghost use Rattle.sharetab.specs.declared.guest_page.GuestPage.{GuestPage};
     ghost use Rattle.cell.specs.Level.{IsMemoryOf};
 
     /// A page of the guest leaves its frame for a slot, where the guest has more pages in frames than it always keeps: the first one in a
@@ -119,7 +122,8 @@ impl<S: SwapStore + Drop> Cell<S> {
         done
     }
 
-    /// Scans a page of the guest, of this number, for one of equal bytes, as `MachineMemory::scan` does. The guest doesn't notice.
+    /// Scans a page of the guest, of this number, for one of equal bytes, as `MachineMemory::scan` does. The guest doesn't notice. The
+    /// page that `Admitted` names is another one.
     pub fn scan<R: Wait>(
         &self,
         rt: &R,
@@ -128,6 +132,7 @@ impl<S: SwapStore + Drop> Cell<S> {
         page: Ppn,
     ) -> Scan
         requires { IsMemoryOf self.now.front.first.value memory.now }
+        ensures another { (other : GuestPage) → result ≡ Scan.Admitted other → other ≢ record { guest = guest; page = page } }
     {
         let (mut locked, loan) = self.lock.take(rt);
         let scan = scan_in(rt, memory, &self.front, &mut locked, guest, page);

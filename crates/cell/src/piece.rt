@@ -50,6 +50,8 @@ impl End {
     pub(crate) fn of_stop(stop: Stop) -> End
         ensures full { result ≡ End.LogFull → stop ≡ Stop.LogFull }
         ensures no_break { result ≢ End.Break }
+        ensures not_all { result ≢ End.AllMade }
+        ensures not_idle { (result ≢ End.Held) × (result ≢ End.Blocked) }
     {
         match stop {
             Stop::LogFull => End::LogFull,
@@ -60,6 +62,8 @@ impl End {
     pub(crate) fn of_supply(error: SupplyError) -> End
         ensures not_full { result ≢ End.LogFull }
         ensures no_break { result ≢ End.Break }
+        ensures not_all { result ≢ End.AllMade }
+        ensures not_idle { (result ≢ End.Held) × (result ≢ End.Blocked) }
     {
         match error {
             SupplyError::NoFrame => End::NeedsFrame,
@@ -126,6 +130,8 @@ fn piece_in<S: SwapStore + Drop, R: Wait, G: Gate>(
     ensures narrows { Narrows locked.old locked.new }
     ensures full { result.end ≡ End.LogFull → IsFull locked.new.guest.value.log }
     ensures breaks { result.end ≡ End.Break → seat.old.number ≡ 3 }
+    ensures all { result.end ≡ End.AllMade → result.steps ≡ most }
+    ensures not_idle { (result.end ≢ End.Held) × (result.end ≢ End.Blocked) }
 {
     let breaks = seat.number().number() == 3 && !locked.breakpoints.is_empty();
     let mut steps = 0;
@@ -155,7 +161,7 @@ fn piece_in<S: SwapStore + Drop, R: Wait, G: Gate>(
 
 // Why the guest makes no step of this seat, if it makes none.
 fn idle(locked: &Locked, seat: &Seat) -> Option<End>
-    ensures idle { IfSome result (λ end. end ≢ End.Break × (end ≢ End.LogFull)) }
+    ensures idle { IfSome result (λ end. end ≢ End.Break × (end ≢ End.LogFull) × (end ≢ End.AllMade)) }
     ensures debugger { result ≡ Some End.Held → seat.now.seat.number ≢ 3 }
 {
     if locked.held && seat.number().number() != 3 {
@@ -208,6 +214,8 @@ fn steps_of_piece<S: SwapStore + Drop, R: Wait, G: Gate>(
     ensures few { result.steps ≤ most }
     ensures full { result.end ≡ End.LogFull → IsFullOf front.now seat.new.seat.saw }
     ensures breaks { result.end ≡ End.Break → seat.old.seat.number ≡ 3 }
+    ensures all { result.end ≡ End.AllMade → result.steps ≡ most }
+    ensures not_idle { (result.end ≢ End.Held) × (result.end ≢ End.Blocked) }
 {
     let piece = piece_in(
         rt,
@@ -248,6 +256,9 @@ fn whole_piece<S: SwapStore + Drop, R: Wait, G: Gate>(
     ensures few { result.steps ≤ most }
     ensures full { result.end ≡ End.LogFull → IsFullOf front.now seat.new.seat.saw }
     ensures breaks { result.end ≡ End.Break → seat.old.seat.number ≡ 3 }
+    ensures all { result.end ≡ End.AllMade → result.steps ≡ most }
+    ensures held { result.end ≡ End.Held → (result.steps ≡ 0) × (seat.old.seat.number ≢ 3) }
+    ensures blocked { result.end ≡ End.Blocked → result.steps ≡ 0 }
 {
     see(front, locked, seat);
     if let Some(end) = idle(locked, seat) {
@@ -257,7 +268,7 @@ fn whole_piece<S: SwapStore + Drop, R: Wait, G: Gate>(
 }
 
 impl<S: SwapStore + Drop> Cell<S> {
-    ghost use Rattle.std.specs.Prelude.{◌≡◌, ◌≤◌};
+    ghost use Rattle.std.specs.Prelude.{◌≡◌, ◌≢◌, ◌≤◌, min};
     ghost use Rattle.cell.specs.Level.{IsMemoryOf};
     ghost use Rattle.cell.specs.Slices.{Slice};
     ghost use Rattle.cell.specs.Sitting.{IsOf, Lasts, IsTrusted, IsFullOf};
@@ -288,6 +299,9 @@ impl<S: SwapStore + Drop> Cell<S> {
         ensures short { result.steps ≤ 1024 }
         ensures full { result.end ≡ End.LogFull → IsFullOf self.now.front seat.new.seat.saw }
         ensures breaks { result.end ≡ End.Break → seat.old.seat.number ≡ 3 }
+        ensures all { result.end ≡ End.AllMade → result.steps ≡ min count 1024 }
+        ensures held { result.end ≡ End.Held → (result.steps ≡ 0) × (seat.old.seat.number ≢ 3) }
+        ensures blocked { result.end ≡ End.Blocked → result.steps ≡ 0 }
     {
         let (mut locked, loan) = self.lock.take(rt);
         let piece = whole_piece(

@@ -1,5 +1,8 @@
 //! Turns of a slice, with what lies under the guest's lock as a whole: each finds it fit for the front, and leaves it so.
-ghost use Rattle.std.specs.Prelude.{◌≡◌, ◌≢◌, ◌<◌, ◌≤◌, ℕ, List, true, Some, IfSome, OnErr, IfOk, IsErrOf, length};
+ghost use Rattle.std.specs.Prelude.{◌≡◌, ◌≢◌, ◌+◌, ◌<◌, ◌≤◌, ℕ, List, true, Some, IfSome, OnOk, OnErr, IfOk, IsErrOf, length};
+ghost use Rattle.physmap.specs.declared.page.PageKind.{PageKind};
+ghost use Rattle.physmap.specs.Holdings.{swapped_pages};
+ghost use Rattle.physmap.specs.Pages.{kind_at};
 ghost use Rattle.guest_log.specs.Logs.{IsFull};
 ghost use Rattle.guest_log.specs.declared.stop.Stop.{Stop};
 ghost use Rattle.loghead.specs.Legal.{Legal};
@@ -88,6 +91,8 @@ pub(crate) fn supply_in<S: SwapStore + Drop, R: Wait>(
     ensures items { locked.new.guest.value.log.items ≡ locked.old.guest.value.log.items }
     ensures count { length locked.new.guest.value.bus.pages ≡ length locked.old.guest.value.bus.pages }
     ensures narrows { Narrows locked.old locked.new }
+    ensures fewer { kind_at locked.old.guest.value.bus.pages page ≡ PageKind.Swapped →
+        OnOk result (swapped_pages locked.new.guest.value.bus.pages + 1 ≡ swapped_pages locked.old.guest.value.bus.pages) }
 {
     supply_over(
         rt,
@@ -134,6 +139,8 @@ pub(crate) fn turn<S: SwapStore + Drop, R: Wait>(
     ensures narrows { Narrows locked.old locked.new }
     ensures full { result.1 ≡ Some End.LogFull → IsFull locked.new.guest.value.log }
     ensures no_break { result.1 ≢ Some End.Break }
+    ensures not_all { result.1 ≢ Some End.AllMade }
+    ensures not_idle { (result.1 ≢ Some End.Held) × (result.1 ≢ Some End.Blocked) }
 {
     let is_empty = match input_in(rt, front, locked, seat) {
         Ok(is_empty) => is_empty,
