@@ -15,7 +15,7 @@ use Rattle.guest.specs.Guests.{Intact}
 use Rattle.guest_cells.specs.declared.handles.Handles.{Handles}
 use Rattle.guest_cells.specs.Handles.{AreOfMemory, AreHandlesOf, AreHandlesOfAll}
 use Rattle.guest_cells.specs.Ends.{HasEnded, HaveEnded, pages_left}
-use Rattle.guest_cells.proofs.Places.{zip_popped, zip_count, zip3_count, zip3_more, zip3_none}
+use Rattle.guest_cells.proofs.Places.{zip_popped, zip_pushed, zip_count, zip3_count, zip3_more, zip3_none}
 
 -- the last of some guests, and the others
 pub last_of_memory : {Store : Type 0} (memory : MemoryIs Store) (cells others : List (Cell Store)) (cell : Cell Store) → AreOfMemory memory cells → cells ≡ others ++ cell ∷ []
@@ -29,6 +29,12 @@ pub last_handles : {Store : Type 0} (cells cells' : List (Cell Store)) (cell : C
     → all ≡ all' ++ handles ∷ [] → AreHandlesOf cell.front handles × AreHandlesOfAll cells' all'
 last_handles cells cells' cell all all' handles are first second =
     zip_popped (λ (c : Cell _) (h : Handles). AreHandlesOf c.front h) cells cells' cell all all' handles are first second
+
+-- the handles of one more
+pub handles_again : {Store : Type 0} (cells cells' : List (Cell Store)) (cell : Cell Store) (all all' : List Handles) (handles : Handles) → cells ≡ cells' ++ cell ∷ [] → all ≡ all' ++ handles ∷ []
+    → AreHandlesOfAll cells' all' → AreHandlesOf cell.front handles → AreHandlesOfAll cells all
+handles_again cells cells' cell all all' handles first second are its =
+    zip_pushed (λ (c : Cell _) (h : Handles). AreHandlesOf c.front h) cells cells' cell all all' handles first second are its
 
 pub handles_count : {Store : Type 0} (cells : List (Cell Store)) (all : List Handles) → AreHandlesOfAll cells all → length cells ≡ length all
 handles_count cells all are = zip_count (λ (c : Cell _) (h : Handles). AreHandlesOf c.front h) cells all are

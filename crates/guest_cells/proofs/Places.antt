@@ -43,6 +43,17 @@ module _ {A B : Type 0} (R : A → B → Type 0) where
   zip_popped xs xs' x ys ys' y are first second =
       zip_last xs' x ys' y (subst (λ (l : List B). AllZip R (xs' ++ x ∷ []) l) second (subst (λ (l : List A). AllZip R l ys) first are))
 
+  zip_push : (xs : List A) (x : A) (ys : List B) (y : B) → AllZip R xs ys → R x y → AllZip R (xs ++ x ∷ []) (ys ++ y ∷ [])
+  zip_push [] x [] y are is = (is, tt)
+  zip_push [] x (b ∷ ys) y are is = absurd are
+  zip_push (a ∷ xs) x [] y are is = absurd are
+  zip_push (a ∷ xs) x (b ∷ ys) y are is = (are.0, zip_push xs x ys y are.1 is)
+
+  -- one more at the end of both
+  pub zip_pushed : (xs xs' : List A) (x : A) (ys ys' : List B) (y : B) → xs ≡ xs' ++ x ∷ [] → ys ≡ ys' ++ y ∷ [] → AllZip R xs' ys' → R x y → AllZip R xs ys
+  zip_pushed xs xs' x ys ys' y first second are is =
+      subst (λ (l : List A). AllZip R l ys) (sym first) (subst (λ (l : List B). AllZip R (xs' ++ x ∷ []) l) (sym second) (zip_push xs' x ys' y are is))
+
 -- ---- three lists
 
 module _ {A B C : Type 0} (R : A → B → C → Type 0) where

@@ -16,13 +16,19 @@
 pub mod audit;
 mod auditor;
 pub mod boot;
+#[cfg(test)]
+mod boot_tests;
 pub mod cells;
 mod ending;
+#[cfg(test)]
+mod ending_tests;
 pub mod finish;
 pub mod handles;
 pub mod laws;
 mod making;
 mod sitting;
+#[cfg(test)]
+mod tests;
 
 pub use boot::Booted;
 pub use cells::GuestCells;

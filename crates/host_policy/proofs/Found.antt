@@ -1,13 +1,13 @@
 -- What was found of guests, and who is the policy's victim by it.
-use Rattle.std.proofs.Common.{◌≡◌, ℕ, ◌+◌, ◌<◌, List, [], ◌∷◌, Option, Some, None, MatchOption, IfSome, IsNone, All, length, get_or, refl, sym, ◌∙◌, subst, arith, lit≤}
+use Rattle.std.proofs.Common.{◌≡◌, ℕ, ◌+◌, ◌<◌, List, [], ◌∷◌, Option, Some, None, MatchOption, IfSome, length, get_or, refl, sym, ◌∙◌, subst, arith, lit≤}
 use Rattle.std.proofs.lemmas.List.Elements.{All-nil, All-cons}
 use Rattle.taxpolicy.specs.declared.stat.Stat.{Stat}
-use Rattle.taxpolicy.specs.Victim.{IsEligible, victim_of}
+use Rattle.taxpolicy.specs.Victim.{victim_of}
 use Rattle.sampling.specs.declared.sample.Sample.{Sample}
 use Rattle.cell.specs.declared.cell.Cell.{Cell}
 use Rattle.host_policy.specs.Samples.{AreSampledBy}
 use Rattle.host_policy.specs.Numbers.{IsStatOf, AreStatsOf}
-use Rattle.host_policy.specs.Evictions.{IsVictim, NobodyWasEligible, WereVictims}
+use Rattle.host_policy.specs.Evictions.{IsVictim, WereVictims}
 
 -- the numbers of the first so many guests
 abbrev pub FoundBelow : {S : Type 0} → List (Cell S) → List Stat → ℕ → Type 0

@@ -19,13 +19,15 @@ use Rattle.host_policy.specs.declared.aiming.Aim.{Aim}
 use Rattle.host_policy.specs.declared.aiming.Aim.TheVariants.{Kept, Set, LeftOut}
 use Rattle.host_policy.specs.declared.made.Turn.{Turn}
 use Rattle.host_policy.specs.Numbers.{AreStatsOf}
-use Rattle.host_policy.specs.Policies.{WereFree}
+use Rattle.host_policy.specs.Policies.{WereFree, WasReached}
 
--- what is done in a turn to guests with these numbers, by how many frames of the memory were free, and a tax and the level before
+-- What is done in a turn to guests with these numbers, by how many frames of the memory were free, a tax, and the level before, which
+-- earlier turns had reached.
 pub record IsPlan {Store : Type 0} (memory : MemoryIs Store) (stats : List Stat) (plan : Plan) : Type 0 where
   pub free : ℕ
   pub were_free : WereFree memory free
   pub before : Level
+  pub reached : WasReached memory before
   pub level : plan.level ≡ next_level_of free memory.books.key.frames before
   pub tax : ℕ
   pub below : tax < 100

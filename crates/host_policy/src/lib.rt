@@ -8,7 +8,11 @@
 //! asks for at most three quarters of the guest's pages; and that a seat which was used has found its guest to be its run, where the swap
 //! store is true to digests.
 //!
-//! No clause says which page leaves, how many leave in a turn, nor who is blocked: `Cell::evict` and `Cell::block` tell of neither.
+//! Of the policy's level a clause says that turns have reached it from high, by counts of free frames (`IsReached`).
+//!
+//! No clause says which page leaves, how many leave in a turn, nor who is blocked: `Cell::evict` and `Cell::block` tell of neither. Nor does
+//! one say which tax is in force, since whoever shares the policy may set it meanwhile: its type has it below 100, and tests tell that a
+//! policy begins with the tax that it is given, and has the one that was set last.
 #![tactic(auto)]
 
 pub mod aiming;
@@ -16,9 +20,13 @@ pub mod evicting;
 pub mod made;
 mod numbers;
 pub mod policy;
+#[cfg(test)]
+mod policy_tests;
 mod samples;
 mod state;
 mod swapping;
+#[cfg(test)]
+mod tests;
 pub mod turning;
 
 pub use aiming::Aim;

@@ -15,11 +15,13 @@ use std::sync::Wait;
 use swapstore::SwapStore;
 use taxpolicy::{SAMPLE_SIZE, Stat, Tax};
 
-/// What the content of a policy's lock fits: the pass of the free frames with which the policy was made, for the proofs.
+/// What the content of a policy's lock fits.
 #[derive(Drop)]
 pub struct Key {
-    /// The pass as it was.
+    /// The pass of the free frames with which the policy was made, for the proofs.
     pub first: Snapshot<PoolPass>,
+    /// How many frames there are.
+    pub frames: u32,
 }
 
 /// What lies under a policy's lock.
@@ -39,9 +41,9 @@ impl Close for Locked {
 }
 
 impl Fits<Key> for Locked {
-    ghost use Rattle.host_policy.specs.Policies.{HasItsPass};
+    ghost use Rattle.host_policy.specs.Policies.{LiesUnder};
 
-    ghost fits = { HasItsPass };
+    ghost fits = { LiesUnder };
 }
 
 /// The level of free memory, the tax, the samples of the guests' pages and the generator of the words that pages are drawn by, under a lock
@@ -53,11 +55,14 @@ pub struct Policy {
 }
 
 impl Model for Policy {
+    ghost use Rattle.std.specs.Prelude.{◌≡◌};
     ghost use Rattle.host_policy.specs.Policies.{PolicyIs};
 
     ghost Value = { PolicyIs };
 
     ghost view = { λ policy. record { first = policy.lock.key.first.value; frames = policy.frames } };
+
+    ghost invariant = { λ policy. policy.lock.key.frames ≡ policy.frames };
 }
 
 unsafe impl Sync for Policy {}
@@ -69,12 +74,13 @@ impl Policy {
     ghost use Rattle.taxpolicy.specs.Sample.{drawn};
     ghost use Rattle.taxpolicy.specs.Victim.{IsEligible, victim_of};
     ghost use Rattle.host_policy.specs.Samples.{AreSampledBy};
-    ghost use Rattle.host_policy.specs.Policies.{IsPolicyOf, WereFree};
+    ghost use Rattle.host_policy.specs.Policies.{IsPolicyOf, IsReached, WereFree};
     ghost use Rattle.host_policy.specs.Turns.{IsPlan};
 
     /// A policy at boot, of a machine memory with so many frames, of whose pool the pass is: the level is high, no page was drawn for a
     /// sample yet, so each guest counts as active, and the words are those of `Pcg32` of this seed. Where there is no memory for the lock,
     /// the pass comes back.
+    #[tactic(auto, using(crate::proofs::Levels::lies_at_boot))]
     pub fn new(
         alloc: Global,
         pass: PoolPass,
@@ -87,6 +93,7 @@ impl Policy {
     {
         let key = Key {
             first: Snapshot::of(&pass),
+            frames,
         };
         let state = State::new(tax, Pcg32::seed_from_u64(seed));
         match KeyedLock::new(alloc, Locked { state, pass }, &key) {
@@ -99,7 +106,10 @@ impl Policy {
     }
 
     /// The level of the last turn; high before the first.
-    pub fn level<R: Wait>(&self, rt: &R) -> Level {
+    #[tactic(auto, using(crate::proofs::Levels::reached_as))]
+    pub fn level<R: Wait>(&self, rt: &R) -> Level
+        ensures { IsReached self.now.first self.now.frames result }
+    {
         let (locked, loan) = self.lock.take(rt);
         let level = locked.state.level;
         self.lock.put_back(locked, loan);
@@ -115,6 +125,7 @@ impl Policy {
     }
 
     /// This tax is in force from now on.
+    #[tactic(auto, using(crate::proofs::Levels::lies_still))]
     pub fn set_tax<R: Wait>(&self, rt: &R, tax: Tax) {
         let (mut locked, loan) = self.lock.take(rt);
         locked.state.tax = tax;
@@ -122,6 +133,7 @@ impl Policy {
     }
 
     /// How many frames of the policy's machine memory were free at a moment of the call.
+    #[tactic(auto, using(crate::proofs::Levels::lies_still))]
     pub fn free_frames<S: SwapStore + Drop, R: Wait>(
         &self,
         rt: &R,
@@ -137,6 +149,7 @@ impl Policy {
     }
 
     // The generator's next word.
+    #[tactic(auto, using(crate::proofs::Levels::lies_still))]
     pub(crate) fn next_word<R: Wait>(&self, rt: &R) -> u32 {
         let (mut locked, loan) = self.lock.take(rt);
         let word = locked.state.next_word();
@@ -145,6 +158,7 @@ impl Policy {
     }
 
     // The policy's victim of guests with these numbers, with the word that its page is drawn by, as `State::choose` has it.
+    #[tactic(auto, using(crate::proofs::Levels::lies_still))]
     pub(crate) fn choose<R: Wait>(&self, rt: &R, stats: &mut [Stat]) -> Option<(usize, u32)>
         requires few { length stats.old ≤ 16 }
         ensures sampled { (samples : List Sample) × AreSampledBy samples stats.old stats.new }
@@ -169,6 +183,7 @@ impl Policy {
     }
 
     // A period of a guest's sample ends and the next one begins, as `State::next_sample` has it.
+    #[tactic(auto, using(crate::proofs::Levels::lies_still))]
     pub(crate) fn next_sample<R: Wait>(
         &self,
         rt: &R,
@@ -188,6 +203,7 @@ impl Policy {
     }
 
     // What is done in a turn, by how many frames are free and these numbers of the guests, as `State::plan` has it.
+    #[tactic(auto, using(crate::proofs::Levels::were_free, crate::proofs::Levels::lies_after_turn, crate::proofs::Levels::was_reached))]
     pub(crate) fn plan<S: SwapStore + Drop, R: Wait>(
         &self,
         rt: &R,

@@ -1,4 +1,4 @@
-use Rattle.std.proofs.Common.{◌≡◌, length, arith}
+use Rattle.std.proofs.Common.{length}
 use Rattle.host_policy.specs.Numbers.{AreStatsOf}
 use Rattle.host_policy.proofs.Found.{still_found, chosen}
 use Rattle.host_policy.proofs.evicting.choose_victim.Goals as goal

@@ -1,8 +1,7 @@
-use Rattle.std.proofs.Common.{◌≡◌, ℕ, ◌<◌, length, get_or, set, ◌∙◌, sym, subst, arith}
+use Rattle.std.proofs.Common.{◌≡◌, ℕ, ◌<◌, length, get_or, ◌∙◌, arith}
 use Rattle.std.proofs.lemmas.List.{get_or_default}
 use Rattle.taxpolicy.specs.declared.stat.Stat.{Stat}
-use Rattle.sampling.specs.declared.sample.Sample.{Sample}
-use Rattle.host_policy.specs.Samples.{IsSampledBy, AreSampledBy}
+use Rattle.host_policy.specs.Samples.{IsSampledBy}
 use Rattle.host_policy.proofs.Places.{done_more, left_more}
 use Rattle.host_policy.proofs.state.sample_stats.Goals as goal
 

@@ -1,4 +1,4 @@
-use Rattle.std.proofs.Common.{◌≡◌, ◌<◌, ◌≤◌, ℕ, length, slice_index_or}
+use Rattle.std.proofs.Common.{◌≡◌, ◌<◌, ◌≤◌, ℕ, slice_index_or}
 use Rattle.taxpolicy.specs.declared.stat.Stat.{Stat}
 use Rattle.sampling.specs.declared.sample.Sample.{Sample}
 use Rattle.host_policy.specs.Samples.{IsSampledBy}

@@ -1,4 +1,4 @@
-use Rattle.std.proofs.Common.{◌≡◌, List, refl, sym, subst}
+use Rattle.std.proofs.Common.{◌≡◌, List, refl, subst}
 use Rattle.reclaim.specs.declared.turn.Action.{Action}
 use Rattle.host_policy.specs.Turns.{AreAimed}
 use Rattle.host_policy.proofs.turning.turn.Goals as goal
