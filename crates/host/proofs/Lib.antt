@@ -1,0 +1,7 @@
+pub mod Admitted
+pub mod Ending
+pub mod Fronts
+pub mod Guests
+pub mod Reached
+pub mod Rooms
+pub mod Seeing
