@@ -1,0 +1,5 @@
+pub mod Seats
+pub mod Turning
+pub mod Talking
+pub mod Ranging
+pub mod Sending

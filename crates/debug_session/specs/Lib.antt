@@ -1,0 +1,4 @@
+pub mod Goes
+pub mod Ranges
+pub mod Replies
+pub mod Talks

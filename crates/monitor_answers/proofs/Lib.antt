@@ -1,0 +1,4 @@
+pub mod Listed
+pub mod Ordering
+pub mod Places
+pub mod Setting

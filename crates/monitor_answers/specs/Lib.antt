@@ -1,0 +1,5 @@
+pub mod Hands
+pub mod Keeping
+pub mod Lines
+pub mod Orders
+pub mod Texts
