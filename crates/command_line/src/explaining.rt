@@ -4,7 +4,7 @@
 //! there are no words.
 use commands::image_file::whole_file;
 use commands::{Asm, Dis, Exec, Fault, Replay};
-use diagnosis::{Memory, Words, boot, elf, file, log, raw, script_line, source};
+use diagnosis::{Excerpt, Memory, Words, boot, elf, file, log, raw, script_line, source};
 use output_file::is_one_file;
 use script::Script;
 use std::alloc::Global;
@@ -135,6 +135,19 @@ fn source_words<R: Files + AllocGlobal>(
     };
     let bytes = contents(rt, order.source)?;
     source::explain(rt.alloc(), number, line, &bytes).ok()?
+}
+
+/// The line of a source that has its first fault, with a caret under the word that is wrong.
+pub fn excerpt_of<R: Files + AllocGlobal>(
+    rt: &R,
+    subject: Subject<'_>,
+    fault: &Fault<'_>,
+) -> Option<Excerpt> {
+    let (Subject::Asm(order), Fault::Asm { fault, line }) = (subject, *fault) else {
+        return None;
+    };
+    let bytes = contents(rt, order.source)?;
+    source::excerpt_of(rt.alloc(), fault, line, &bytes).ok()?
 }
 
 /// Words for the lines of a source behind its first fault that are wrong too; none where there can be none.

@@ -3,13 +3,14 @@ ghost use Rattle.std.specs.Prelude.{◌≡◌, ◌≢◌, ◌<◌, ◌⊎◌, fa
 ghost use Rattle.std.specs.IoError.{error_kind};
 ghost use Rattle.command_line.specs.Exit.{code_of, HasNoSim, HasNoUntil};
 
-use crate::explaining::{Subject, explain, explain_later};
+use crate::explaining::{Subject, excerpt_of, explain, explain_later};
 use crate::parsing::{Order, Settings, parse};
 use clap::Error;
 use commands::{
     Asm, Dis, Exec, Fault, Replay, Report, Sim, SimFault, assemble_file, disassemble_file,
     replay_log, run_image, run_script, script_text,
 };
+use diagnosis::Excerpt;
 use runs::Ending;
 use std::io::{BufRead, ErrorKind, Write};
 use std::rt::{Env, Files};
@@ -322,6 +323,12 @@ fn write_refusal<R: Files + AllocGlobal, E: Write>(
     let status = write_fault(fault, err)?;
     if let Some(words) = explain(rt, subject, fault) {
         writeln!(err, "  {words}")?;
+        if let Some(Excerpt { line, caret }) = excerpt_of(rt, subject, fault) {
+            writeln!(err, "    {line}")?;
+            if let Some(caret) = caret {
+                writeln!(err, "    {caret}")?;
+            }
+        }
         for words in &explain_later(rt, subject, fault) {
             writeln!(err, "  {words}")?;
         }

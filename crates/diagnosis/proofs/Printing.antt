@@ -1,9 +1,9 @@
 -- What is shown of bytes is printable.
-use Rattle.std.proofs.Common.{◌≡◌, ℕ, ◌+◌, ◌/◌, ◌%◌, ◌≤◌, ◌<◌, ◌&&◌, nat_le, nat_lt, Bool, true, false, if◌then◌else◌, List, [], ◌∷◌, ◌++◌, refl, arith}
-use Rattle.std.specs.List.{All, flat_map}
-use Rattle.std.proofs.lemmas.List.Elements.{All-nil, All-cons, All-append}
+use Rattle.std.proofs.Common.{◌≡◌, ℕ, ◌+◌, ◌/◌, ◌%◌, ◌<◌, ◌&&◌, nat_le, nat_lt, Bool, true, false, if◌then◌else◌, List, [], ◌∷◌, replicate, refl, arith}
+use Rattle.std.specs.List.{All}
+use Rattle.std.proofs.lemmas.List.Elements.{All-nil, All-cons, All-append, All-replicate}
 use Rattle.std.proofs.lemmas.Bool.Decides.{nat_tests}
-use Rattle.diagnosis.specs.Printable.{IsPrintable, digit, shown_byte, shown}
+use Rattle.diagnosis.specs.Printable.{IsPrintable, caret_behind, digit, shown_byte, shown}
 
 digit_either : (m : ℕ) (b : Bool) → m < 16 → IsPrintable (if b then 0x30 + m else 0x57 + m)
 digit_either m true l = (omega arith, omega arith)
@@ -29,3 +29,7 @@ byte_printable byte = byte_either byte (nat_le 0x20 byte && nat_lt byte 0x7f) (o
 pub shown_printable : (bytes : List ℕ) → All IsPrintable (shown bytes)
 shown_printable [] = All-nil IsPrintable
 shown_printable (b ∷ bs) = All-append IsPrintable (shown_byte b) (shown bs) (byte_printable b) (shown_printable bs)
+
+pub caret_printable : (blanks : ℕ) → All IsPrintable (caret_behind blanks)
+caret_printable blanks =
+    All-append IsPrintable (replicate blanks 0x20) (0x5e ∷ []) (All-replicate IsPrintable blanks 0x20 (omega arith, omega arith)) (All-cons IsPrintable 0x5e [] (omega arith, omega arith) (All-nil IsPrintable))

@@ -1,5 +1,5 @@
 -- Why a header is that of no executable for MIPS.
-use Rattle.std.specs.Prelude.{ℕ, Bool, ◌==◌, not, if◌then◌else◌}
+use Rattle.std.specs.Prelude.{◌==◌, not, if◌then◌else◌}
 use Rattle.elf32.specs.declared.header.FileHeader.{FileHeader}
 use Rattle.diagnosis.specs.declared.headers.Doubt.{Doubt}
 use Rattle.diagnosis.specs.declared.headers.Doubt.TheVariants as doubt

@@ -1,4 +1,5 @@
 pub mod Printable
 pub mod Pages
+pub mod Excerpts
 pub mod Headers
 pub mod Memories

@@ -1,5 +1,5 @@
 -- What is shown of bytes that may be any.
-use Rattle.std.specs.Prelude.{ℕ, ◌+◌, ◌/◌, ◌%◌, ◌≤◌, ◌<◌, ◌&&◌, Bool, nat_le, nat_lt, if◌then◌else◌, List, [], ◌∷◌}
+use Rattle.std.specs.Prelude.{ℕ, ◌+◌, ◌/◌, ◌%◌, ◌≤◌, ◌<◌, ◌&&◌, nat_le, nat_lt, if◌then◌else◌, List, [], ◌∷◌, ◌++◌, replicate}
 use Rattle.std.specs.List.{flat_map}
 
 -- a blank, or a character of ASCII that is drawn
@@ -17,3 +17,7 @@ shown_byte byte =
 
 abbrev pub shown : List ℕ → List ℕ
 shown bytes = flat_map shown_byte bytes
+
+-- a caret behind so many blanks
+abbrev pub caret_behind : ℕ → List ℕ
+caret_behind blanks = replicate blanks 0x20 ++ 0x5e ∷ []

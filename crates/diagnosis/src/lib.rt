@@ -3,12 +3,14 @@
 //! The crates above use `Words`, a line of printable ASCII characters whatever was put into it, and the calls that answer
 //! one: `elf::explain` (the first fault of an executable, `first_fault`, with what its bytes say of it), `raw::explain`,
 //! `source::explain` and `script_line::explain` (a line of a text, and what may stand there), `boot::of_machine` and
-//! `boot::of_guests`. `log::reason` and `file::reason` are tables. `pages::least_pages` is the least number of pages that
+//! `boot::of_guests`. `source::excerpt_of` answers the line with a caret
+//! under its wrong word. `log::reason` and `file::reason` are tables. `pages::least_pages` is the least number of pages that
 //! holds a segment. Nothing is read but what is passed, and each error is want of memory.
 #![tactic(auto)]
 
 pub mod boot;
 pub mod elf;
+pub mod excerpt;
 pub mod file;
 pub mod forms;
 pub mod headers;
@@ -21,5 +23,6 @@ pub mod segments;
 pub mod source;
 pub mod words;
 
+pub use excerpt::Excerpt;
 pub use memory::Memory;
 pub use words::Words;

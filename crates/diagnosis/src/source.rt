@@ -3,9 +3,12 @@ ghost use Rattle.std.specs.Prelude.{◌≡◌, ◌≤◌, ◌↔◌, IsSome};
 ghost use Rattle.std.specs.Result.{result_err};
 ghost use Rattle.masm_lines.specs.Grammar as grammar;
 
+use crate::excerpt::Excerpt;
 use crate::words::{Words, quoted};
-use masm_lines::{AsmFault, line_of};
+use masm_columns::{operand_column, wrong_column};
+use masm_lines::{AsmFault, Line, List, Statement, Value, line_of};
 use std::alloc::{AllocError, Global};
+use std::collections::BTreeSet;
 
 /// Behind the first fault so many lines are told at most.
 const MOST_LATER: usize = 19;
@@ -52,6 +55,89 @@ pub fn explain(
     let line = quoted(alloc, &without_tabs(alloc, line)?)?;
     let text = format!(in alloc; "{reason}: {line}")?;
     Ok(Some(Words::of(alloc, &text)?))
+}
+
+/// The line with this number of a source, counted from 1, and a caret under the word that this fault is about, where that is known; none
+/// where the source has no such line.
+pub fn excerpt_of(
+    alloc: Global,
+    fault: AsmFault,
+    number: u64,
+    source: &[u8],
+) -> Result<Option<Excerpt>, AllocError> {
+    let line = match number {
+        0 => None,
+        _ => line_at(source, number),
+    };
+    let Some(line) = line else {
+        return Ok(None);
+    };
+    let found = match fault {
+        AsmFault::UnknownName => unknown_column(alloc, line, source)?,
+        _ => wrong_column(alloc, line, fault)?,
+    };
+    let line = line.trim_ascii_end();
+    Ok(Some(match found {
+        Some(column) => Excerpt::around(alloc, line, column.min(line.len()))?,
+        None => Excerpt::beginning(alloc, line)?,
+    }))
+}
+
+/// The column of the first name in a line that is no label of the source.
+fn unknown_column(alloc: Global, line: &[u8], source: &[u8]) -> Result<Option<usize>, AllocError> {
+    match line_of(line) {
+        Ok(
+            Line {
+                statement: Some(Statement::Words(list)),
+                ..
+            },
+        ) => {
+            let number = first_unknown(alloc, list, source)?;
+            Ok(Some(operand_column(line, number)))
+        }
+        _ => wrong_column(alloc, line, AsmFault::UnknownName),
+    }
+}
+
+/// The number of the first element of a list, counted from 0, that is a name and no label of the source.
+fn first_unknown(alloc: Global, list: List<'_>, source: &[u8]) -> Result<usize, AllocError> {
+    let labels = labels_of(alloc, source)?;
+    let mut rest = Some(list);
+    for number in 0..list.count() {
+        if let Some(list) = rest {
+            let (value, others) = list.split();
+            if is_unknown(&labels, &value) {
+                return Ok(number as usize);
+            }
+            rest = others;
+        }
+    }
+    Ok(list.count() as usize)
+}
+
+fn is_unknown(labels: &BTreeSet<Vec<u8>>, value: &Value<'_>) -> bool {
+    match value {
+        Value::Name(name) => !labels.contains(*name),
+        Value::Number(_) => false,
+    }
+}
+
+/// The labels of a source.
+fn labels_of(alloc: Global, source: &[u8]) -> Result<BTreeSet<Vec<u8>>, AllocError> {
+    let text = String::from_utf8_lossy(alloc, source)?;
+    let mut labels = BTreeSet::new(alloc);
+    for line in text.lines() {
+        if let Ok(
+            Line {
+                label: Some(name),
+                ..
+            },
+        ) = line_of(line.as_bytes())
+        {
+            labels.insert(Vec::from_slice(alloc, name)?)?;
+        }
+    }
+    Ok(labels)
 }
 
 /// The fault that a line has by itself, whatever the other lines are.
@@ -118,7 +204,7 @@ fn without_tabs(alloc: Global, line: &[u8]) -> Result<Vec<u8>, AllocError> {
         .collect(alloc)
 }
 
-/// The line of a text with this number, counted from 1, without the line feed that ends it.
+/// The line of a text with this number, counted from 1, without the line feed that ends it and a carriage return before that.
 fn line_at(text: &[u8], number: u64) -> Option<&[u8]> {
     let mut rest = text;
     for _ in 1..number {
@@ -126,7 +212,14 @@ fn line_at(text: &[u8], number: u64) -> Option<&[u8]> {
         rest = &rest[end + 1..];
     }
     match rest.iter().position(|byte| *byte == b'\n') {
-        Some(end) => Some(&rest[..end]),
+        Some(end) => Some(without_return(&rest[..end])),
         None => Some(rest),
+    }
+}
+
+fn without_return(line: &[u8]) -> &[u8] {
+    match line {
+        [before @ .., b'\r'] => before,
+        _ => line,
     }
 }

@@ -1,6 +1,6 @@
 //! A line of printable characters.
 ghost use Rattle.std.specs.Prelude.{◌≡◌, ◌≤◌, ◌<◌, ◌++◌, ◌↔◌, IfOk, IsTrue, OnOk, string_bytes};
-ghost use Rattle.diagnosis.specs.Printable.{IsPrintable, digit, shown, shown_byte};
+ghost use Rattle.diagnosis.specs.Printable.{IsPrintable, caret_behind, digit, shown, shown_byte};
 
 use std::alloc::{AllocError, Global};
 use std::fmt;
@@ -31,9 +31,28 @@ impl Words {
     pub fn of(alloc: Global, text: &str) -> Result<Words, AllocError>
         ensures { IfOk result (λ words. words ≡ shown text.now) }
     {
+        Words::of_bytes(alloc, text.as_bytes())
+    }
+
+    /// Bytes; each of them that is no printable ASCII character stands as `\x` and its two digits.
+    pub fn of_bytes(alloc: Global, bytes: &[u8]) -> Result<Words, AllocError>
+        ensures { IfOk result (λ words. words ≡ shown bytes.now) }
+    {
         Ok(Words {
-            text: printable(alloc, text.as_bytes())?,
+            text: printable(alloc, bytes)?,
         })
+    }
+
+    /// A caret behind so many blanks.
+    pub fn caret(alloc: Global, blanks: usize) -> Result<Words, AllocError>
+        ensures { IfOk result (λ words. words ≡ caret_behind blanks) }
+    {
+        let mut text = String::new(alloc);
+        for _ in 0..blanks {
+            text.push_str(" ")?;
+        }
+        text.push_str("^")?;
+        Ok(Words { text })
     }
 
     /// The text.

@@ -1,6 +1,5 @@
-use Rattle.std.proofs.Common.{◌≡◌, ℕ, ◌≤◌, ◌<◌, ◌+◌, ◌-◌, ◌*◌, List, take, sym, subst, arith, slice_index_or}
+use Rattle.std.proofs.Common.{◌≡◌, ℕ, ◌≤◌, ◌<◌, ◌+◌, ◌-◌, List, take, sym, subst, arith, slice_index_or}
 use Rattle.std.proofs.lemmas.List.{take_all, get_or_default}
-use Rattle.std.specs.List.{All}
 use Rattle.std.proofs.lemmas.List.Elements.{All-more, All-same, All-weaker}
 use Rattle.elf32.specs.declared.range.AddressRange.{AddressRange}
 use Rattle.diagnosis.specs.Pages.{IsHeldBy}
