@@ -1,0 +1,5 @@
+use Rattle.cell.specs.Sitting.{IsOf}
+use Rattle.cell_tests.proofs.two_guest_tests.runs.Given as goal
+
+abbrev pub invariant-loop : goal.invariant-loop
+invariant-loop g l = IsOf l.cell.front l.seat

@@ -1,0 +1,3 @@
+pub mod Crewing
+pub mod Places
+pub mod Seats
