@@ -59,6 +59,7 @@ one_for guests slots (event.Evict guest page) allowed = inside guests guest allo
 one_for guests slots event.Sample allowed = tt
 one_for guests slots event.Level allowed = tt
 one_for guests slots event.Audit allowed = tt
+one_for guests slots (event.AuditGuest guest) allowed = inside guests guest allowed
 one_for guests slots (event.Dump guest) allowed = inside guests guest allowed
 one_for guests slots (event.Stats guest) allowed = inside guests guest allowed
 one_for guests slots (event.Damage slot byte) allowed =

@@ -1,5 +1,6 @@
 //! The command `sim`.
-ghost use Rattle.std.specs.Prelude.{◌≡◌, ◌⊎◌, ◌↔◌, All, IfErr, IfOk, IsErrOf, IsTrue, Ok, OnOk, false, length, map, true};
+ghost use Rattle.std.specs.Prelude.{◌≡◌, ◌⊎◌, ◌↔◌, All, IfErr, IfOk, IfSome, IsErrOf, IsTrue, Ok, OnOk, false, length, map, true};
+ghost use Rattle.elf32.specs.Images.{FitsPages};
 ghost use Rattle.script.specs.Courses.{course_of};
 ghost use Rattle.script.specs.Scripts.{script_of};
 ghost use Rattle.script.specs.Views.{block_view, script_view};
@@ -11,9 +12,10 @@ ghost use Rattle.commands.specs.Sims.{IsKnown, IsOver, IsSimulation, config_of, 
 use crate::fault::{Fault, of_file};
 use crate::image_file::{Loaded, elf_image, whole_file};
 use crate::order::Sim;
+use elf32::Image;
 use script::{Block, GuestLine, Header, Script, ScriptError, StoreCall};
 use simulation::{SimError, simulate};
-use std::alloc::Global;
+use std::alloc::{AllocError, Global};
 use std::fs::File;
 use std::io::Write;
 use std::rt::Files;
@@ -25,6 +27,9 @@ use world::{Config, NewGuest, are_within_limits};
 
 /// The greatest number of runs that a guest's log may have.
 const LOG_RUNS: u32 = 1_048_576;
+
+/// The greatest number of guests.
+const MOST_GUESTS: usize = 16;
 
 /// The text of a script's file: each sequence of bytes that is no UTF-8 stands as U+FFFD.
 ///
@@ -51,7 +56,8 @@ pub enum SimFault<'a> {
 /// Does the events of a script in a world of its guests, over a store in memory, and writes the reply to each as soon as it is done,
 /// behind the number of its line where `numbered` says so.
 ///
-/// An error is `Refused`, before anything is written: `Script` with the first line that is refused, before any other file is read; `File`
+/// An error is `Refused`, before anything is written: `Script` with the first line that is refused, and `Boot` where there are more than
+/// 16 guests, before any other file is read; `File`
 /// where a guest's file can't be read and `Elf` with its first fault, guest after guest; `Boot` where the world is refused; `Memory` where a
 /// request for memory was refused. Behind the boot it is `Memory`, where the replies to the first events are written, or `Output` where a
 /// reply could not be. The line `profile` is refused like a word of no event.
@@ -85,6 +91,11 @@ fn loaded<'a, R: Files + AllocGlobal>(
     ensures faults { IfErr result (λ fault. IsLoadFault text.now fault) }
 {
     let Script { header, blocks } = script_in(rt.alloc(), text)?;
+    if header.guests.len() > MOST_GUESTS {
+        return Err(Fault::Boot {
+            error: BootError::Limits,
+        });
+    }
     let guests = load_guests(rt, &header.guests)?;
     Ok((header, blocks, guests))
 }
@@ -140,7 +151,8 @@ fn is_unknown(line: &str) -> bool {
     name == "profile"
 }
 
-/// The guests of a script's header, with the images of their files.
+/// The guests of a script's header, with the images of their files. A file is read once for all lines that have its name, unless the
+/// pages of a line don't hold what was read: then it is read again, and refused.
 fn load_guests<'a, R: Files + AllocGlobal>(
     rt: &R,
     lines: &[GuestLine<'a>],
@@ -150,29 +162,57 @@ fn load_guests<'a, R: Files + AllocGlobal>(
 {
     let mut guests = Vec::with_capacity(rt.alloc(), lines.len())?;
     for line in lines {
-        guests.push_reserved(load_guest(rt, *line)?);
+        let image = match image_of_name(&guests, lines, *line)? {
+            Some(image) => image,
+            None => load_image(rt, *line)?,
+        };
+        guests.push_reserved(new_guest(*line, image));
     }
     Ok(guests)
 }
 
-/// A guest of a script's header, with the image of its file.
-fn load_guest<'a, R: Files + AllocGlobal>(
+/// The image of an earlier guest whose file has the name of a line's, where the line's pages hold it.
+fn image_of_name(
+    guests: &[NewGuest],
+    lines: &[GuestLine<'_>],
+    line: GuestLine<'_>,
+) -> Result<Option<Arc<Image, Global>>, AllocError>
+    ensures { IfOk result (λ found. IfSome found (λ image. FitsPages image.value line.pages)) }
+{
+    for (guest, earlier) in guests.iter().zip(lines) {
+        if earlier.file == line.file && guest.image.fits(line.pages) {
+            return Ok(Some(guest.image.clone()?));
+        }
+    }
+    Ok(None)
+}
+
+/// The image of the file of a guest of a script's header.
+fn load_image<'a, R: Files + AllocGlobal>(
     rt: &R,
     line: GuestLine<'a>,
-) -> Result<NewGuest, Fault<'a>>
-    ensures numbers { IfOk result (λ guest. numbers_of guest ≡ line_numbers line.entry) }
+) -> Result<Arc<Image, Global>, Fault<'a>>
+    ensures fits { IfOk result (λ image. FitsPages image.value line.entry.pages) }
     ensures faults { IfErr result (λ fault. IsFileFault fault) }
 {
     let file = of_file(line.file, File::open(rt, line.file))?;
     let Loaded { image, digest: _ } = elf_image(rt.alloc(), file, line.file, line.pages)?;
     match Arc::new(rt.alloc(), image) {
-        Ok(image) => Ok(NewGuest {
-            image,
-            pages: line.pages,
-            shares: line.shares,
-            minimum: line.minimum.unwrap_or(DEFAULT_MINIMUM),
-        }),
+        Ok(image) => Ok(image),
         Err(_) => Err(Fault::Memory),
+    }
+}
+
+/// A guest of a script's header, with an image.
+fn new_guest(line: GuestLine<'_>, image: Arc<Image, Global>) -> NewGuest
+    ensures numbers { numbers_of result ≡ line_numbers line.entry }
+    ensures image { result.image ≡ image }
+{
+    NewGuest {
+        image,
+        pages: line.pages,
+        shares: line.shares,
+        minimum: line.minimum.unwrap_or(DEFAULT_MINIMUM),
     }
 }
 

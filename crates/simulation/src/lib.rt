@@ -15,10 +15,12 @@
 pub mod acts;
 mod blocks;
 mod doing;
+pub mod pages;
 pub mod said;
 pub mod text;
 pub mod transcript;
 
 pub use acts::Act;
+pub use pages::PageCounts;
 pub use said::Said;
 pub use transcript::{SimError, simulate};
