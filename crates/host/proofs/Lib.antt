@@ -1,4 +1,5 @@
 pub mod Admitted
+pub mod Crossing
 pub mod Ending
 pub mod Fronts
 pub mod Guests
