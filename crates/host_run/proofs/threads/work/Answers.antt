@@ -1,0 +1,16 @@
+use denote.Param.{param}
+use denote.Param.Send.{IsSync, sendable}
+use Rattle.std.proofs.Crossing.{crosses}
+use Rattle.std.proofs.alloc.Global.TheSendSync as heap
+use Rattle.cell.proofs.seat.Seat.TheSendSync as seat
+use Rattle.host.proofs.Crossing.{host_sync}
+use Rattle.host.specs.contracts.host.Host as Host
+use Rattle.host_run.proofs.Crossing.{switches_sync}
+use Rattle.host_run.specs.contracts.switches.Switches as Switches
+use Rattle.host_run.proofs.threads.work.Goals as goal
+
+pub join-requires-send-F : goal.join-requires-send-F
+join-requires-send-F g c κs within =
+    let shared : IsSync (Host.the_row (param 0 g.row.S) (param 1 g.row.G) g.S.SwapStore) = host_sync (param 0 g.row.S) (param 1 g.row.G) g.S.SwapStore c.type_bounds.send-S c.type_bounds.sync-G in
+    let told : IsSync Switches.the_row = switches_sync in
+    search (sendable, crosses, seat.the_send, heap.the_field_sync) depth 60
