@@ -1,0 +1,15 @@
+use Rattle.std.proofs.Common.{rules, ◌≡◌, length}
+use Rattle.host_policy_tests.proofs.Seats.{first_of_two, second_of_two}
+use Rattle.host_policy_tests.proofs.bench.two_handles.Goals as goal
+
+pub returns-clause-first : goal.returns-clause-first
+returns-clause-first g c =
+    let two : length c.args.guests.now.cells.items ≡ 2 = search rules in
+    first_of_two c.args.guests.now.cells.items c.args.handles.items c.pop.new.self.items c.pop-2.new.self.items c.in-Some-pop.one c.in-Some.two two c.requires c.in-Some.ensures.items
+    c.in-Some-pop.ensures.items
+
+pub returns-clause-second : goal.returns-clause-second
+returns-clause-second g c =
+    let two : length c.args.guests.now.cells.items ≡ 2 = search rules in
+    second_of_two c.args.guests.now.cells.items c.args.handles.items c.pop.new.self.items c.pop-2.new.self.items c.in-Some-pop.one c.in-Some.two two c.requires c.in-Some.ensures.items
+    c.in-Some-pop.ensures.items
