@@ -2,10 +2,10 @@
 _vmhost() {
     local word=${COMP_WORDS[COMP_CWORD]} before=${COMP_WORDS[COMP_CWORD - 1]} words
     if [ "$COMP_CWORD" = 1 ]; then
-        words='asm dis exec replay sim help --help --version'
+        words='asm dis exec replay sim run help --help --version'
     else
         case $before in
-            --pages | --steps | --in | --memory) return ;;
+            --pages | --steps | --in | --memory | --frames | --slots | --port | --seed) return ;;
             --until) mapfile -t COMPREPLY < <(compgen -W 'loop exception 0x' -- "$word"); return ;;
         esac
         case ${COMP_WORDS[1]} in
@@ -13,7 +13,8 @@ _vmhost() {
             replay) words='--raw --help' ;;
             asm | dis) words='--help' ;;
             sim) words='--lines --help' ;;
-            help) words='asm dis exec replay sim' ;;
+            run) words='--frames --slots --swap --port --seed --logs --admit --help' ;;
+            help) words='asm dis exec replay sim run' ;;
         esac
     fi
     if [ "$COMP_CWORD" = 1 ] || [ "${COMP_WORDS[1]}" = help ] || [ "${word#-}" != "$word" ]; then

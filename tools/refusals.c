@@ -1,5 +1,5 @@
 /* Counts a program's requests for memory, and refuses the one of the number in REFUSED (0: none). How many there were is written
- * to the file COUNTED as the program ends. `tools/refusals` loads it before the C library. One thread alone is expected. */
+ * to the file COUNTED as the program ends, by `exit` or by `_exit`. `tools/refusals` loads it before the C library. One thread alone is expected. */
 #define _GNU_SOURCE
 #include <dlfcn.h>
 #include <errno.h>
@@ -7,6 +7,7 @@
 #include <stdlib.h>
 #include <unistd.h>
 #include <fcntl.h>
+#include <sys/syscall.h>
 
 static unsigned long count, refused;
 static int is_on;
@@ -64,7 +65,14 @@ __attribute__((destructor)) static void end(void)
     is_on = 0;
     if (file >= 0) {
         if (write(file, text, snprintf(text, sizeof text, "%lu\n", count)) < 0)
-            _exit(99);
+            syscall(SYS_exit_group, 99);
         close(file);
     }
+}
+
+void _exit(int status)
+{
+    end();
+    for (;;)
+        syscall(SYS_exit_group, status);
 }

@@ -20,3 +20,7 @@ HasNoUntil words = All (λ (word : String Global). starts_with nat_eq (string_by
 -- no word of a command line is `sim`
 abbrev pub HasNoSim : List (String Global) → Type 0
 HasNoSim words = All (λ (word : String Global). bytes_eq (string_bytes word) (codes "sim") ≡ false) words
+
+-- no word of a command line is `run`
+abbrev pub HasNoRun : List (String Global) → Type 0
+HasNoRun words = All (λ (word : String Global). bytes_eq (string_bytes word) (codes "run") ≡ false) words

@@ -6,7 +6,8 @@ use commands::image_file::whole_file;
 use commands::{Asm, Dis, Exec, Fault, Replay};
 use diagnosis::{Excerpt, Memory, Words, boot, elf, file, log, raw, script_line, source};
 use output_file::is_one_file;
-use script::Script;
+use run_command::{GuestOrder, RunOrder};
+use script::{GuestLine, Header, Script};
 use std::alloc::Global;
 use std::fs::File;
 use std::io::{ErrorKind, Read};
@@ -28,6 +29,8 @@ pub enum Subject<'a> {
     ScriptFile,
     /// The events of a script of this text were to be done.
     Script(&'a str),
+    /// Guests were to be run.
+    Run(&'a RunOrder<'a>),
 }
 
 /// Words for a fault of what was asked for.
@@ -64,7 +67,7 @@ fn plain_file<R: Files>(rt: &R, name: &str) -> Option<R::File> {
 
 /// Why a file can't be read or written.
 fn file_words<R: Files + AllocGlobal>(rt: &R, subject: Subject<'_>, name: &str) -> Option<Words> {
-    let reason = match own_reason(rt, subject) {
+    let reason = match own_reason(rt, subject, name) {
         Some(reason) => reason,
         None => match system_reason(rt, name) {
             Some(ErrorKind::NotFound) if is_output(subject, name) => file::UNMADE,
@@ -75,22 +78,71 @@ fn file_words<R: Files + AllocGlobal>(rt: &R, subject: Subject<'_>, name: &str) 
 }
 
 /// Why the command refuses the names of its files.
-fn own_reason<R: Files + AllocGlobal>(rt: &R, subject: Subject<'_>) -> Option<&'static str> {
+fn own_reason<R: Files + AllocGlobal>(
+    rt: &R,
+    subject: Subject<'_>,
+    name: &str,
+) -> Option<&'static str> {
     match subject {
-        Subject::Asm(order) if order.source == order.output => Some(file::SOURCE_IS_OUTPUT),
-        Subject::Asm(order) if is_one_file(rt, order.source, order.output) => {
-            Some(file::SOURCE_LEADS_TO_OUTPUT)
-        }
-        Subject::Exec(order) if is_log(order, order.image) => Some(file::IMAGE_IS_LOG),
-        Subject::Exec(
-            Exec {
-                log: Some(log),
-                image,
-                ..
-            },
-        ) if is_one_file(rt, log, image) => Some(file::IMAGE_LEADS_TO_LOG),
+        Subject::Asm(order) => reason_of_asm(rt, order),
+        Subject::Exec(order) => reason_of_exec(rt, order),
+        Subject::Run(order) => reason_of_run(rt, order, name),
         _ => None,
     }
+}
+
+fn reason_of_asm<R: Files + AllocGlobal>(rt: &R, order: Asm<'_>) -> Option<&'static str> {
+    if order.source == order.output {
+        Some(file::SOURCE_IS_OUTPUT)
+    } else if is_one_file(rt, order.source, order.output) {
+        Some(file::SOURCE_LEADS_TO_OUTPUT)
+    } else {
+        None
+    }
+}
+
+fn reason_of_exec<R: Files + AllocGlobal>(rt: &R, order: Exec<'_>) -> Option<&'static str> {
+    let log = order.log?;
+    if log == order.image {
+        Some(file::IMAGE_IS_LOG)
+    } else if is_one_file(rt, log, order.image) {
+        Some(file::IMAGE_LEADS_TO_LOG)
+    } else {
+        None
+    }
+}
+
+fn reason_of_run<R: Files + AllocGlobal>(
+    rt: &R,
+    order: &RunOrder<'_>,
+    name: &str,
+) -> Option<&'static str> {
+    if name == order.swap && is_image(rt, order) {
+        Some(SWAP_IS_IMAGE)
+    } else if name == order.logs && !is_missing(rt, name) {
+        Some(NO_DIRECTORY)
+    } else {
+        None
+    }
+}
+
+const SWAP_IS_IMAGE: &str = "the swap file is the image of a guest too: give it another name";
+
+const NO_DIRECTORY: &str = "it is no directory";
+
+/// Whether the swap file of a run is the image of a guest too.
+fn is_image<R: Files + AllocGlobal>(rt: &R, order: &RunOrder<'_>) -> bool {
+    for guest in &order.guests {
+        if is_one_file(rt, order.swap, guest.image) {
+            return true;
+        }
+    }
+    false
+}
+
+/// Whether there is no file of a name.
+fn is_missing<R: Files>(rt: &R, name: &str) -> bool {
+    fs::metadata(rt, name).is_err()
 }
 
 /// Whether the log of a run has this name.
@@ -191,6 +243,7 @@ fn executable_words<R: Files + AllocGlobal>(
         }
         Subject::Dis(order) => image_words(rt, order.image, Memory::Kseg0, fault),
         Subject::Script(text) => guest_words(rt, text, fault),
+        Subject::Run(order) => run_guest_words(rt, order, fault),
         Subject::Asm(_) | Subject::ScriptFile => None,
     }
 }
@@ -227,6 +280,25 @@ fn guest_words<R: Files + AllocGlobal>(rt: &R, text: &str, fault: elf32::Fault) 
     None
 }
 
+/// What is wrong with the first executable that is refused of a run's guests, where it has this fault.
+fn run_guest_words<R: Files + AllocGlobal>(
+    rt: &R,
+    order: &RunOrder<'_>,
+    fault: elf32::Fault,
+) -> Option<Words> {
+    for (number, guest) in order.guests.iter().enumerate() {
+        let bytes = contents(rt, guest.image)?;
+        let memory = Memory::Guest { pages: guest.pages };
+        if let Some(refusal) = elf::explain(rt.alloc(), &bytes, memory).ok()? {
+            if refusal.fault != fault {
+                return None;
+            }
+            return elf::of_guest(rt.alloc(), number, guest.image, &refusal.words).ok();
+        }
+    }
+    None
+}
+
 /// The number of pages that a log is of.
 fn log_pages<R: Files + AllocGlobal>(rt: &R, order: Replay<'_>) -> Option<u32> {
     log::pages(&contents(rt, order.log)?)
@@ -255,7 +327,45 @@ fn script_words(alloc: Global, subject: Subject<'_>, line: u64) -> Option<Words>
     script_line::explain(alloc, text, line).ok()
 }
 
-/// Why a machine or the guests of a script are not booted.
+/// The number of the refusal of guests a page of whose images the store failed to write.
+const BOOT_STORE: u32 = 4;
+
+/// What a run's order says, as the header of a script says it.
+fn header_of<'a>(alloc: Global, order: &RunOrder<'a>) -> Option<Header<'a>> {
+    let mut guests = Vec::new(alloc);
+    for guest in &order.guests {
+        guests.push(line_of(*guest)).ok()?;
+    }
+    Some(Header {
+        frames: order.frames,
+        slots: order.slots,
+        seed: order.seed,
+        guests,
+        profile: None,
+        admit: order.admit,
+        failure: None,
+    })
+}
+
+fn line_of<'a>(guest: GuestOrder<'a>) -> GuestLine<'a> {
+    GuestLine {
+        file: guest.image,
+        pages: guest.pages,
+        shares: guest.shares,
+        minimum: guest.minimum,
+    }
+}
+
+/// Why the guests of a run are not booted.
+fn run_boot_words(alloc: Global, order: &RunOrder<'_>, number: u32) -> Option<Words> {
+    if number == BOOT_STORE {
+        Words::of(alloc, "the swap file did not take a page of an image").ok()
+    } else {
+        boot::of_guests(alloc, number, &header_of(alloc, order)?).ok()?
+    }
+}
+
+/// Why a machine, or the guests of a script or a run, are not booted.
 fn boot_words<R: Files + AllocGlobal>(rt: &R, subject: Subject<'_>, number: u32) -> Option<Words> {
     match subject {
         Subject::Exec(order) => boot::of_machine(rt.alloc(), number, order.pages).ok()?,
@@ -266,6 +376,7 @@ fn boot_words<R: Files + AllocGlobal>(rt: &R, subject: Subject<'_>, number: u32)
             let Script { header, blocks: _ } = script::read(rt.alloc(), text).ok()?;
             boot::of_guests(rt.alloc(), number, &header).ok()?
         }
+        Subject::Run(order) => run_boot_words(rt.alloc(), order, number),
         _ => None,
     }
 }

@@ -6,7 +6,7 @@ Status:
   0  done
   1  an input was refused, or an output could not be written: a line on standard error says which
   2  the command line was refused
-  3  the guest stopped before its last step: the line stop of its dump says why
+  3  the guest stopped before its last step: the line stop of its dump says why; of run: the last slice of a guest was stopped
 
 The lines of an input that was refused:
   vmhost: file NAME      the file can't be read or written
@@ -16,6 +16,7 @@ The lines of an input that was refused:
   vmhost: boot N         a machine, or a script's guests
   vmhost: log N          a log
   vmhost: script line L  a script: the first line that is refused
+  vmhost: port N         no connections can be waited for at the port
   vmhost: memory         the host has no memory left
 
 K, of a source:
@@ -69,6 +70,32 @@ The lines behind the dump:
   llbit B, slot W                      whether an SC would store, what follows the delay slot that PC stands in,
   tlb N hi W lo0 W lo1 W               and the entries of the TLB as EntryHi, EntryLo0 and EntryLo1
   mem W HEX                            with --memory its bytes, 16 a line; mem W no place where one has no place in memory";
+
+/// What lines of the monitor say, and what is replied.
+pub const MONITOR: &str = "\
+The lines on standard input, and what is replied to each:
+  list         guest G pages P resident R given V swapped W shares S run, or held, blocked or stop S, for each guest; then end
+  books        frames N free N private N shared N refs N slots N of N
+  level        level high, level soft, level hard or level low, at which guests may be blocked
+  tax N        ok: the tax on idle pages is N percent, 0 to 99 (75 at first)
+  target G N   ok: guest G's balloon is asked for N pages
+  hold G       ok: guest G makes no step until go; a debugger's connection holds it too
+  go G         ok: it goes on
+  log G        log G items N runs R: the sizes of its log
+  in G HEX     bytes for its console: in G K, how many were taken
+  drain G      the console's output: drain G HEX, or - for none
+  room         room frames A slots B, what the guests' minimums leave, or room none
+  help         these lines; then end
+  quit         ok, once all guests are held, each debugger has left, and the logs are written
+
+The end of the input is quit without a reply. A line that is refused: error command, error number, error guest, error range or
+error stop S.
+
+Each guest runs in a thread; another compares pages of all guests, and makes a turn of the policy after each 64 of them. At port P + G
+of 127.0.0.1 a debugger has guest G, one at a time.
+
+S:
+  1  no frame  2  no slot  3  a slot that could not be read  4  a slot that is damaged  5  no memory left  6  a log that is full";
 
 /// What a script says, and what is replied.
 pub const EVENTS: &str = "\

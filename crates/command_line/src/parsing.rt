@@ -1,10 +1,11 @@
 //! The command line.
-use crate::help::{DUMP, EVENTS, REFUSALS, RUN};
+use crate::help::{DUMP, EVENTS, MONITOR, REFUSALS, RUN};
 use clap::error::ErrorKind;
 use clap::{Arg, ArgAction, ArgMatches, Command, Error, value_parser};
 use commands::{Asm, ConsoleInput, Dis, Exec, Format, MachineKind, Replay, Sim};
 use hex::FromHexError;
 use inspection::{Extras, LONGEST_REGION, Region};
+use run_command::{GuestOrder, RunOrder, guest_of};
 use runs::Until;
 use std::alloc::{AllocError, Global};
 
@@ -21,6 +22,8 @@ pub enum Order<'a> {
     Replay(Replay<'a>),
     /// Do the events of a script in a world of several guests, and print what is replied to each.
     Sim(Sim<'a>),
+    /// Run several guests on threads of their own, at a person's hand.
+    Run(RunOrder<'a>),
 }
 
 /// What a run is given beside its order.
@@ -42,6 +45,7 @@ enum Asked<'a> {
     Exec(Exec<'a>),
     Replay(Replay<'a>),
     Sim(Sim<'a>),
+    Run,
     Refused(&'static str),
 }
 
@@ -66,6 +70,10 @@ fn order_in<'a>(
         Some(Asked::Sim(sim)) => Ok(Order::Sim(sim)),
         Some(Asked::Exec(exec)) => match settings_of(alloc, &matches)? {
             Ok(settings) => Ok(Order::Exec(exec, settings)),
+            Err(reason) => Err(command.error(ErrorKind::ValueValidation, reason)?),
+        },
+        Some(Asked::Run) => match run_of(alloc, &matches)? {
+            Ok(run) => Ok(Order::Run(run)),
             Err(reason) => Err(command.error(ErrorKind::ValueValidation, reason)?),
         },
         Some(Asked::Refused(reason)) => Err(command.error(ErrorKind::ValueValidation, reason)?),
@@ -97,6 +105,64 @@ fn settings_of(
         extras: Extras { all, memory },
     }))
 }
+
+/// What the matches of `run` ask for, or what is wrong with it.
+fn run_of<'a>(
+    alloc: Global,
+    matches: &ArgMatches<'a>,
+) -> Result<Result<RunOrder<'a>, &'static str>, AllocError> {
+    let Some((_, of_run)) = matches.subcommand() else {
+        return Ok(Err("no command"));
+    };
+    for name in [FRAMES, SLOTS, PORT, SEED] {
+        if !is_digits(of_run.get_str(name).unwrap_or("")) {
+            return Ok(Err(NUMBER_REFUSED));
+        }
+    }
+    let mut guests = Vec::new(alloc);
+    for &word in of_run.get_strs(GUEST).unwrap_or(&[]) {
+        match guest_of(word) {
+            Ok(guest) => guests.push(guest)?,
+            Err(fault) => return Ok(Err(fault.text())),
+        }
+    }
+    match settled(of_run, guests) {
+        Some(run) => Ok(run),
+        None => Ok(Err("no command")),
+    }
+}
+
+/// What is wrong with a number of `run`.
+const NUMBER_REFUSED: &str =
+    "a value of '--frames <N>', '--slots <N>', '--port <N>' or '--seed <N>' is not decimal digits alone";
+
+/// What is wrong with the port of `run`.
+const PORT_REFUSED: &str =
+    "the value of '--port <N>' and the number of guests are more than 65535 together";
+
+/// What the matches of `run` ask for, of these guests; each argument but `--admit` is required.
+fn settled<'a>(
+    of_run: &ArgMatches<'a>,
+    guests: Vec<GuestOrder<'a>>,
+) -> Option<Result<RunOrder<'a>, &'static str>> {
+    let port: u32 = of_run.get_one(PORT)?;
+    if u64::from(port) + guests.len() as u64 > LAST_PORT {
+        return Some(Err(PORT_REFUSED));
+    }
+    Some(Ok(RunOrder {
+        frames: of_run.get_one(FRAMES)?,
+        slots: of_run.get_one(SLOTS)?,
+        swap: of_run.get_str(SWAP)?,
+        port: port as u16,
+        seed: of_run.get_one(SEED)?,
+        logs: of_run.get_str(LOGS)?,
+        admit: of_run.get_flag(ADMIT),
+        guests,
+    }))
+}
+
+/// The greatest number of a port.
+const LAST_PORT: u64 = 65_535;
 
 /// What is wrong with a state that a run is to end at.
 const UNTIL_REFUSED: &str =
@@ -180,6 +246,7 @@ fn asked_of<'a>(matches: &ArgMatches<'a>) -> Option<Asked<'a>> {
         (DIS, of_dis) => Some(Asked::Dis(dis_of(of_dis)?)),
         (REPLAY, of_replay) => Some(Asked::Replay(replay_of(of_replay)?)),
         (SIM, of_sim) => Some(Asked::Sim(sim_of(of_sim)?)),
+        (RUN_GUESTS, _) => Some(Asked::Run),
         (_, of_exec) => exec_asked(of_exec),
     }
 }
@@ -219,6 +286,8 @@ const REPLAY: &str = "replay";
 
 const SIM: &str = "sim";
 
+const RUN_GUESTS: &str = "run";
+
 /// The option that gives console input.
 const INPUT: &str = "in";
 
@@ -237,12 +306,30 @@ const PAGES: &str = "pages";
 
 const STEPS: &str = "steps";
 
+const FRAMES: &str = "frames";
+
+const SLOTS: &str = "slots";
+
+const PORT: &str = "port";
+
+const SEED: &str = "seed";
+
+/// The options of `run` that name a file and a directory, the one that has guests admitted by their minimums, and the guests.
+const SWAP: &str = "swap";
+
+const LOGS: &str = "logs";
+
+const ADMIT: &str = "admit";
+
+const GUEST: &str = "guest";
+
 fn whole_command<'a>(alloc: Global) -> Result<Command<'a>, AllocError> {
     let command = with_subcommand(bare_command(alloc)?, asm_command(alloc))?;
     let command = with_subcommand(command, dis_command(alloc))?;
     let command = with_subcommand(command, exec_command(alloc))?;
     let command = with_subcommand(command, replay_command(alloc))?;
-    with_subcommand(command, sim_command(alloc))
+    let command = with_subcommand(command, sim_command(alloc))?;
+    with_subcommand(command, guests_command(alloc))
 }
 
 /// The command without its subcommands, of which it demands one.
@@ -309,6 +396,53 @@ fn sim_command<'a>(alloc: Global) -> Result<Command<'a>, AllocError> {
         .arg(file(alloc, "script", "SCRIPT").help(
             "The file of the script, or - for standard input",
         ))
+}
+
+fn guests_command<'a>(alloc: Global) -> Result<Command<'a>, AllocError> {
+    let command = Command::new(alloc, RUN_GUESTS)
+        .about("Runs guests on threads of their own, and does what lines on standard input say")
+        .after_help(MONITOR)
+        .arg(wanted(alloc, FRAMES, "N").help("Machine frames, of 4,096 bytes each: 4 to 65536"))?
+        .arg(wanted(alloc, SLOTS, "N").help("Slots of the swap file: 0 to 131072"))?
+        .arg(named(alloc, SWAP, "FILE").help("The swap file, which is made where it is not there"))?
+        .arg(wanted(alloc, PORT, "N").help(
+            "The port on 127.0.0.1 at which a debugger has guest 0, the others behind it; 0 for none",
+        ))?
+        .arg(wanted(alloc, SEED, "N").help(
+            "The seed of the words by which the pages are drawn that leave their frames",
+        ))?;
+    let command = command.arg(named(alloc, LOGS, "DIR").help(
+        "The directory that the guests' logs are written to at the end, 0.log and so on",
+    ))?;
+    command
+        .arg(flag(alloc, ADMIT).help(
+            "Boot only where there are frames for the guests' minimums, and slots for their other pages",
+        ))?
+        .arg(guests(alloc))
+}
+
+fn guests<'a>(alloc: Global) -> Arg<'a> {
+    Arg::new(alloc, GUEST)
+        .value_name("GUEST")
+        .required(true)
+        .num_args(1..)
+        .action(ArgAction::Append)
+        .help(
+            "IMAGE:PAGES:SHARES or IMAGE:PAGES:SHARES:MINIMUM, a guest: the file of its executable, the pages of its memory, 2 to 16384, its shares of the machine's memory, 1 to 1000000, and how many pages in frames it always keeps, 2 where it isn't given",
+        )
+}
+
+/// An option that gives a number, which has to be there.
+fn wanted<'a>(alloc: Global, name: &'a str, value: &'a str) -> Arg<'a> {
+    named(alloc, name, value).value_parser(value_parser!(u32))
+}
+
+/// An option that has to be there.
+fn named<'a>(alloc: Global, name: &'a str, value: &'a str) -> Arg<'a> {
+    Arg::new(alloc, name)
+        .long(name)
+        .value_name(value)
+        .required(true)
 }
 
 fn with_flags<'a>(alloc: Global, command: Command<'a>) -> Result<Command<'a>, AllocError> {

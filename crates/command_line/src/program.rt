@@ -1,7 +1,7 @@
 //! The program, over any files, reader and writers.
 ghost use Rattle.std.specs.Prelude.{◌≡◌, ◌≢◌, ◌<◌, ◌⊎◌, false, IfOk};
 ghost use Rattle.std.specs.IoError.{error_kind};
-ghost use Rattle.command_line.specs.Exit.{code_of, HasNoSim, HasNoUntil};
+ghost use Rattle.command_line.specs.Exit.{code_of, HasNoRun, HasNoSim, HasNoUntil};
 
 use crate::explaining::{Subject, excerpt_of, explain, explain_later};
 use crate::parsing::{Order, Settings, parse};
@@ -11,9 +11,14 @@ use commands::{
     replay_log, run_image, run_script, script_text,
 };
 use diagnosis::Excerpt;
+use run_command::{RunFault, RunOrder, RunStatus, run_order};
 use runs::Ending;
+use std::fs::File;
 use std::io::{BufRead, ErrorKind, Write};
+use std::net::{Net, TcpListener, TcpStream};
 use std::rt::{Env, Files};
+use std::sync::Wait;
+use std::thread::Threads;
 use std::{env, io};
 
 /// How the program ends.
@@ -25,7 +30,7 @@ enum Status {
     Refused,
     /// The command line was refused.
     Usage,
-    /// The machine stopped before its last step.
+    /// The machine stopped before its last step, or the last slice of a guest was stopped.
     Stopped,
 }
 
@@ -53,9 +58,10 @@ enum Answer {
 }
 
 /// Does what the words of the command line ask for, and gives the status to exit with. The name of the program is not
-/// among the words. `input` is not read yet.
+/// among the words. `input` is read by the command `run` alone.
 ///
-/// At least one of `out` and `err` stays as it was, but where a word begins with `--until` or is `sim`: with the first `err` may have the line
+/// At least one of `out` and `err` stays as it was, but where a word begins with `--until`, or is `sim` or `run`: with the last both get lines, as
+/// `run_order` has it; with the first `err` may have the line
 /// `vmhost: ended: ` with the state that a run ended at, beside what is printed; with the second the replies to the first events of a
 /// script may stand in `out` where `err` says that there was no memory for more. Status 0: done, and `out` has what the command prints. 1: an
 /// input was refused, and the line `vmhost: ` with the fault stands in `err`, and words for it may stand behind that; or there was no memory
@@ -63,24 +69,29 @@ enum Answer {
 /// stopped before its last step; the last line in `out` says why.
 pub fn program<R, I, O, E>(rt: &R, words: &[String], input: &mut I, out: &mut O, err: &mut E) -> u8
 where
-    R: Files + AllocGlobal,
+    R: Files<File = File>
+        + AllocGlobal
+        + Threads
+        + Wait
+        + Net<Listener = TcpListener, Stream = TcpStream>
+        + Sync,
     I: BufRead,
     O: Write,
     E: Write,
     ensures range { result < 4 }
-    ensures input { input.new ≡ input.old }
+    ensures input { HasNoRun words.now → input.new ≡ input.old }
     ensures usage { result ≡ 2 → out.new ≡ out.old }
-    ensures done { result ≡ 0 → HasNoUntil words.now → err.new ≡ err.old }
-    ensures stopped { result ≡ 3 → err.new ≡ err.old }
-    ensures one_output { HasNoUntil words.now → HasNoSim words.now → (out.new ≡ out.old) ⊎ (err.new ≡ err.old) }
+    ensures done { result ≡ 0 → HasNoUntil words.now → HasNoRun words.now → err.new ≡ err.old }
+    ensures stopped { result ≡ 3 → HasNoRun words.now → err.new ≡ err.old }
+    ensures one_output { HasNoUntil words.now → HasNoSim words.now → HasNoRun words.now → (out.new ≡ out.old) ⊎ (err.new ≡ err.old) }
 {
-    // No command reads standard input.
-    let _ = input;
     let tells = Tells {
         ending: mentions_until(words),
         breaking_off: mentions_sim(words),
+        running: mentions_run(words),
     };
     let written = match parse(rt.alloc(), words) {
+        Ok(Order::Run(order)) if tells.running => answer_run(rt, &order, input, out, err),
         Ok(order) => answer_order(rt, order, tells, out, err),
         Err(error) => write_error(&error, out, err),
     };
@@ -98,6 +109,65 @@ struct Tells {
     ending: bool,
     /// That there was no memory for the rest of a script's replies.
     breaking_off: bool,
+    /// Which guests run, and which of their logs can't be written.
+    running: bool,
+}
+
+/// Whether a word is `run`, so that guests may run.
+fn mentions_run(words: &[String]) -> bool
+    ensures { HasNoRun words.now → result ≡ false }
+{
+    for word in words {
+        if word.as_bytes() == RUN_COMMAND {
+            return true;
+        }
+    }
+    false
+}
+
+/// The command that runs guests.
+const RUN_COMMAND: &[u8] = b"run";
+
+/// Runs guests, by the lines of `input`.
+fn answer_run<R, I, O, E>(
+    rt: &R,
+    order: &RunOrder<'_>,
+    input: &mut I,
+    out: &mut O,
+    err: &mut E,
+) -> io::Result<Status>
+where
+    R: Files<File = File>
+        + AllocGlobal
+        + Threads
+        + Wait
+        + Net<Listener = TcpListener, Stream = TcpStream>
+        + Sync,
+    I: BufRead,
+    O: Write,
+    E: Write,
+    ensures usage { IfOk result (λ s. code_of s ≢ 2) }
+{
+    match run_order(rt, order, input, out, err) {
+        Ok(RunStatus::Done) => Ok(Status::Done),
+        Ok(RunStatus::Stopped) => Ok(Status::Stopped),
+        Ok(RunStatus::Unwritten) => Ok(Status::Refused),
+        Err(RunFault::Command(fault)) => write_refusal(rt, Subject::Run(order), &fault, err),
+        Err(RunFault::Port(port)) => write_port(port, err),
+    }
+}
+
+/// Writes that no connections can be waited for at a port, and words for it.
+fn write_port<E: Write>(port: u16, err: &mut E) -> io::Result<Status>
+    ensures { IfOk result (λ s. code_of s ≡ 1) }
+{
+    writeln!(err, "vmhost: {}", RunFault::Port(port))?;
+    writeln!(
+        err,
+        "  another program has the port, or it may not be had; try another --port, or 0 for none"
+    )?;
+    err.flush()?;
+    Ok(Status::Refused)
 }
 
 /// Whether a word is `sim`, so that a script may be broken off.
@@ -161,6 +231,8 @@ where
             write_answer(rt, Subject::Replay(order), replayed(rt, order), out, err)
         }
         Order::Sim(order) => answer_script(rt, order, tells.breaking_off, out, err),
+        // No word is `run`, so none asks for this.
+        Order::Run(_) => Ok(Status::Refused),
     }
 }
 

@@ -6,9 +6,13 @@ mod sources;
 
 use command_line::program::program;
 use std::alloc::{AllocError, Global};
+use std::fs::File;
+use std::net::{Net, TcpListener, TcpStream};
 use std::process::Abort;
 use std::rt::Files;
+use std::sync::Wait;
 use std::test::Fail;
+use std::thread::Threads;
 use std::{env, fs, io, process};
 
 /// What the program wrote, and the status that it gave.
@@ -40,14 +44,32 @@ enum Step {
 }
 
 /// Makes the steps of a test on the file of this name, and removes its files.
-fn play<R: Files + AllocGlobal + Abort>(rt: &R, file: &str, steps: &[Step]) -> Result<(), Fail> {
+fn play<R>(rt: &R, file: &str, steps: &[Step]) -> Result<(), Fail>
+where
+    R: Files<File = File>
+        + AllocGlobal
+        + Abort
+        + Threads
+        + Wait
+        + Net<Listener = TcpListener, Stream = TcpStream>
+        + Sync,
+{
     for step in steps {
         make(rt, file, *step)?;
     }
     clear(rt, file)
 }
 
-fn make<R: Files + AllocGlobal + Abort>(rt: &R, file: &str, step: Step) -> Result<(), Fail> {
+fn make<R>(rt: &R, file: &str, step: Step) -> Result<(), Fail>
+where
+    R: Files<File = File>
+        + AllocGlobal
+        + Abort
+        + Threads
+        + Wait
+        + Net<Listener = TcpListener, Stream = TcpStream>
+        + Sync,
+{
     match step {
         Step::Source(bytes) => write_source(rt, file, bytes),
         Step::File(bytes) => write(rt, file, bytes),
@@ -99,23 +121,31 @@ fn expect(rt: &impl Abort, line: &str, said: &Said, wanted: (u8, &str, &str)) {
     assert_eq!(rt; found, wanted, "{line}");
 }
 
-fn prints<R: Files + AllocGlobal + Abort>(
-    rt: &R,
-    file: &str,
-    line: &str,
-    out: &str,
-) -> Result<(), Fail> {
+fn prints<R>(rt: &R, file: &str, line: &str, out: &str) -> Result<(), Fail>
+where
+    R: Files<File = File>
+        + AllocGlobal
+        + Abort
+        + Threads
+        + Wait
+        + Net<Listener = TcpListener, Stream = TcpStream>
+        + Sync,
+{
     let said = say(rt, line, file)?;
     expect(rt, line, &said, (0, out, ""));
     Ok(())
 }
 
-fn refuses<R: Files + AllocGlobal + Abort>(
-    rt: &R,
-    file: &str,
-    line: &str,
-    err: &str,
-) -> Result<(), Fail> {
+fn refuses<R>(rt: &R, file: &str, line: &str, err: &str) -> Result<(), Fail>
+where
+    R: Files<File = File>
+        + AllocGlobal
+        + Abort
+        + Threads
+        + Wait
+        + Net<Listener = TcpListener, Stream = TcpStream>
+        + Sync,
+{
     let mut said = say(rt, line, file)?;
     let err = err.replace(rt.alloc(), "FILE", file)?;
     said.err = first_line(rt.alloc(), said.err.as_str())?;
@@ -132,7 +162,15 @@ fn first_line(alloc: Global, text: &str) -> Result<String, AllocError> {
 }
 
 /// Runs the program on a command line, in which `FILE` stands for the name of a file.
-fn say<R: Files + AllocGlobal>(rt: &R, line: &str, file: &str) -> Result<Said, Fail> {
+fn say<R>(rt: &R, line: &str, file: &str) -> Result<Said, Fail>
+where
+    R: Files<File = File>
+        + AllocGlobal
+        + Threads
+        + Wait
+        + Net<Listener = TcpListener, Stream = TcpStream>
+        + Sync,
+{
     let words = words_of(rt.alloc(), line, file)?;
     let mut out = Vec::new(rt.alloc());
     let mut err = Vec::new(rt.alloc());

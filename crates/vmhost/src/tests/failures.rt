@@ -9,11 +9,15 @@ use commands::{Exec, Fault, Format, MachineKind};
 use guest::Stop;
 use output_file::write_bytes;
 use std::alloc::Global;
+use std::fs::File;
 use std::io;
 use std::io::{Read, Write};
+use std::net::{Net, TcpListener, TcpStream};
 use std::process::Abort;
 use std::rt::Files;
+use std::sync::Wait;
 use std::test::Fail;
+use std::thread::Threads;
 
 /// Gives zeros, one at a time, and fails after so many of them.
 #[derive(Drop)]
@@ -181,12 +185,16 @@ static ANSWERS: [(&str, u8); 6] = [
     ("exec", 2),
 ];
 
-fn check_streams<R: Files + AllocGlobal + Abort>(
-    rt: &R,
-    file: &str,
-    line: &str,
-    status: u8,
-) -> Result<(), Fail> {
+fn check_streams<R>(rt: &R, file: &str, line: &str, status: u8) -> Result<(), Fail>
+where
+    R: Files<File = File>
+        + AllocGlobal
+        + Abort
+        + Threads
+        + Wait
+        + Net<Listener = TcpListener, Stream = TcpStream>
+        + Sync,
+{
     let ample = say(rt, line, file)?;
     assert_eq!(rt; ample.status, status, "{line}");
     let words = words_of(rt.alloc(), line, file)?;
@@ -200,12 +208,15 @@ fn check_streams<R: Files + AllocGlobal + Abort>(
 }
 
 /// The status where each output takes so many bytes, and whether both got a beginning of the ample answer.
-fn answer_in<R: Files + AllocGlobal>(
-    rt: &R,
-    words: &[String],
-    room: usize,
-    ample: &Said,
-) -> (u8, bool) {
+fn answer_in<R>(rt: &R, words: &[String], room: usize, ample: &Said) -> (u8, bool)
+where
+    R: Files<File = File>
+        + AllocGlobal
+        + Threads
+        + Wait
+        + Net<Listener = TcpListener, Stream = TcpStream>
+        + Sync,
+{
     let mut out = Narrow::new(rt.alloc(), room);
     let mut err = Narrow::new(rt.alloc(), room);
     let status = program(rt, words, &mut io::empty(), &mut out, &mut err);

@@ -1,9 +1,13 @@
 //! Sources: what they are assembled to, what is printed of that, and what is said of a source that is refused.
 use super::{Step, clear, file_of, holds, play, prints, refuses, write, write_source};
 use std::fs;
+use std::fs::File;
+use std::net::{Net, TcpListener, TcpStream};
 use std::process::Abort;
 use std::rt::Files;
+use std::sync::Wait;
 use std::test::Fail;
+use std::thread::Threads;
 
 /// What assembles a source.
 const ASM: &str = "asm FILE.s FILE";
@@ -61,12 +65,16 @@ static REFUSALS: [(&[u8], &str); 3] = [
     (b"eret # \xff", "vmhost: asm 1 line 1\n"),
 ];
 
-fn check_refusal<R: Files + AllocGlobal + Abort>(
-    rt: &R,
-    file: &str,
-    source: &[u8],
-    want: &str,
-) -> Result<(), Fail> {
+fn check_refusal<R>(rt: &R, file: &str, source: &[u8], want: &str) -> Result<(), Fail>
+where
+    R: Files<File = File>
+        + AllocGlobal
+        + Abort
+        + Threads
+        + Wait
+        + Net<Listener = TcpListener, Stream = TcpStream>
+        + Sync,
+{
     write_source(rt, file, source)?;
     refuses(rt, file, ASM, want)?;
     assert!(rt; !fs::exists(rt, file)?, "{want}");
