@@ -1,0 +1,4 @@
+pub mod Crewing
+pub mod Places
+pub mod Seats
+pub mod Sharing
