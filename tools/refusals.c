@@ -1,5 +1,5 @@
 /* Counts a program's requests for memory, and refuses the one of the number in REFUSED (0: none). How many there were is written
- * to the file COUNTED as the program ends, by `exit` or by `_exit`. `tools/refusals` loads it before the C library. One thread alone is expected. */
+ * to the file COUNTED as the program ends, by `exit` or by `_exit`. `tools/refusals` loads it before the C library. Threads may ask at once. */
 #define _GNU_SOURCE
 #include <dlfcn.h>
 #include <errno.h>
@@ -14,7 +14,7 @@ static int is_on;
 
 static int refuses(void)
 {
-    if (!is_on || ++count != refused)
+    if (!is_on || __atomic_add_fetch(&count, 1, __ATOMIC_RELAXED) != refused)
         return 0;
     errno = ENOMEM;
     return 1;
