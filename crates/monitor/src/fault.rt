@@ -30,7 +30,7 @@ impl Fault {
             Fault::Number => "error number",
             Fault::Guest => "error guest",
             Fault::Range => "error range",
-            Fault::Memory => "error memory",
+            Fault::Memory => "error stop 5",
         }
     }
 }

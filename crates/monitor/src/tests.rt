@@ -71,7 +71,7 @@ fn orders_and_faults(rt: HostRuntime) -> Result<(), Fail> {
     assert_eq!(rt; Fault::Number.text(), "error number");
     assert_eq!(rt; Fault::Guest.text(), "error guest");
     assert_eq!(rt; Fault::Range.text(), "error range");
-    assert_eq!(rt; Fault::Memory.text(), "error memory");
+    assert_eq!(rt; Fault::Memory.text(), "error stop 5");
     Ok(())
 }
 
