@@ -495,16 +495,16 @@ fn end<R: Abort + Wait>(rt: &R, alloc: Global, team: Team) -> (Finished<Store>, 
     }
 }
 
-/// All threads at once over four guests, for so many rounds, while the store's k-th read or write fails; none does for the greatest k. No answer goes astray, the books
-/// add up at each moment that they are looked at, and in the end each guest is in the state that its log makes of the reference machine,
-/// to the last byte.
-pub(crate) fn race<R: Abort + Threads + Wait + Sync>(
+// All threads at once over four guests, for so many rounds, while the store's k-th read or write fails. No answer goes astray, the books add up at each
+// moment that they are looked at, and in the end each guest is in the state that its log makes of the reference machine, to the last byte. The answer is
+// how often the store has failed.
+fn race_once<R: Abort + Threads + Wait + Sync>(
     rt: &R,
     alloc: Global,
     rounds: u32,
     op: Op,
     k: u64,
-) {
+) -> u64 {
     let team = team_of(rt, alloc, booted(rt, alloc, op, k));
     let team = at_once(rt, alloc, team, rounds);
     let (finished, memories) = end(rt, alloc, team);
@@ -514,11 +514,30 @@ pub(crate) fn race<R: Abort + Threads + Wait + Sync>(
         store,
     } = finished;
     assert!(rt; adds_up(&books), "{books:?}");
-    expect(
-        rt,
-        "failures",
-        store.failures(),
-        if k == u64::MAX { 0 } else { 1 },
-    );
+    let failures = store.failures();
     compare_all(rt, alloc, guests, memories);
+    failures
+}
+
+/// How many races there are at most until one in which the store is asked often enough to fail.
+const TRIES: u32 = 20;
+
+/// A race of all threads in which the store's k-th read or write fails; none does for the greatest k. How often a race asks the store is up to the
+/// schedule, so another one is made where it was too seldom.
+pub(crate) fn race<R: Abort + Threads + Wait + Sync>(
+    rt: &R,
+    alloc: Global,
+    rounds: u32,
+    op: Op,
+    k: u64,
+) {
+    let wanted = if k == u64::MAX { 0 } else { 1 };
+    for _ in 0..TRIES {
+        let failures = race_once(rt, alloc, rounds, op, k);
+        if failures == wanted {
+            return;
+        }
+        expect(rt, "failures", failures, 0);
+    }
+    panic!(rt; "the store was never asked often enough");
 }
