@@ -1,0 +1,13 @@
+use denote.Param.{param}
+use denote.Param.Send.{IsSync, sendable}
+use Rattle.std.proofs.Crossing.{crosses}
+use Rattle.std.proofs.alloc.Global.TheSendSync as heap
+use Rattle.cell.proofs.seat.Seat.TheSendSync as seat
+use Rattle.host_tests.proofs.Sharing.{held_row, held_sync}
+use Rattle.host_tests.proofs.waiting_tests.all_at_once.Goals as goal
+
+pub join-one-requires-send-F : goal.join-one-requires-send-F
+join-one-requires-send-F g c κs within =
+    let shared : IsSync held_row = held_sync in
+    let run : IsSync (param 0 g.row.R) = c.type_bounds.sync-R in
+    search (sendable, crosses, seat.the_send, heap.the_field_sync) depth 60 fits 4000
