@@ -1,0 +1,4 @@
+pub mod Crossing
+pub mod Looks
+pub mod Places
+pub mod Seats
