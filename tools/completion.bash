@@ -12,7 +12,7 @@ _vmhost() {
             exec) words='--raw --flat --pages --steps --until --in --log --all --memory --help' ;;
             replay) words='--raw --help' ;;
             asm | dis) words='--help' ;;
-            sim) words='--lines --help' ;;
+            sim) words='--lines --logs --help' ;;
             run) words='--frames --slots --swap --port --seed --logs --admit --help' ;;
             help) words='asm dis exec replay sim run' ;;
         esac

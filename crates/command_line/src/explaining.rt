@@ -27,8 +27,8 @@ pub enum Subject<'a> {
     Replay(Replay<'a>),
     /// The file of a script was to be read.
     ScriptFile,
-    /// The events of a script of this text were to be done.
-    Script(&'a str),
+    /// The events of a script of this text were to be done, and the logs written into this directory, if any.
+    Script(&'a str, Option<&'a str>),
     /// Guests were to be run.
     Run(&'a RunOrder<'a>),
 }
@@ -87,6 +87,7 @@ fn own_reason<R: Files + AllocGlobal>(
         Subject::Asm(order) => reason_of_asm(rt, order),
         Subject::Exec(order) => reason_of_exec(rt, order),
         Subject::Run(order) => reason_of_run(rt, order, name),
+        Subject::Script(_, Some(logs)) if name == logs => reason_of_logs(rt, logs),
         _ => None,
     }
 }
@@ -119,10 +120,18 @@ fn reason_of_run<R: Files + AllocGlobal>(
 ) -> Option<&'static str> {
     if name == order.swap && is_image(rt, order) {
         Some(SWAP_IS_IMAGE)
-    } else if name == order.logs && !is_missing(rt, name) {
-        Some(NO_DIRECTORY)
+    } else if name == order.logs {
+        reason_of_logs(rt, name)
     } else {
         None
+    }
+}
+
+/// Why a directory for logs can't be one.
+fn reason_of_logs<R: Files>(rt: &R, name: &str) -> Option<&'static str> {
+    match fs::metadata(rt, name) {
+        Ok(found) if !found.is_dir() => Some(NO_DIRECTORY),
+        _ => None,
     }
 }
 
@@ -138,11 +147,6 @@ fn is_image<R: Files + AllocGlobal>(rt: &R, order: &RunOrder<'_>) -> bool {
         }
     }
     false
-}
-
-/// Whether there is no file of a name.
-fn is_missing<R: Files>(rt: &R, name: &str) -> bool {
-    fs::metadata(rt, name).is_err()
 }
 
 /// Whether the log of a run has this name.
@@ -242,7 +246,7 @@ fn executable_words<R: Files + AllocGlobal>(
             image_words(rt, order.image, Memory::Replay { pages }, fault)
         }
         Subject::Dis(order) => image_words(rt, order.image, Memory::Kseg0, fault),
-        Subject::Script(text) => guest_words(rt, text, fault),
+        Subject::Script(text, _) => guest_words(rt, text, fault),
         Subject::Run(order) => run_guest_words(rt, order, fault),
         Subject::Asm(_) | Subject::ScriptFile => None,
     }
@@ -321,7 +325,7 @@ fn raw_words<R: Files + AllocGlobal>(rt: &R, subject: Subject<'_>) -> Option<Wor
 
 /// What is wrong with a line of a script.
 fn script_words(alloc: Global, subject: Subject<'_>, line: u64) -> Option<Words> {
-    let Subject::Script(text) = subject else {
+    let Subject::Script(text, _) = subject else {
         return None;
     };
     script_line::explain(alloc, text, line).ok()
@@ -372,7 +376,7 @@ fn boot_words<R: Files + AllocGlobal>(rt: &R, subject: Subject<'_>, number: u32)
         Subject::Replay(order) => {
             boot::of_machine(rt.alloc(), number, log_pages(rt, order)?).ok()?
         }
-        Subject::Script(text) => {
+        Subject::Script(text, _) => {
             let Script { header, blocks: _ } = script::read(rt.alloc(), text).ok()?;
             boot::of_guests(rt.alloc(), number, &header).ok()?
         }

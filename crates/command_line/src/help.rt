@@ -123,6 +123,7 @@ Events, one a line, and what is replied to each:
   sample              ok: of each guest the draws of the last sample that were touched are counted, and pages drawn anew
   level               the policy's turn: level high, level soft, level hard or level low, at which guests may be blocked
   audit               frames N free N private N shared N refs N slots N of N
+  audit G             audit G private N shared N swapped N given N zero N: where its pages are
   dump G              its state, as exec prints it
   stats G             stats G first N copied N read N joined N fault N run N debugger N level N evict N: why its pages have moved
 
@@ -131,6 +132,7 @@ Events, one a line, and what is replied to each:
   end
 
 A reply is written as soon as its event is done. With --lines the number of the event's line and a colon stand before it.
+With --logs the log of each guest is left in a directory at the end, as 0.log and so on; replay takes it with the guest's image.
 
 A guest that is blocked makes no step until the next level: step G done 0 blocked, run G done 0 blocked.
 

@@ -9,3 +9,4 @@ mod explaining;
 mod help;
 mod parsing;
 pub mod program;
+pub mod progress;

@@ -138,7 +138,7 @@ const NUMBER_REFUSED: &str =
 
 /// What is wrong with the port of `run`.
 const PORT_REFUSED: &str =
-    "the value of '--port <N>' and the number of guests are more than 65535 together";
+    "with the value of '--port <N>' the port of the last guest is above 65535";
 
 /// What the matches of `run` ask for, of these guests; each argument but `--admit` is required.
 fn settled<'a>(
@@ -146,7 +146,8 @@ fn settled<'a>(
     guests: Vec<GuestOrder<'a>>,
 ) -> Option<Result<RunOrder<'a>, &'static str>> {
     let port: u32 = of_run.get_one(PORT)?;
-    if u64::from(port) + guests.len() as u64 > LAST_PORT {
+    let behind = u64::from(port) + guests.len() as u64;
+    if u64::from(port) > LAST_PORT || behind > LAST_PORT + 1 {
         return Some(Err(PORT_REFUSED));
     }
     Some(Ok(RunOrder {
@@ -393,6 +394,11 @@ fn sim_command<'a>(alloc: Global) -> Result<Command<'a>, AllocError> {
         )
         .after_help(EVENTS)
         .arg(flag(alloc, LINES).help("Print the number of the script's line before each reply"))?
+        .arg(
+            Arg::new(alloc, LOGS).long(LOGS).value_name("DIR").help(
+                "A directory that the guests' logs are written to at the end: 0.log and so on",
+            ),
+        )?
         .arg(file(alloc, "script", "SCRIPT").help(
             "The file of the script, or - for standard input",
         ))
@@ -566,6 +572,7 @@ fn sim_of<'a>(matches: &ArgMatches<'a>) -> Option<Sim<'a>> {
     Some(Sim {
         script: file_of(matches.get_str("script")?),
         numbered: matches.get_flag(LINES),
+        logs: matches.get_str(LOGS),
     })
 }
 

@@ -1,5 +1,5 @@
 //! The program, over any files, reader and writers.
-ghost use Rattle.std.specs.Prelude.{◌≡◌, ◌≢◌, ◌<◌, ◌⊎◌, false, IfOk};
+ghost use Rattle.std.specs.Prelude.{◌≡◌, ◌≢◌, ◌<◌, ◌⊎◌, false, true, IfOk};
 ghost use Rattle.std.specs.IoError.{error_kind};
 ghost use Rattle.command_line.specs.Exit.{code_of, HasNoRun, HasNoSim, HasNoUntil};
 
@@ -12,7 +12,7 @@ use commands::{
 };
 use diagnosis::Excerpt;
 use run_command::{RunFault, RunOrder, RunStatus, run_order};
-use runs::Ending;
+use runs::{Ending, Watch};
 use std::fs::File;
 use std::io::{BufRead, ErrorKind, Write};
 use std::net::{Net, TcpListener, TcpStream};
@@ -58,7 +58,7 @@ enum Answer {
 }
 
 /// Does what the words of the command line ask for, and gives the status to exit with. The name of the program is not
-/// among the words. `input` is read by the command `run` alone.
+/// among the words. `input` is read by the command `run` alone, and `watch` is told how far a run of `exec` is.
 ///
 /// At least one of `out` and `err` stays as it was, but where a word begins with `--until`, or is `sim` or `run`: with the last both get lines, as
 /// `run_order` has it; with the first `err` may have the line
@@ -67,7 +67,14 @@ enum Answer {
 /// input was refused, and the line `vmhost: ` with the fault stands in `err`, and words for it may stand behind that; or there was no memory
 /// for a script's next reply; or `out` or `err` could not be written. 2: the command line was refused, and `err` has the reason. 3: the machine
 /// stopped before its last step; the last line in `out` says why.
-pub fn program<R, I, O, E>(rt: &R, words: &[String], input: &mut I, out: &mut O, err: &mut E) -> u8
+pub fn program<R, I, O, E, W>(
+    rt: &R,
+    words: &[String],
+    input: &mut I,
+    out: &mut O,
+    err: &mut E,
+    watch: &mut W,
+) -> u8
 where
     R: Files<File = File>
         + AllocGlobal
@@ -78,6 +85,7 @@ where
     I: BufRead,
     O: Write,
     E: Write,
+    W: Watch,
     ensures range { result < 4 }
     ensures input { HasNoRun words.now → input.new ≡ input.old }
     ensures usage { result ≡ 2 → out.new ≡ out.old }
@@ -92,7 +100,7 @@ where
     };
     let written = match parse(rt.alloc(), words) {
         Ok(Order::Run(order)) if tells.running => answer_run(rt, &order, input, out, err),
-        Ok(order) => answer_order(rt, order, tells, out, err),
+        Ok(order) => answer_order(rt, order, tells, out, err, watch),
         Err(error) => write_error(&error, out, err),
     };
     let status = match written {
@@ -201,17 +209,19 @@ fn mentions_until(words: &[String]) -> bool
 const UNTIL_OPTION: &[u8] = b"--until";
 
 /// Does what was asked for.
-fn answer_order<R, O, E>(
+fn answer_order<R, O, E, W>(
     rt: &R,
     order: Order<'_>,
     tells: Tells,
     out: &mut O,
     err: &mut E,
+    watch: &mut W,
 ) -> io::Result<Status>
 where
     R: Files + AllocGlobal,
     O: Write,
     E: Write,
+    W: Watch,
     ensures usage { IfOk result (λ s. code_of s ≢ 2) }
     ensures refused { IfOk result (λ s. code_of s ≡ 1 → tells.breaking_off ≡ false → out.new ≡ out.old) }
     ensures done { IfOk result (λ s. code_of s ≡ 0 → tells.ending ≡ false → err.new ≡ err.old) }
@@ -224,7 +234,7 @@ where
             write_answer(rt, Subject::Dis(order), disassembled(rt, order), out, err)
         }
         Order::Exec(order, settings) => {
-            let answered = executed(rt, order, &settings);
+            let answered = executed(rt, order, &settings, watch);
             write_run(rt, Subject::Exec(order), answered, tells.ending, out, err)
         }
         Order::Replay(order) => {
@@ -258,14 +268,53 @@ where
         Ok(text) => text,
         Err(fault) => return write_refusal(rt, Subject::ScriptFile, &fault, err),
     };
-    match run_script(rt, &text, order.numbered, out) {
-        Ok(()) => Ok(Status::Done),
-        Err(SimFault::Refused(fault)) => write_refusal(rt, Subject::Script(&text), &fault, err),
+    match run_script(rt, &text, order.numbered, order.logs, out) {
+        Ok(unwritten) => answer_logs(order.logs, unwritten, tells, err),
+        Err(SimFault::Refused(fault)) => write_refusal(
+            rt,
+            Subject::Script(&text, order.logs),
+            &fault,
+            err,
+        ),
         Err(SimFault::Memory) if tells => {
-            write_refusal(rt, Subject::Script(&text), &Fault::Memory, err)
+            write_refusal(rt, Subject::Script(&text, order.logs), &Fault::Memory, err)
         }
         Err(SimFault::Memory | SimFault::Output) => Err(io::Error::from(ErrorKind::Other)),
     }
+}
+
+/// Says which log could not be written, where one could not and `tells` says so.
+fn answer_logs<E: Write>(
+    directory: Option<&str>,
+    unwritten: Option<usize>,
+    tells: bool,
+    err: &mut E,
+) -> io::Result<Status>
+    ensures usage { IfOk result (λ s. code_of s ≢ 2) }
+    ensures told { IfOk result (λ s. code_of s ≡ 1 → tells ≡ true) }
+    ensures carried_out { IfOk result (λ s. code_of s ≢ 1 → err.new ≡ err.old) }
+    ensures silent { tells ≡ false → err.new ≡ err.old }
+{
+    let Some(guest) = unwritten else {
+        return Ok(Status::Done);
+    };
+    match directory {
+        Some(directory) if tells => write_unwritten(directory, guest, err),
+        _ => Err(io::Error::from(ErrorKind::Other)),
+    }
+}
+
+/// Writes that the log of a guest, and perhaps of others behind it, is not written, and words for it.
+fn write_unwritten<E: Write>(directory: &str, guest: usize, err: &mut E) -> io::Result<Status>
+    ensures { IfOk result (λ s. code_of s ≡ 1) }
+{
+    writeln!(err, "vmhost: file {directory}/{guest}.log")?;
+    writeln!(
+        err,
+        "  the log of guest {guest} can't be written; what was done is done, and the logs that can be are written"
+    )?;
+    err.flush()?;
+    Ok(Status::Refused)
 }
 
 fn assembled<'a, R: Files + AllocGlobal>(rt: &R, order: Asm<'a>) -> Result<Answer, Fault<'a>> {
@@ -277,17 +326,18 @@ fn disassembled<'a, R: Files + AllocGlobal>(rt: &R, order: Dis<'a>) -> Result<An
     Ok(Answer::Text(disassemble_file(rt, order)?))
 }
 
-fn executed<'a, R: Files + AllocGlobal>(
+fn executed<'a, R: Files + AllocGlobal, W: Watch>(
     rt: &R,
     order: Exec<'a>,
     settings: &Settings,
+    watch: &mut W,
 ) -> Result<Report, Fault<'a>> {
     let Settings {
         input,
         until,
         extras,
     } = settings;
-    run_image(rt, order, input, until, extras)
+    run_image(rt, order, input, until, extras, watch)
 }
 
 fn replayed<'a, R: Files + AllocGlobal>(rt: &R, order: Replay<'a>) -> Result<Answer, Fault<'a>> {

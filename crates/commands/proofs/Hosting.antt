@@ -63,10 +63,6 @@ run_steps : (k : ℕ) (m : Machine) → run (replicate k (step_by 0)) m ≡ afte
 run_steps zero m = refl
 run_steps (suc k) m = run_steps k (step m) ∙ step_first k m
 
-pub steps_then : (k l : ℕ) (m : Machine) → after_steps l (after_steps k m) ≡ after_steps (k + l) m
-steps_then k zero m = let none : k ≡ k + 0 = omega arith in ap (λ (n : ℕ). after_steps n m) none
-steps_then k (suc l) m = let more : suc (k + l) ≡ k + suc l = omega arith in ap step (steps_then k l m) ∙ ap (λ (n : ℕ). after_steps n m) more
-
 pub steps_size : (k : ℕ) (m : Machine) → length (after_steps k m).world.memory ≡ length m.world.memory
 steps_size zero m = refl
 steps_size (suc k) m = (step_stays (after_steps k m) 0).size ∙ steps_size k m
@@ -479,13 +475,6 @@ need_is_early at p why is = λ done. both at p why is done
   where
     both : (at : End) (p : ℕ) (why : Why) → at ≡ end.Need p why → at ≡ end.Done → ⊥
     both at p why a b = cc
-
--- so many steps, more, and one
-pub steps_so_far : (made more : ℕ) (first now after : Machine) → now ≡ after_steps made first → after ≡ after_steps more now → after ≡ after_steps (made + more) first
-steps_so_far made more first now after so_far is = is ∙ ap (after_steps more) so_far ∙ steps_then made more first
-
-pub one_step_more : (made : ℕ) (first now after : Machine) → now ≡ after_steps made first → after ≡ step now → after ≡ after_steps (made + 1) first
-one_step_more made first now after so_far is = is ∙ ap step so_far ∙ (let more : suc made ≡ made + 1 = omega arith in ap (λ (n : ℕ). after_steps n first) more)
 
 -- ---- a guest that is booted
 

@@ -59,6 +59,7 @@ one_for guests slots (event.Evict guest page) allowed = inside guests guest allo
 one_for guests slots event.Sample allowed = tt
 one_for guests slots event.Level allowed = tt
 one_for guests slots event.Audit allowed = tt
+one_for guests slots (event.AuditGuest guest) allowed = inside guests guest allowed
 one_for guests slots (event.Dump guest) allowed = inside guests guest allowed
 one_for guests slots (event.Stats guest) allowed = inside guests guest allowed
 one_for guests slots (event.Damage slot byte) allowed =
@@ -146,7 +147,7 @@ load_refused text (fault.Asm kind line) h = absurd h
 load_refused text (fault.Elf kind) h = tt
 load_refused text fault.Raw h = absurd h
 load_refused text (fault.Script line) h = h
-load_refused text (fault.Boot error) h = absurd h
+load_refused text (fault.Boot error) h = tt
 load_refused text (fault.Log refusal) h = absurd h
 load_refused text fault.Memory h = tt
 
@@ -165,3 +166,11 @@ pub told_fault : (text : List ℕ) (f : SimFault) → IsToldFault f → IsSimFau
 told_fault text (sim.Refused f) h = boot_refused text f h
 told_fault text sim.Memory h = tt
 told_fault text sim.Output h = tt
+
+-- an error is what it is said to be
+pub same_error : {X E : Type 0} (e e' : E) → (let r : Result X E = Err e in r) ≡ Err e' → e ≡ e'
+same_error {X} {E} e e' is = ap error_in is
+  where
+    error_in : Result X E → E
+    error_in (Err x) = x
+    error_in (Ok x) = e

@@ -1,5 +1,5 @@
 -- Which faults a command can have.
-use Rattle.std.specs.Prelude.{◌≡◌, ◌⊎◌, ℕ, true, is_some, List, Some, Ok}
+use Rattle.std.specs.Prelude.{◌≡◌, ◌<◌, ◌⊎◌, ℕ, true, is_some, List, length, Some, Ok}
 use Rattle.elf32.specs.Faults.{first_fault}
 use Rattle.masm.specs.Assembly as assembly
 use Rattle.masm.specs.declared.error.AsmError.{AsmError}
@@ -166,9 +166,20 @@ IsFileFault (Elf fault) = Unit {0}
 IsFileFault Memory = Unit {0}
 IsFileFault other = ⊥
 
+-- of a directory for logs
+abbrev pub IsDirectoryFault : Fault → Type 0
+IsDirectoryFault (File name) = Unit {0}
+IsDirectoryFault Memory = Unit {0}
+IsDirectoryFault other = ⊥
+
+-- a text is a script of more than 16 guests
+abbrev pub HasTooManyGuests : List ℕ → Type 0
+HasTooManyGuests text = (script : scripts.Script) → scripts.script_of text ≡ Ok script → 16 < length script.header.guests
+
 -- of a script that is to be done, and the files of its guests
 abbrev pub IsLoadFault : List ℕ → Fault → Type 0
 IsLoadFault text (Script line) = IsRefusedScript text
+IsLoadFault text (Boot error) = (error ≡ unbooted.Limits) × HasTooManyGuests text
 IsLoadFault text (File name) = Unit {0}
 IsLoadFault text (Elf fault) = Unit {0}
 IsLoadFault text Memory = Unit {0}

@@ -18,7 +18,7 @@ use crate::order::{ConsoleInput, Exec, Format, MachineKind};
 use dump::dump;
 use inspection::{Extras, push_extras};
 use output_file::is_one_file;
-use runs::{Ran, Runnable, Table, Until, run};
+use runs::{Ran, Runnable, Table, Until, Watch, run};
 use std::alloc::{AllocError, Global};
 use std::fs::File;
 use std::io::Read;
@@ -47,18 +47,19 @@ pub struct Done {
 
 /// Runs the image of a file, which begins with this console input, up to the first state that it is to end at, if it comes to one. A fault of the file comes before one of the boot; where
 /// a log is asked of the table machine, or is to be written over the image, that comes before any file is read. The log is
-/// written after the run.
+/// written after the run. `watch` is told how far the run is.
 ///
 /// An error is `Log` where the table machine is asked for a log; `File` where the image's file can't be read or the log's
 /// written, and where both are one; `Elf` with the first fault of a file that is no executable for so many pages; `Raw`
 /// where a raw image is empty or longer than the pages; `Boot` where the number of pages is outside its limits, or the
 /// boot was refused memory; `Memory` where another request for memory was refused.
-pub fn run_image<'a, R: Files + AllocGlobal>(
+pub fn run_image<'a, R: Files + AllocGlobal, W: Watch>(
     rt: &R,
     order: Exec<'a>,
     input: &ConsoleInput,
     until: &Until,
     extras: &Extras,
+    watch: &mut W,
 ) -> Result<Report, Fault<'a>>
     ensures report { IfOk result (λ r. (image : Image) × IsReport (boot_machine image order.entry.pages) input.now order.entry.steps until.now extras.now r) }
     ensures legal { IfOk result (λ r. IsPageCount order.entry.pages) }
@@ -68,7 +69,7 @@ pub fn run_image<'a, R: Files + AllocGlobal>(
 {
     log_can_be_kept(rt, order)?;
     let file = of_file(order.image, File::open(rt, order.image))?;
-    let done = run_file(rt.alloc(), file, order, input, until, extras)?;
+    let done = run_file(rt.alloc(), file, order, input, until, extras, watch)?;
     write_order(rt, order, &done)?;
     Ok(done.report)
 }
@@ -98,13 +99,14 @@ fn log_can_be_kept<'a, R: Files + AllocGlobal>(rt: &R, order: Exec<'a>) -> Resul
 /// and the steps that were made.
 ///
 /// An error is one of `run_image`, but that no log is written here.
-pub fn run_file<'a, F: Read + Drop>(
+pub fn run_file<'a, F: Read + Drop, W: Watch>(
     alloc: Global,
     file: F,
     order: Exec<'a>,
     input: &ConsoleInput,
     until: &Until,
     extras: &Extras,
+    watch: &mut W,
 ) -> Result<Done, Fault<'a>>
     ensures report { IfSome (F.remaining file) (λ all. IfOk result (λ done. IsReportOf all order.entry input.now until.now extras.now done.report)) }
     ensures digest { IfSome (F.remaining file) (λ all. IfOk result (λ done. done.digest ≡ sha256 all)) }
@@ -116,20 +118,21 @@ pub fn run_file<'a, F: Read + Drop>(
 {
     let loaded = load(alloc, file, order)?;
     match order.kind {
-        MachineKind::Guest => Ok(run_guest(alloc, loaded, order, input, until, extras)?),
-        MachineKind::Flat => Ok(run_flat(alloc, loaded, order, input, until, extras)?),
+        MachineKind::Guest => Ok(run_guest(alloc, loaded, order, input, until, extras, watch)?),
+        MachineKind::Flat => Ok(run_flat(alloc, loaded, order, input, until, extras, watch)?),
     }
 }
 
 /// Boots a guest of the image, and runs it. An error is `Boot` where the boot was refused memory, and `Memory` where another
 /// request was.
-fn run_guest<'a>(
+fn run_guest<'a, W: Watch>(
     alloc: Global,
     loaded: Loaded,
     order: Exec<'a>,
     input: &ConsoleInput,
     until: &Until,
     extras: &Extras,
+    watch: &mut W,
 ) -> Result<Done, Fault<'a>>
     requires fits { FitsPages loaded.image order.pages }
     requires legal { IsPageCount order.pages }
@@ -142,7 +145,7 @@ fn run_guest<'a>(
 {
     let Loaded { image, digest } = loaded;
     let mut runner = of_boot(HostedGuest::boot(alloc, image, order.pages))?;
-    let ran = run(&mut runner, input.as_slice(), order.steps, until);
+    let ran = run(&mut runner, input.as_slice(), order.steps, until, watch);
     let report = report_of(alloc, &runner, ran, extras)?;
     Ok(Done {
         report,
@@ -152,13 +155,14 @@ fn run_guest<'a>(
 }
 
 /// Boots the table machine with the image, and runs it. The errors are those of `run_guest`.
-fn run_flat<'a>(
+fn run_flat<'a, W: Watch>(
     alloc: Global,
     loaded: Loaded,
     order: Exec<'a>,
     input: &ConsoleInput,
     until: &Until,
     extras: &Extras,
+    watch: &mut W,
 ) -> Result<Done, Fault<'a>>
     requires fits { FitsPages loaded.image order.pages }
     requires legal { IsPageCount order.pages }
@@ -168,7 +172,7 @@ fn run_flat<'a>(
     ensures faults { IfErr result IsWant }
 {
     let mut machine = of_boot(Table::boot(alloc, &loaded.image, order.pages))?;
-    let ran = run(&mut machine, input.as_slice(), order.steps, until);
+    let ran = run(&mut machine, input.as_slice(), order.steps, until, watch);
     let report = report_of(alloc, &machine, ran, extras)?;
     Ok(Done {
         report,

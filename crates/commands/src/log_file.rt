@@ -1,13 +1,95 @@
 //! The files of logs.
 ghost use Rattle.std.specs.Prelude.{◌≡◌, ◌⊎◌, IfErr, IfOk};
+ghost use Rattle.commands.specs.Faults.{IsDirectoryFault};
 ghost use Rattle.commands.specs.LogFiles.{IsLogFile};
 
 use crate::fault::{Fault, of_file};
 use guest::Log;
 use logfile::{append, write};
 use output_file::write_file;
+use simulation::LogKeeper;
 use std::alloc::{AllocError, Global};
 use std::rt::Files;
+use std::{fs, io};
+
+/// The name of the file of a guest's log in a directory: `0.log`, and so on.
+pub fn log_name(alloc: Global, directory: &str, guest: usize) -> Result<String, AllocError> {
+    format!(in alloc; "{directory}/{guest}.log")
+}
+
+/// Makes a directory for logs, where it is not there.
+///
+/// An error is `File` where it can't be made, or is no directory, and `Memory` where a request for memory was refused.
+pub fn make_directory<'a, R: Files>(rt: &R, name: &'a str) -> Result<(), Fault<'a>>
+    ensures { IfErr result (λ fault. (fault ≡ Fault.Memory) ⊎ (fault ≡ Fault.File name.entry)) }
+{
+    of_file(name, directory(rt, name))
+}
+
+fn directory<R: Files>(rt: &R, name: &str) -> io::Result<()> {
+    match fs::metadata(rt, name) {
+        Ok(found) if found.is_dir() => Ok(()),
+        Ok(_) => Err(io::Error::from(io::ErrorKind::NotADirectory)),
+        Err(_) => fs::create_dir(rt, name),
+    }
+}
+
+/// The files of the logs of a script's guests, in a directory; or none, where there is no directory for them.
+#[derive(Drop)]
+pub(crate) struct LogFiles<'r, 'a, R: Files + AllocGlobal> {
+    rt: &'r R,
+    directory: Option<&'a str>,
+    digests: Vec<[u8; 32]>,
+    unwritten: Option<usize>,
+}
+
+impl<'r, 'a, R: Files + AllocGlobal> LogFiles<'r, 'a, R> {
+    /// Files in this directory, if it is given, which is made where it is not there, of logs of images of these digests, guest after guest.
+    pub(crate) fn new(
+        rt: &'r R,
+        directory: Option<&'a str>,
+        digests: Vec<[u8; 32]>,
+    ) -> Result<LogFiles<'r, 'a, R>, Fault<'a>>
+        ensures { IfErr result IsDirectoryFault }
+    {
+        if let Some(name) = directory {
+            make_directory(rt, name)?;
+        }
+        Ok(LogFiles {
+            rt,
+            directory,
+            digests,
+            unwritten: None,
+        })
+    }
+
+    /// The number of the first guest whose log could not be written; None where each was, or none was to be.
+    pub(crate) fn unwritten(&self) -> Option<usize> {
+        self.unwritten
+    }
+
+    /// Whether the log of a guest is written.
+    fn write(&self, directory: &str, guest: usize, pages: u32, log: &Log) -> bool {
+        let Some(digest) = self.digests.get(guest) else {
+            return false;
+        };
+        match log_name(self.rt.alloc(), directory, guest) {
+            Ok(name) => write_log(self.rt, name.as_str(), log, pages, digest).is_ok(),
+            Err(_) => false,
+        }
+    }
+}
+
+impl<R: Files + AllocGlobal> LogKeeper for LogFiles<'_, '_, R> {
+    fn keep(&mut self, guest: usize, pages: u32, log: &Log) {
+        let Some(directory) = self.directory else {
+            return;
+        };
+        if !self.write(directory, guest, pages, log) && self.unwritten.is_none() {
+            self.unwritten = Some(guest);
+        }
+    }
+}
 
 /// Writes the log of a guest of so many pages and of the image file of this digest into the file of this name.
 ///

@@ -54,6 +54,8 @@ pub struct Sim<'a> {
     pub script: &'a str,
     /// Whether each reply stands behind the number of its line.
     pub numbered: bool,
+    /// The name of the directory that the guests' logs are written to at the end, if they are to be.
+    pub logs: Option<&'a str>,
 }
 
 /// The console input that a run begins with: at most 256 bytes. In clauses it is the list of the bytes.

@@ -1,5 +1,6 @@
 //! The command `sim`.
-ghost use Rattle.std.specs.Prelude.{◌≡◌, ◌⊎◌, ◌↔◌, All, IfErr, IfOk, IsErrOf, IsTrue, Ok, OnOk, false, length, map, true};
+ghost use Rattle.std.specs.Prelude.{◌≡◌, ◌⊎◌, ◌↔◌, All, IfErr, IfOk, IfSome, IsErrOf, IsTrue, Ok, OnOk, false, length, map, true};
+ghost use Rattle.elf32.specs.Images.{FitsPages};
 ghost use Rattle.script.specs.Courses.{course_of};
 ghost use Rattle.script.specs.Scripts.{script_of};
 ghost use Rattle.script.specs.Views.{block_view, script_view};
@@ -10,10 +11,12 @@ ghost use Rattle.commands.specs.Sims.{IsKnown, IsOver, IsSimulation, config_of, 
 
 use crate::fault::{Fault, of_file};
 use crate::image_file::{Loaded, elf_image, whole_file};
+use crate::log_file::LogFiles;
 use crate::order::Sim;
+use elf32::Image;
 use script::{Block, GuestLine, Header, Script, ScriptError, StoreCall};
-use simulation::{SimError, simulate};
-use std::alloc::Global;
+use simulation::{LogKeeper, SimError, simulate};
+use std::alloc::{AllocError, Global};
 use std::fs::File;
 use std::io::Write;
 use std::rt::Files;
@@ -25,6 +28,9 @@ use world::{Config, NewGuest, are_within_limits};
 
 /// The greatest number of runs that a guest's log may have.
 const LOG_RUNS: u32 = 1_048_576;
+
+/// The greatest number of guests.
+const MOST_GUESTS: usize = 16;
 
 /// The text of a script's file: each sequence of bytes that is no UTF-8 stands as U+FFFD.
 ///
@@ -49,35 +55,60 @@ pub enum SimFault<'a> {
 }
 
 /// Does the events of a script in a world of its guests, over a store in memory, and writes the reply to each as soon as it is done,
-/// behind the number of its line where `numbered` says so.
+/// behind the number of its line where `numbered` says so. At the end, also where it comes early, the guests' logs are written into the
+/// directory `logs`, if it is given. The answer is the number of the first guest whose log could not be written.
 ///
-/// An error is `Refused`, before anything is written: `Script` with the first line that is refused, before any other file is read; `File`
-/// where a guest's file can't be read and `Elf` with its first fault, guest after guest; `Boot` where the world is refused; `Memory` where a
+/// An error is `Refused`, before anything is written: `Script` with the first line that is refused, and `Boot` where there are more than
+/// 16 guests, before any other file is read; `File`
+/// where a guest's file can't be read and `Elf` with its first fault, guest after guest; `File` where the directory of the logs can't be made; `Boot` where the world is refused; `Memory` where a
 /// request for memory was refused. Behind the boot it is `Memory`, where the replies to the first events are written, or `Output` where a
 /// reply could not be. The line `profile` is refused like a word of no event.
 pub fn run_script<'a, R: Files + AllocGlobal, O: Write>(
     rt: &R,
     text: &'a str,
     numbered: bool,
+    logs: Option<&'a str>,
     out: &mut O,
-) -> Result<(), SimFault<'a>>
+) -> Result<Option<usize>, SimFault<'a>>
     ensures replies { OnOk result (IsSimulation true numbered text.now (O.contents out.old) (O.contents out.new)) }
     ensures broken_off { IsErrOf result SimFault.Memory → IsSimulation false numbered text.now (O.contents out.old) (O.contents out.new) }
     ensures unwritten { (fault : Fault) → IsErrOf result (SimFault.Refused fault) → out.new ≡ out.old }
     ensures faults { IfErr result (λ fault. IsSimFault text.now fault) }
 {
-    let (header, blocks, guests) = match loaded(rt, text) {
+    let (header, blocks, guests, digests) = match loaded(rt, text) {
         Ok(loaded) => loaded,
         Err(fault) => return Err(SimFault::Refused(fault)),
     };
-    replies_to(rt.alloc(), &header, guests, &blocks, numbered, out)
+    let mut files = match LogFiles::new(rt, logs, digests) {
+        Ok(files) => files,
+        Err(fault) => return Err(SimFault::Refused(fault)),
+    };
+    match replies_to(
+        rt.alloc(),
+        &header,
+        guests,
+        &blocks,
+        numbered,
+        &mut files,
+        out,
+    ) {
+        Ok(()) => Ok(files.unwritten()),
+        Err(fault) => Err(fault),
+    }
 }
 
-/// The script that a text is, and its guests, with the images of their files.
+/// Guests with the images of their files, and the digest of each file, by which a log names it.
+#[derive(Drop)]
+struct LoadedGuests {
+    guests: Vec<NewGuest>,
+    digests: Vec<[u8; 32]>,
+}
+
+/// The script that a text is, and its guests, with the images of their files and these files' digests.
 fn loaded<'a, R: Files + AllocGlobal>(
     rt: &R,
     text: &'a str,
-) -> Result<(Header<'a>, Vec<Block>, Vec<NewGuest>), Fault<'a>>
+) -> Result<(Header<'a>, Vec<Block>, Vec<NewGuest>, Vec<[u8; 32]>), Fault<'a>>
     ensures script { IfOk result (λ parts. script_of text.now ≡ Ok (script_view (record { header = parts.0; blocks = parts.1 }))) }
     ensures known { IfOk result (λ parts. IsKnown (script_view (record { header = parts.0; blocks = parts.1 }))) }
     ensures can { IfOk result (λ parts. All (IsBlockFor (length parts.2.items) parts.0.slots) (map block_view parts.1.items)) }
@@ -85,8 +116,13 @@ fn loaded<'a, R: Files + AllocGlobal>(
     ensures faults { IfErr result (λ fault. IsLoadFault text.now fault) }
 {
     let Script { header, blocks } = script_in(rt.alloc(), text)?;
-    let guests = load_guests(rt, &header.guests)?;
-    Ok((header, blocks, guests))
+    if header.guests.len() > MOST_GUESTS {
+        return Err(Fault::Boot {
+            error: BootError::Limits,
+        });
+    }
+    let loaded = load_guests(rt, &header.guests)?;
+    Ok((header, blocks, loaded.guests, loaded.digests))
 }
 
 /// The script that a text is, where all that it says is known.
@@ -140,49 +176,84 @@ fn is_unknown(line: &str) -> bool {
     name == "profile"
 }
 
-/// The guests of a script's header, with the images of their files.
+/// The guests of a script's header, with the images of their files. A file is read once for all lines that have its name, unless the
+/// pages of a line don't hold what was read: then it is read again, and refused.
 fn load_guests<'a, R: Files + AllocGlobal>(
     rt: &R,
     lines: &[GuestLine<'a>],
-) -> Result<Vec<NewGuest>, Fault<'a>>
-    ensures guests { IfOk result (λ guests. map numbers_of guests.items ≡ map line_numbers lines.now) }
+) -> Result<LoadedGuests, Fault<'a>>
+    ensures guests { IfOk result (λ loaded. map numbers_of loaded.guests.items ≡ map line_numbers lines.now) }
     ensures faults { IfErr result (λ fault. IsFileFault fault) }
 {
     let mut guests = Vec::with_capacity(rt.alloc(), lines.len())?;
+    let mut digests = Vec::new(rt.alloc());
     for line in lines {
-        guests.push_reserved(load_guest(rt, *line)?);
+        let (image, digest) = match image_of_name(&guests, &digests, lines, *line)? {
+            Some(found) => found,
+            None => load_image(rt, *line)?,
+        };
+        if digests.push(digest).is_err() {
+            return Err(Fault::Memory);
+        }
+        guests.push_reserved(new_guest(*line, image));
     }
-    Ok(guests)
+    Ok(LoadedGuests { guests, digests })
 }
 
-/// A guest of a script's header, with the image of its file.
-fn load_guest<'a, R: Files + AllocGlobal>(
+/// The image, and the digest, of an earlier guest whose file has the name of a line's, where the line's pages hold it.
+fn image_of_name(
+    guests: &[NewGuest],
+    digests: &[[u8; 32]],
+    lines: &[GuestLine<'_>],
+    line: GuestLine<'_>,
+) -> Result<Option<(Arc<Image, Global>, [u8; 32])>, AllocError>
+    ensures { IfOk result (λ found. IfSome found (λ loaded. FitsPages loaded.0.value line.entry.pages)) }
+{
+    for ((guest, digest), earlier) in guests.iter().zip(digests).zip(lines) {
+        if earlier.file == line.file && guest.image.fits(line.pages) {
+            return Ok(Some((guest.image.clone()?, *digest)));
+        }
+    }
+    Ok(None)
+}
+
+/// The image of the file of a guest of a script's header, and the file's digest.
+fn load_image<'a, R: Files + AllocGlobal>(
     rt: &R,
     line: GuestLine<'a>,
-) -> Result<NewGuest, Fault<'a>>
-    ensures numbers { IfOk result (λ guest. numbers_of guest ≡ line_numbers line.entry) }
+) -> Result<(Arc<Image, Global>, [u8; 32]), Fault<'a>>
+    ensures fits { IfOk result (λ loaded. FitsPages loaded.0.value line.entry.pages) }
     ensures faults { IfErr result (λ fault. IsFileFault fault) }
 {
     let file = of_file(line.file, File::open(rt, line.file))?;
-    let Loaded { image, digest: _ } = elf_image(rt.alloc(), file, line.file, line.pages)?;
+    let Loaded { image, digest } = elf_image(rt.alloc(), file, line.file, line.pages)?;
     match Arc::new(rt.alloc(), image) {
-        Ok(image) => Ok(NewGuest {
-            image,
-            pages: line.pages,
-            shares: line.shares,
-            minimum: line.minimum.unwrap_or(DEFAULT_MINIMUM),
-        }),
+        Ok(image) => Ok((image, digest)),
         Err(_) => Err(Fault::Memory),
     }
 }
 
+/// A guest of a script's header, with an image.
+fn new_guest(line: GuestLine<'_>, image: Arc<Image, Global>) -> NewGuest
+    ensures numbers { numbers_of result ≡ line_numbers line.entry }
+    ensures image { result.image ≡ image }
+{
+    NewGuest {
+        image,
+        pages: line.pages,
+        shares: line.shares,
+        minimum: line.minimum.unwrap_or(DEFAULT_MINIMUM),
+    }
+}
+
 /// Does what blocks say in a world of these guests, and writes what is replied.
-fn replies_to<'a, O: Write>(
+fn replies_to<'a, K: LogKeeper, O: Write>(
     alloc: Global,
     header: &Header<'_>,
     guests: Vec<NewGuest>,
     blocks: &[Block],
     numbered: bool,
+    keeper: &mut K,
     out: &mut O,
 ) -> Result<(), SimFault<'a>>
     requires { All (IsBlockFor (length guests.items) header.now.slots) (map block_view blocks.now) }
@@ -211,10 +282,14 @@ fn replies_to<'a, O: Write>(
     };
     let seed = header.seed;
     let told = match header.failure {
-        None => simulate(alloc, config, seed, guests, store, blocks, numbered, out),
+        None => simulate(
+            alloc, config, seed, guests, store, blocks, numbered, keeper, out,
+        ),
         Some(fail) => {
             let store = FaultStore::new(store, op_of(fail.call), u64::from(fail.count.max(1)));
-            simulate(alloc, config, seed, guests, store, blocks, numbered, out)
+            simulate(
+                alloc, config, seed, guests, store, blocks, numbered, keeper, out,
+            )
         }
     };
     match told {

@@ -55,7 +55,7 @@ pub static EVENTS: [Form; 19] = [
     ("fault", "fault G", ""),
     ("scan", "scan G P", "P is the number of a page"),
     ("evict", "evict G P", "P is the number of a page"),
-    ("audit", "audit", ""),
+    ("audit", "audit or audit G", ""),
     ("dump", "dump G", ""),
     ("stats", "stats G", ""),
     (

@@ -10,9 +10,9 @@ use commands::fault::of_file;
 use commands::image_file::{Loaded, elf_image};
 use output_file::is_one_file;
 use std::fs::File;
+use std::io;
 use std::rt::Files;
 use std::sync::Arc;
-use std::{fs, io};
 use taxpolicy::DEFAULT_MINIMUM;
 
 /// The guests of an order, with the digest of each one's image.
@@ -45,21 +45,6 @@ fn swap_file<R: Files<File = File>>(rt: &R, name: &str) -> io::Result<File> {
         .write(true)
         .create(true)
         .open(rt, name)
-}
-
-/// Makes the directory for the logs, where it is not there.
-pub(crate) fn make_directory<'a, R: Files>(rt: &R, name: &'a str) -> Result<(), Fault<'a>>
-    ensures faults { IfErr result (λ fault. (fault ≡ Fault.Memory) ⊎ (fault ≡ Fault.File name.entry)) }
-{
-    of_file(name, directory(rt, name))
-}
-
-fn directory<R: Files>(rt: &R, name: &str) -> io::Result<()> {
-    match fs::metadata(rt, name) {
-        Ok(found) if found.is_dir() => Ok(()),
-        Ok(_) => Err(io::Error::from(io::ErrorKind::NotADirectory)),
-        Err(_) => fs::create_dir(rt, name),
-    }
 }
 
 /// The guests of an order, with the images of their files, guest after guest.

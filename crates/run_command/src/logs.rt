@@ -2,7 +2,7 @@
 use crate::order::RunOrder;
 use cell::Ended;
 use commands::Fault;
-use commands::log_file::write_log;
+use commands::log_file::{log_name, write_log};
 use std::io;
 use std::io::Write;
 use std::rt::Files;
@@ -16,7 +16,7 @@ fn write_one<R: Files + AllocGlobal, E: Write>(
     digest: &[u8; 32],
     err: &mut E,
 ) -> io::Result<bool> {
-    let Ok(name) = format!(in rt.alloc(); "{directory}/{number}.log") else {
+    let Ok(name) = log_name(rt.alloc(), directory, number) else {
         writeln!(err, "vmhost: {}", Fault::Memory)?;
         return Ok(false);
     };

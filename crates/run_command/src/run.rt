@@ -5,10 +5,11 @@ ghost use Rattle.run_command.specs.Faults.{IsRunFault, MayBoot};
 
 use crate::boot::{boot, open_doors, port_of};
 use crate::fault::RunFault;
-use crate::files::{LoadedGuests, load_guests, make_directory, open_swap};
+use crate::files::{LoadedGuests, load_guests, open_swap};
 use crate::logs::{close_all, write_logs};
 use crate::order::RunOrder;
 use commands::Fault;
+use commands::log_file::make_directory;
 use guest_cells::Finished;
 use host::Booted;
 use host_run::{Leave, RunEnd, run};

@@ -42,6 +42,14 @@ none_more until m made before here k h =
       | inr at ↦ subst (λ (n : ℕ). ending_after until m n ≡ None) (sym at) here
     ]
 
+-- some steps, and then others
+pub steps_then : (k l : ℕ) (m : Machine) → after_steps l (after_steps k m) ≡ after_steps (k + l) m
+steps_then k zero m = let none : k ≡ k + 0 = omega arith in ap (λ (n : ℕ). after_steps n m) none
+steps_then k (suc l) m = let more : suc (k + l) ≡ k + suc l = omega arith in ap step (steps_then k l m) ∙ ap (λ (n : ℕ). after_steps n m) more
+
+pub steps_so_far : (made more : ℕ) (first now after : Machine) → now ≡ after_steps made first → after ≡ after_steps more now → after ≡ after_steps (made + more) first
+steps_so_far made more first now after so_far is = is ∙ ap (after_steps more) so_far ∙ steps_then made more first
+
 -- one step more
 pub one_more : (made : ℕ) (m now next : Machine) → now ≡ after_steps made m → next ≡ step now → next ≡ after_steps (made + 1) m
 one_more made m now next so_far is = is ∙ ap step so_far ∙ ap (λ (n : ℕ). after_steps n m) (sym (add-one made))

@@ -1,4 +1,4 @@
-mod Ends
+pub mod Ends
 mod Entered
 mod Fetches
 mod InputFed

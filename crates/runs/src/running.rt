@@ -5,8 +5,14 @@ ghost use Rattle.runs.specs.Runs.{after_run, after_steps, fed, IsCount};
 
 use crate::ending::{state_ending, step_ending};
 use crate::feeding::feed_all;
-use crate::{Ending, Runnable, Until};
+use crate::{Ending, Runnable, Until, Watch};
 use guest_log::Stop;
+
+/// After how many steps at most a run that looks for no state tells how far it is: a piece takes some hundredths of a second.
+const PIECE: u32 = 1 << 24;
+
+/// After how many steps a run that looks at each state does.
+const LOOKS: u32 = 1 << 16;
 
 /// How a run went.
 #[derive(Clone, Copy, Debug, PartialEq, Eq)]
@@ -22,28 +28,37 @@ pub struct Ran {
 }
 
 /// Takes the console input, and makes `steps` steps, or fewer where the machine stops before or comes to a state that the run is to end at.
-/// No state before the last was one of those, the machine's before the first step among them.
-pub fn run<M: Runnable>(machine: &mut M, input: &[u8], steps: u32, until: &Until) -> Ran
+/// No state before the last was one of those, the machine's before the first step among them. `watch` is told now and then how many steps
+/// are made, and at the end that the run is over.
+pub fn run<M: Runnable, W: Watch>(
+    machine: &mut M,
+    input: &[u8],
+    steps: u32,
+    until: &Until,
+    watch: &mut W,
+) -> Ran
     requires { length (M.state machine.old).world.devices.console.input + length input.now ≤ 256 }
     ensures count { IsCount input.now steps result }
     ensures state { M.state machine.new ≡ after_run result input.now (M.state machine.old) }
     ensures first { IsFirst until.now (fed (take result.taken input.now) (M.state machine.old)) result }
     ensures reason { IfSome result.stop (M.may_stop machine.new) }
 {
-    match feed_all(machine, input) {
+    let ran = match feed_all(machine, input) {
         (taken, Some(stop)) => Ran {
             taken,
             steps: 0,
             stop: Some(stop),
             ending: None,
         },
-        (taken, None) if until.is_never() => make_all(machine, taken, steps),
-        (taken, None) => make_until(machine, taken, steps, until),
-    }
+        (taken, None) if until.is_never() => make_all(machine, taken, steps, watch),
+        (taken, None) => make_until(machine, taken, steps, until, watch),
+    };
+    watch.over();
+    ran
 }
 
 /// Makes `count` steps, or fewer where the machine stops before.
-fn make_all<M: Runnable>(machine: &mut M, taken: usize, count: u32) -> Ran
+fn make_all<M: Runnable, W: Watch>(machine: &mut M, taken: usize, count: u32, watch: &mut W) -> Ran
     ensures taken { result.taken ≡ taken }
     ensures made { result.steps ≤ count }
     ensures all { result.stop ≡ None → result.steps ≡ count }
@@ -51,18 +66,44 @@ fn make_all<M: Runnable>(machine: &mut M, taken: usize, count: u32) -> Ran
     ensures nowhere { result.ending ≡ None }
     ensures reason { IfSome result.stop (M.may_stop machine.new) }
 {
-    let (steps, stop) = machine.steps(count);
+    let mut made: u32 = 0;
+    while made < count {
+        let (steps, stop) = machine.steps((count - made).min(PIECE));
+        made += steps;
+        if stop.is_some() {
+            return Ran {
+                taken,
+                steps: made,
+                stop,
+                ending: None,
+            };
+        }
+        watch.made(made);
+    }
     Ran {
         taken,
-        steps,
-        stop,
+        steps: made,
+        stop: None,
         ending: None,
+    }
+}
+
+/// Tells now and then how many steps are made.
+fn look<W: Watch>(watch: &mut W, made: u32) {
+    if made % LOOKS == 0 {
+        watch.made(made);
     }
 }
 
 /// Makes `count` steps, or fewer where the machine stops before or comes to a state that the run is to end at: it is looked at before the
 /// first step and after each.
-fn make_until<M: Runnable>(machine: &mut M, taken: usize, count: u32, until: &Until) -> Ran
+fn make_until<M: Runnable, W: Watch>(
+    machine: &mut M,
+    taken: usize,
+    count: u32,
+    until: &Until,
+    watch: &mut W,
+) -> Ran
     ensures taken { result.taken ≡ taken }
     ensures made { result.steps ≤ count }
     ensures all { result.stop ≡ None → result.ending ≡ None → result.steps ≡ count }
@@ -85,6 +126,7 @@ fn make_until<M: Runnable>(machine: &mut M, taken: usize, count: u32, until: &Un
         }
         made += 1;
         ending = step_ending(machine, until, before);
+        look(watch, made);
     }
     Ran {
         taken,

@@ -2,7 +2,7 @@
 use Rattle.std.specs.Prelude.{ℕ, Bool, true, false, ◌&&◌, nat_lt, nat_le, List, length, Option, Some, None, slice_get}
 use Rattle.std.specs.List.{list_all}
 use Rattle.script.specs.Actions.{Action, Single, StepEach, RunEach, ActionLine, Block}
-use Rattle.script.specs.Events.{Event, Step, Run, In, Drain, Target, Poke, Write, Probe, Fault, Scan, Evict, Sample, Level, Audit, Dump, Stats, Damage}
+use Rattle.script.specs.Events.{Event, Step, Run, In, Drain, Target, Poke, Write, Probe, Fault, Scan, Evict, Sample, Level, Audit, AuditGuest, Dump, Stats, Damage}
 use Rattle.script.specs.Headers.{GuestLine, Header}
 
 -- so many pages are at most the guest's, which there is
@@ -27,6 +27,7 @@ is_allowed guests slots (Evict guest page) = nat_lt guest (length guests)
 is_allowed guests slots Sample = true
 is_allowed guests slots Level = true
 is_allowed guests slots Audit = true
+is_allowed guests slots (AuditGuest guest) = nat_lt guest (length guests)
 is_allowed guests slots (Dump guest) = nat_lt guest (length guests)
 is_allowed guests slots (Stats guest) = nat_lt guest (length guests)
 is_allowed guests slots (Damage slot byte) = nat_lt slot slots && nat_le byte 4095

@@ -29,6 +29,8 @@ pub data Event : Type 0 where
   Sample : Event
   Level : Event
   Audit : Event
+  -- of a guest
+  AuditGuest : ℕ → Event
   Dump : ℕ → Event
   Stats : ℕ → Event
   -- a slot and its byte
@@ -54,6 +56,7 @@ event_of_numbers name.Evict (Two guest page) = both Evict (number_of guest) (num
 event_of_numbers name.Sample Zero = Some Sample
 event_of_numbers name.Level Zero = Some Level
 event_of_numbers name.Audit Zero = Some Audit
+event_of_numbers name.Audit (One guest) = option_map AuditGuest (number_of guest)
 event_of_numbers name.Dump (One guest) = option_map Dump (number_of guest)
 event_of_numbers name.Stats (One guest) = option_map Stats (number_of guest)
 event_of_numbers name.Damage (Two slot byte) = both Damage (number_of slot) (number_of byte)

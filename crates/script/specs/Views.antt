@@ -2,7 +2,7 @@
 use Rattle.std.specs.Prelude.{ℕ, List, map, option_map}
 use Rattle.std.specs.Borrow.{Bor}
 use Rattle.script.specs.Words.{Arguments, Zero, One, Two, Three, Four}
-use Rattle.script.specs.Events.{Event, Step, Run, In, Drain, Target, Poke, Write, Probe, Fault, Scan, Evict, Sample, Level, Audit, Dump, Stats, Damage}
+use Rattle.script.specs.Events.{Event, Step, Run, In, Drain, Target, Poke, Write, Probe, Fault, Scan, Evict, Sample, Level, Audit, AuditGuest, Dump, Stats, Damage}
 use Rattle.script.specs.Actions.{Action, Single, StepEach, RunEach, ActionLine, Block}
 use Rattle.script.specs.Headers as headers
 use Rattle.script.specs.Headers.{GuestLine, Part, Draft, Header}
@@ -54,6 +54,7 @@ event_view (event.Evict guest page) = Evict guest page
 event_view event.Sample = Sample
 event_view event.Level = Level
 event_view event.Audit = Audit
+event_view (event.AuditGuest guest) = AuditGuest guest
 event_view (event.Dump guest) = Dump guest
 event_view (event.Stats guest) = Stats guest
 event_view (event.Damage slot byte) = Damage slot byte

@@ -46,6 +46,7 @@ fn is_allowed(guests: &[GuestLine], slots: u32, event: &Event) -> bool
         | Event::Fault { guest }
         | Event::Scan { guest, .. }
         | Event::Evict { guest, .. }
+        | Event::AuditGuest { guest }
         | Event::Dump { guest }
         | Event::Stats { guest } => has_guest(guests, *guest),
         Event::Target { guest, pages } => has_pages(guests, *guest, *pages),

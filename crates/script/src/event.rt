@@ -76,6 +76,10 @@ pub enum Event {
     Level,
     /// The books are compared with what the guests have.
     Audit,
+    /// The pages of a guest are counted, by where they are.
+    AuditGuest {
+        guest: u32,
+    },
     /// A guest's state is printed.
     Dump {
         guest: u32,
@@ -141,6 +145,7 @@ impl Event {
             Event::Sample => Event::Sample,
             Event::Level => Event::Level,
             Event::Audit => Event::Audit,
+            Event::AuditGuest { guest } => Event::AuditGuest { guest },
             Event::Dump { guest } => Event::Dump { guest },
             Event::Stats { guest } => Event::Stats { guest },
             Event::Damage { slot, byte } => Event::Damage { slot, byte },
@@ -244,6 +249,9 @@ fn with_one(name: EventName, guest: &str) -> Option<Event>
             guest: number(guest)?,
         }),
         EventName::Fault => Some(Event::Fault {
+            guest: number(guest)?,
+        }),
+        EventName::Audit => Some(Event::AuditGuest {
             guest: number(guest)?,
         }),
         EventName::Dump => Some(Event::Dump {

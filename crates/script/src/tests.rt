@@ -44,7 +44,7 @@ const TAKEN: &str =
 
 /// Lines that are refused behind the header: for their words and blanks, their numbers, and their guests and ranges.
 const REFUSED: &str =
-    "stop\nStep 0 1\nsteps 0 1\nstep 0\nstep 0 1 2\ndrain\ndrain 0 0\nsample 0\nlevel 0\naudit 0\ndump\nstats\nstats 0 0\n\
+    "stop\nStep 0 1\nsteps 0 1\nstep 0\nstep 0 1 2\ndrain\ndrain 0 0\nsample 0\nlevel 0\naudit 0 0\ndump\nstats\nstats 0 0\n\
     probe 0 0x0\nstep 0 1 1 1 1 1\n step 0 1\nstep  0 1\nstep 0  1\nstep 0 1 \nstep\t0 1\nstep 0 1\rx\n # step\n \n\
     step 0 4294967296\nstep 0 99999999999999999999\nstep 0 +1\nstep 0 -1\nstep 0 0x1\nstep 0 1a\nstep 0 \u{e9}\n\
     in 0\nin 0 0\nin 0 000\nin 0 0g\nin 0 \nwrite 0 0x0 \nwrite 0 0x0 0\nwrite 0 0 00\npoke 0 1 0x\n\

@@ -1,2 +1,3 @@
+mod GivenPages
 mod Playing
 mod Showing

@@ -52,6 +52,7 @@ for_act guests slots event.Sample is = record { register = tt; act = (tt, tt) }
 for_act guests slots event.Level is = record { register = tt; act = (tt, tt) }
 for_act guests slots event.Audit is = record { register = tt; act = tt }
 for_act guests slots (event.Dump guest) is = record { register = tt; act = is }
+for_act guests slots (event.AuditGuest guest) is = record { register = tt; act = is }
 for_act guests slots (event.Stats guest) is = record { register = tt; act = is }
 for_act guests slots (event.Damage slot byte) is = record { register = tt; act = is }
 

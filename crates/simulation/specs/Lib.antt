@@ -1,4 +1,5 @@
 pub mod Acts
 pub mod Lines
+pub mod Pages
 pub mod Playing
 pub mod Transcripts

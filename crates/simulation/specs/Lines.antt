@@ -35,6 +35,7 @@ use Rattle.script.specs.declared.event.Event.{Event}
 use Rattle.simulation.specs.Acts.{act_of}
 use Rattle.simulation.specs.declared.acts.Act.{Act}
 use Rattle.simulation.specs.declared.acts.Act.TheVariants as act
+use Rattle.simulation.specs.declared.pages.PageCounts.{PageCounts}
 use Rattle.simulation.specs.declared.said.Said.{Said}
 use Rattle.simulation.specs.declared.said.Said.TheVariants as said
 use Rattle.simulation.specs.declared.text.Heading.{Heading}
@@ -71,6 +72,7 @@ heading_text (heading.Run guest) = codes "run " ++ decimal guest ++ codes " "
 heading_text (heading.In guest) = codes "in " ++ decimal guest ++ codes " "
 heading_text (heading.Drain guest) = codes "drain " ++ decimal guest ++ codes " "
 heading_text (heading.Stats guest) = codes "stats " ++ decimal guest ++ codes " "
+heading_text (heading.Audit guest) = codes "audit " ++ decimal guest ++ codes " "
 heading_text heading.Bare = []
 
 -- steps of a guest
@@ -162,6 +164,12 @@ left_text m =
 abbrev pub moves_text : Heading → MoveCounts → List ℕ
 moves_text h m = heading_text h ++ gained_text m ++ left_text m ++ codes "\n"
 
+-- where the pages of a guest are
+abbrev pub pages_text : Heading → PageCounts → List ℕ
+pages_text h counts =
+    heading_text h ++ codes "private " ++ decimal counts.private ++ codes " shared " ++ decimal counts.shared ++ codes " swapped "
+    ++ decimal counts.swapped ++ codes " given " ++ decimal counts.given ++ codes " zero " ++ decimal counts.zero ++ codes "\n"
+
 -- the level of a turn of the policy, or want of memory to plan it
 abbrev pub turned_text : Result Turn AllocError → List ℕ
 turned_text (Ok turn) = level_text turn.level
@@ -202,6 +210,7 @@ heading_of (act.World (happening.Run guest count)) = heading.Run guest
 heading_of (act.World (happening.Feed guest bytes)) = heading.In guest
 heading_of (act.World (happening.Input guest item)) = heading.Drain guest
 heading_of (act.Stats guest) = heading.Stats guest
+heading_of (act.Pages guest) = heading.Audit guest
 heading_of _ = heading.Bare
 
 -- the line of what is answered to an act, or the lines of a dump
@@ -209,6 +218,7 @@ abbrev pub said_text : Heading → Said → List ℕ
 said_text h (said.Answered a) = answer_text h a
 said_text h said.Skipped = codes "skipped\n"
 said_text h (said.Counted counts) = books_text counts
+said_text h (said.Placed counts) = pages_text h counts
 said_text h (said.Dumped done) = dumped_text done
 said_text h (said.Moved counts) = moves_text h counts
 said_text h (said.Damaged done) = damaged_text done

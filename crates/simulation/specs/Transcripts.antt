@@ -3,7 +3,7 @@ use Rattle.std.specs.Prelude.{◌≡◌, ◌↔◌, ◌+◌, ◌≤◌, ℕ, Boo
 use Rattle.std.specs.declared.vec.Vec.{Vec}
 use Rattle.std.specs.declared.string.String.{String}
 use Rattle.std.specs.declared.alloc.Global.{Global}
-use Rattle.world.specs.All.{AllStay, AreBooted, AreHeldByDigest, GuestPage, Happens, IsAdmitted, IsSoundWorld, Item, Machine, Reply, StoreFacts, StoreStays, Stream, TenantIs, WhyNotBooted, WorldIs, Write, accepts, at_page, boot_of, bytes_at, entry_count, guest_at, items_of, log_at, own_items, pages_in, private_pages, replied, reply, run, shared_pages, swapped_pages, view_at}
+use Rattle.world.specs.All.{AllStay, AreBooted, AreHeldByDigest, GuestPage, Happens, IsAdmitted, IsSoundWorld, Item, Machine, Reply, StoreFacts, StoreStays, Stream, TenantIs, WhyNotBooted, WorldIs, Write, accepts, at_page, boot_of, bytes_at, entry_count, guest_at, items_of, log_at, own_items, pages_at, pages_in, private_pages, replied, reply, run, shared_pages, swapped_pages, view_at}
 use Rattle.rand_core.specs.Steps.{stream_of, steps_u32}
 use Rattle.rand_core.specs.Pcg32Seed.{pcg32_seed}
 use Rattle.rand_pcg.specs.Pcg.{pcg32, pcg32_of_seed}
@@ -23,12 +23,15 @@ use Rattle.world.specs.declared.events.Answer.TheVariants as answer
 use Rattle.world.specs.declared.events.Event.TheVariants as happening
 use Rattle.simulation.specs.declared.acts.Act.{Act}
 use Rattle.simulation.specs.declared.acts.Act.TheVariants as act
+use Rattle.simulation.specs.declared.pages.PageCounts.{PageCounts}
 use Rattle.simulation.specs.declared.said.Said.{Said}
 use Rattle.simulation.specs.declared.said.Said.TheVariants as said
 use Rattle.simulation.specs.declared.transcript.SimError.{SimError}
 use Rattle.simulation.specs.declared.transcript.SimError.TheVariants.{Boot, Memory, Output}
 use Rattle.simulation.specs.Acts.{IsHarmless, act_of}
 use Rattle.simulation.specs.Lines.{NumberedEvent, lines_of}
+use Rattle.simulation.specs.Pages.{given_pages}
+use Rattle.physmap.specs.declared.page.Page.{Page}
 
 -- ---- one act
 
@@ -43,6 +46,14 @@ pub record AreCounts {Store : Type 0} (w : WorldIs Store) (all_slots : ℕ) (cou
   pub slots : counts.slots ≡ all_slots
   pub all_frames : counts.free + counts.private + counts.shared ≡ counts.frames
   pub few_used : counts.swapped ≤ counts.slots
+
+-- Where the pages of a guest are: all of them together are the guest's pages.
+pub record ArePlaced (pages : List Page) (counts : PageCounts) : Type 0 where
+  pub private : counts.private ≡ private_pages pages
+  pub shared : counts.shared ≡ shared_pages pages
+  pub swapped : counts.swapped ≡ swapped_pages pages
+  pub given : counts.given ≡ given_pages pages
+  pub all : counts.private + counts.shared + counts.swapped + counts.given + counts.zero ≡ length pages
 
 -- a text is the dump of a guest of a world, with all steps since its boot
 abbrev pub IsDumpIn : {Store : Type 0} → WorldIs Store → ℕ → List ℕ → Type 0
@@ -67,6 +78,7 @@ abbrev pub IsTold : {Store : Type 0} → (facts : StoreFacts Store) → Stream �
 IsTold facts words w (act.World e) (said.Answered a) rest w' = Happens facts 75 words w e a rest w'
 IsTold facts words w act.Skip said.Skipped rest w' = (w' ≡ w) × (rest ≡ words)
 IsTold facts words w act.Audit (said.Counted counts) rest w' = AreCounts w (facts.slots w.store) counts × (w' ≡ w) × (rest ≡ words)
+IsTold facts words w (act.Pages g) (said.Placed counts) rest w' = ((t : TenantIs) → ArePlaced (pages_at w g t) counts) × (w' ≡ w) × (rest ≡ words)
 IsTold facts words w (act.Dump g) (said.Dumped done) rest w' =
     IfOk done (λ text. facts.true_to_digests w.store → IsDumpIn w g (string_bytes text)) × (w' ≡ w) × (rest ≡ words)
 IsTold facts words w (act.Stats g) (said.Moved counts) rest w' = (w' ≡ w) × (rest ≡ words)

@@ -16,6 +16,8 @@ pub enum Act {
     Skip,
     /// The books are read.
     Audit,
+    /// Where the pages of this guest are is counted.
+    Pages(usize),
     /// The state of this guest is read.
     Dump(usize),
     /// How often the pages of this guest have moved is read.
@@ -96,6 +98,7 @@ pub fn act_of(event: Event) -> Act
         Event::Sample => Act::World(Happening::Sample),
         Event::Level => Act::World(Happening::Level),
         Event::Audit => Act::Audit,
+        Event::AuditGuest { guest } => Act::Pages(guest as usize),
         Event::Dump { guest } => Act::Dump(guest as usize),
         Event::Stats { guest } => Act::Stats(guest as usize),
         Event::Damage { slot, byte } => Act::Damage(slot, byte),

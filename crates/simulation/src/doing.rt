@@ -6,6 +6,7 @@ ghost use Rattle.dump.specs.Steps.{step_count};
 ghost use Rattle.simulation.specs.Acts.{IsDoable, IsHarmless};
 ghost use Rattle.simulation.specs.Transcripts.{IsTold, added};
 
+use crate::pages::page_counts;
 use crate::{Act, Said};
 use dump::{dump, steps_in};
 use rand_core::Rng;
@@ -56,6 +57,10 @@ pub(crate) fn perform<S: Damage, R: Rng>(
         Act::Audit => {
             world.is_sound();
             Said::Counted(world.books())
+        }
+        Act::Pages(g) => {
+            world.is_sound();
+            Said::Placed(page_counts(world, g))
         }
         Act::Dump(g) => {
             world.is_sound();

@@ -9,16 +9,21 @@
 //! console's output, the bytes of its memory and its dump, is that of the machine that its image boots, run alone on the items that its
 //! own events added (`AllShow`). The second holds where the store is true to digests at the end, so also after a damage that a SHA-256
 //! tells. Where memory is refused on the way, the same is so of the first events, whose replies are written (`BreaksOff`). How often pages
-//! have moved is beside all this: no clause says the numbers.
+//! have moved is beside all this: no clause says the numbers. Whatever was done, whoever keeps logs (`LogKeeper`) gets that of each guest at
+//! the end; that it does isn't said by a clause.
 #![tactic(auto)]
 
 pub mod acts;
 mod blocks;
 mod doing;
+pub mod keeping;
+pub mod pages;
 pub mod said;
 pub mod text;
 pub mod transcript;
 
 pub use acts::Act;
+pub use keeping::LogKeeper;
+pub use pages::PageCounts;
 pub use said::Said;
 pub use transcript::{SimError, simulate};

@@ -1,4 +1,5 @@
 //! What is answered to what is done.
+use crate::pages::PageCounts;
 use std::alloc::AllocError;
 use world::{Answer, BookCounts, MoveCounts};
 
@@ -11,6 +12,8 @@ pub enum Said {
     Skipped,
     /// What the books count.
     Counted(BookCounts),
+    /// How many pages of a guest are where.
+    Placed(PageCounts),
     /// The state of a guest, as `dump::dump` writes it; or there was no memory for it.
     Dumped(Result<String, AllocError>),
     /// How often the pages of a guest have moved since its boot, and why. No clause says what these numbers are.

@@ -3,7 +3,7 @@ ghost use Rattle.std.specs.Prelude.{◌≡◌, ◌++◌, OnOk, codes, decimal, s
 ghost use Rattle.paging.specs.declared.scan.Scan.{Scan};
 ghost use Rattle.simulation.specs.Lines as spec;
 
-use crate::{Act, Said};
+use crate::{Act, PageCounts, Said};
 use dump::{push_digits, push_output_digits};
 use flatvm::Reply;
 use guest::{Refused, Stop};
@@ -26,6 +26,7 @@ pub enum Heading {
     In(usize),
     Drain(usize),
     Stats(usize),
+    Audit(usize),
     /// It names neither.
     Bare,
 }
@@ -40,6 +41,7 @@ pub fn heading_of(act: &Act) -> Heading
         Act::World(Event::Feed(guest, _)) => Heading::In(*guest),
         Act::World(Event::Input(guest, _)) => Heading::Drain(*guest),
         Act::Stats(guest) => Heading::Stats(*guest),
+        Act::Pages(guest) => Heading::Audit(*guest),
         _ => Heading::Bare,
     }
 }
@@ -102,6 +104,7 @@ fn push_heading(out: &mut String, heading: Heading) -> Result<(), AllocError>
         Heading::In(guest) => write!(out, "in {guest} "),
         Heading::Drain(guest) => write!(out, "drain {guest} "),
         Heading::Stats(guest) => write!(out, "stats {guest} "),
+        Heading::Audit(guest) => write!(out, "audit {guest} "),
         Heading::Bare => Ok(()),
     }
 }
@@ -275,6 +278,19 @@ fn push_books(out: &mut String, counts: BookCounts) -> Result<(), AllocError>
     out.push_str("\n")
 }
 
+// How many pages of a guest are where.
+fn push_pages(out: &mut String, heading: Heading, counts: PageCounts) -> Result<(), AllocError>
+    ensures { OnOk result (string_bytes out.new ≡ string_bytes out.old ++ spec.pages_text heading counts) }
+{
+    push_heading(out, heading)?;
+    push_count(out, "private ", counts.private)?;
+    push_count(out, " shared ", counts.shared)?;
+    push_count(out, " swapped ", counts.swapped)?;
+    push_count(out, " given ", counts.given)?;
+    push_count(out, " zero ", counts.zero)?;
+    out.push_str("\n")
+}
+
 // How many pages got a frame, or came to read a shared one.
 fn push_gained(out: &mut String, counts: MoveCounts) -> Result<(), AllocError>
     ensures { OnOk result (string_bytes out.new ≡ string_bytes out.old ++ spec.gained_text counts) }
@@ -362,6 +378,7 @@ pub fn push_said(out: &mut String, heading: Heading, said: &Said) -> Result<(), 
         Said::Answered(answer) => push_answer(out, heading, answer),
         Said::Skipped => out.push_str("skipped\n"),
         Said::Counted(counts) => push_books(out, *counts),
+        Said::Placed(counts) => push_pages(out, heading, *counts),
         Said::Dumped(done) => push_dumped(out, done),
         Said::Moved(counts) => push_moves(out, heading, *counts),
         Said::Damaged(done) => push_damaged(out, done),

@@ -8,7 +8,9 @@ ghost use Rattle.simulation.specs.Acts.{IsBlockFor};
 ghost use Rattle.simulation.specs.Transcripts.{BreaksOff, WhyNotDone, WritesTranscript};
 ghost use Rattle.simulation.specs.declared.transcript.SimError.TheVariants.{Boot, Memory, Output};
 
+use crate::LogKeeper;
 use crate::blocks::{Interruption, play};
+use crate::keeping::keep_logs;
 use rand_core::SeedableRng;
 use rand_pcg::Pcg32;
 use script::Block;
@@ -42,11 +44,12 @@ impl From<Interruption> for SimError {
 }
 
 /// Boots a world with these guests over a store, does what blocks say, and writes the reply to each event as soon as it is done, behind
-/// the number of its line where `numbered` says so. Random numbers are those of a generator of this seed.
+/// the number of its line where `numbered` says so. Random numbers are those of a generator of this seed. At the end, also where it comes
+/// early, `keeper` gets the log of each guest.
 ///
 /// `Boot` where the world is refused (`World::boot`): then nothing is written. `Memory` where a request for memory was refused later: then
 /// the replies to the first events are written. `Output` where a reply could not be written.
-pub fn simulate<S: Damage + Drop, W: Write>(
+pub fn simulate<S: Damage + Drop, K: LogKeeper, W: Write>(
     alloc: Global,
     config: Config,
     seed: u32,
@@ -54,6 +57,7 @@ pub fn simulate<S: Damage + Drop, W: Write>(
     store: S,
     blocks: &[Block],
     numbered: bool,
+    keeper: &mut K,
     out: &mut W,
 ) -> Result<(), SimError>
     requires { All (IsBlockFor (length guests.items) (S.slots store)) (map block_view blocks.now) }
@@ -77,6 +81,7 @@ pub fn simulate<S: Damage + Drop, W: Write>(
     let count = world.count() as u32;
     let mut rng = Pcg32::seed_from_u64(u64::from(seed));
     let played = play(alloc, &mut world, &mut rng, count, blocks, numbered, out);
+    keep_logs(&world, keeper);
     drop(world.close());
     match played {
         Ok(()) => Ok(()),

@@ -4,13 +4,27 @@
 #![tactic(auto)]
 
 use command_line::program::{program, unreadable, words};
+use command_line::progress::Progress;
+use std::io::IsTerminal;
 use std::process::ExitCode;
 
 fn main(rt: HostRuntime) -> ExitCode {
     let mut out = rt.stdout();
     let mut err = rt.stderr();
+    let told = rt.stderr();
+    let terminal = if told.is_terminal() { Some(told) } else { None };
+    let mut watch = Progress::new(&rt, terminal);
     let status = match words(&rt) {
-        Ok(words) => program(&rt, words.as_slice(), &mut rt.reader(), &mut out, &mut err),
+        Ok(words) => {
+            program(
+                &rt,
+                words.as_slice(),
+                &mut rt.reader(),
+                &mut out,
+                &mut err,
+                &mut watch,
+            )
+        }
         Err(error) => unreadable(&error, &mut err),
     };
     ExitCode::from(status)

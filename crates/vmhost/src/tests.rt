@@ -2,9 +2,11 @@
 //! in the cases of the folder `cases`.
 mod failures;
 mod logs;
+mod progress;
 mod sources;
 
 use command_line::program::program;
+use runs::Nobody;
 use std::alloc::{AllocError, Global};
 use std::fs::File;
 use std::net::{Net, TcpListener, TcpStream};
@@ -174,7 +176,14 @@ where
     let words = words_of(rt.alloc(), line, file)?;
     let mut out = Vec::new(rt.alloc());
     let mut err = Vec::new(rt.alloc());
-    let status = program(rt, words.as_slice(), &mut io::empty(), &mut out, &mut err);
+    let status = program(
+        rt,
+        words.as_slice(),
+        &mut io::empty(),
+        &mut out,
+        &mut err,
+        &mut Nobody,
+    );
     Ok(Said {
         status,
         out: String::from_utf8(out)?,

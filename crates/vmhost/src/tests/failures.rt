@@ -8,6 +8,7 @@ use commands::image_file::{elf_image, raw_image};
 use commands::{Exec, Fault, Format, MachineKind};
 use guest::Stop;
 use output_file::write_bytes;
+use runs::Nobody;
 use std::alloc::Global;
 use std::fs::File;
 use std::io;
@@ -219,7 +220,7 @@ where
 {
     let mut out = Narrow::new(rt.alloc(), room);
     let mut err = Narrow::new(rt.alloc(), room);
-    let status = program(rt, words, &mut io::empty(), &mut out, &mut err);
+    let status = program(rt, words, &mut io::empty(), &mut out, &mut err, &mut Nobody);
     (status, begins(&ample.out, &out) && begins(&ample.err, &err))
 }
 

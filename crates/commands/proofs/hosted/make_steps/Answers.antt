@@ -1,7 +1,8 @@
 use Rattle.std.proofs.Common.{◌∙◌, ◌+◌, ap, arith}
 use Rattle.swapstore.specs.Memories.{MemoryIs, sound_are_told}
 use Rattle.commands.specs.Hosted.{hosted_of}
-use Rattle.commands.proofs.Hosting.{alone_stepped, ended_full, lacking, need_is_early, need_room, not_all, one_step_more, stepped, steps_so_far, still_one}
+use Rattle.commands.proofs.Hosting.{alone_stepped, ended_full, lacking, need_is_early, need_room, not_all, stepped, still_one}
+use Rattle.runs.proofs.Ends.{one_more, steps_so_far}
 use Rattle.commands.proofs.hosted.make_steps.Goals as goal
 
 pub step_supplied-requires-clause-alone : goal.step_supplied-requires-clause-alone
@@ -66,7 +67,7 @@ loop-made-preserved c =
     record {
       alone = c.step_supplied.ensures.alone;
       few = omega (arith, not_all s.result.end s.result.steps _ (need_is_early s.result.end c.in-Need.page _ c.in-Need.is) s.ensures.done s.ensures.most);
-      state = one_step_more (c.loop-made.made + s.result.steps) first now (hosted_of c.step_supplied.new.world.tenants).machine
+      state = one_more (c.loop-made.made + s.result.steps) first now (hosted_of c.step_supplied.new.world.tenants).machine
           (steps_so_far c.loop-made.made s.result.steps first (hosted_of c.loop-made.world.tenants).machine now c.loop-made.invariant.state
           (stepped c.loop-made.world.tenants s.new.self.tenants s.result.steps c.loop-made.invariant.alone.one (s.ensures.logs 0) s.ensures.boots)) c.in_default.ensures.made;
     }

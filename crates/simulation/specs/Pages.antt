@@ -1,0 +1,14 @@
+-- How many pages of a guest are given.
+use Rattle.std.specs.Prelude.{ℕ, List, sum_by}
+use Rattle.physmap.specs.Pages.{kind_of}
+use Rattle.physmap.specs.declared.page.Page.{Page}
+use Rattle.physmap.specs.declared.page.PageKind.{PageKind}
+use Rattle.physmap.specs.declared.page.PageKind.TheVariants.{Given}
+
+-- 1 for a page that is given to the balloon, 0 for each other
+abbrev pub one_given : PageKind → ℕ
+one_given Given = 1
+one_given _ = 0
+
+abbrev pub given_pages : List Page → ℕ
+given_pages pages = sum_by (λ page. one_given (kind_of page)) pages
