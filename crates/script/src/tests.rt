@@ -39,7 +39,7 @@ const HEADER: &str = "frames 8\nslots 4\nseed 1\nguest a.elf 16 100\n";
 const TAKEN: &str =
     "step 0 0\nstep 00 007\nrun 0 4294967295\nin 0 00\nin 0 aBCd\ntarget 0 0\ntarget 0 16\n\
     poke 0 0 0xFFFFffff\npoke 0 37 0x0\nwrite 0 0x80000000 0A\nprobe 0 0x0 1\nprobe 0 0x0 1024\nscan 0 4294967295\n\
-    evict 0 99999\ndamage 0 0\ndamage 3 4095\n\n#\n# step\nfail read 1\nfail write 4294967295\nadmit\nprofile 0\n\
+    evict 0 99999\naudit 0\ndamage 0 0\ndamage 3 4095\n\n#\n# step\nfail read 1\nfail write 4294967295\nadmit\nprofile 0\n\
     guest b 0 0 4294967295\nstep * 1\nrun * 4294967295";
 
 /// Lines that are refused behind the header: for their words and blanks, their numbers, and their guests and ranges.
