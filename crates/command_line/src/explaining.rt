@@ -2,7 +2,8 @@
 //!
 //! Files are read again for them, plain files alone: where that fails, where memory is refused or where nothing more can be told,
 //! there are no words.
-use commands::image_file::whole_file;
+use commands::image_file::{elf_file, whole_file};
+use commands::log_file::is_log;
 use commands::{Asm, Dis, Exec, Fault, Replay};
 use diagnosis::{Excerpt, Memory, Words, boot, elf, file, log, raw, script_line, source};
 use output_file::is_one_file;
@@ -56,6 +57,17 @@ fn contents<R: Files + AllocGlobal>(rt: &R, name: &str) -> Option<Vec<u8>> {
     whole_file(rt.alloc(), plain_file(rt, name)?).ok()
 }
 
+/// The bytes of a plain file that was to be an executable; the first alone where they say that it is none.
+fn executable<R: Files + AllocGlobal>(rt: &R, name: &str) -> Option<Vec<u8>> {
+    match elf_file(rt.alloc(), plain_file(rt, name)?).ok()? {
+        Some(bytes) => Some(bytes),
+        None => whole_file(rt.alloc(), plain_file(rt, name)?.take(FIRST_BYTES)).ok(),
+    }
+}
+
+/// How many bytes say what kind of file it is.
+const FIRST_BYTES: u64 = 52;
+
 /// A plain file: another kind, as a pipe, can't be read for the second time.
 fn plain_file<R: Files>(rt: &R, name: &str) -> Option<R::File> {
     if fs::metadata(rt, name).ok()?.is_file() {
@@ -87,7 +99,7 @@ fn own_reason<R: Files + AllocGlobal>(
         Subject::Asm(order) => reason_of_asm(rt, order),
         Subject::Exec(order) => reason_of_exec(rt, order),
         Subject::Run(order) => reason_of_run(rt, order, name),
-        Subject::Script(_, Some(logs)) if name == logs => reason_of_logs(rt, logs),
+        Subject::Script(text, Some(logs)) => reason_of_script(rt, text, logs, name),
         _ => None,
     }
 }
@@ -120,16 +132,35 @@ fn reason_of_run<R: Files + AllocGlobal>(
 ) -> Option<&'static str> {
     if name == order.swap && is_image(rt, order) {
         Some(SWAP_IS_IMAGE)
-    } else if name == order.logs {
-        reason_of_logs(rt, name)
     } else {
-        None
+        reason_of_logs(rt, order.logs, order.guests.len(), name)
     }
 }
 
-/// Why a directory for logs can't be one.
-fn reason_of_logs<R: Files>(rt: &R, name: &str) -> Option<&'static str> {
-    match fs::metadata(rt, name) {
+fn reason_of_script<R: Files + AllocGlobal>(
+    rt: &R,
+    text: &str,
+    logs: &str,
+    name: &str,
+) -> Option<&'static str> {
+    let Script { header, blocks: _ } = script::read(rt.alloc(), text).ok()?;
+    reason_of_logs(rt, logs, header.guests.len(), name)
+}
+
+/// Why the logs of so many guests can't be written into a directory, where a file of this name is in the way.
+fn reason_of_logs<R: Files + AllocGlobal>(
+    rt: &R,
+    directory: &str,
+    guests: usize,
+    name: &str,
+) -> Option<&'static str> {
+    if name != directory {
+        return match is_log(rt, directory, guests, name) {
+            Ok(true) => Some(LOG_IS_INPUT),
+            _ => None,
+        };
+    }
+    match fs::metadata(rt, directory) {
         Ok(found) if !found.is_dir() => Some(NO_DIRECTORY),
         _ => None,
     }
@@ -138,6 +169,9 @@ fn reason_of_logs<R: Files>(rt: &R, name: &str) -> Option<&'static str> {
 const SWAP_IS_IMAGE: &str = "the swap file is the image of a guest too: give it another name";
 
 const NO_DIRECTORY: &str = "it is no directory";
+
+const LOG_IS_INPUT: &str =
+    "the log of a guest would be written over it: give the logs another directory";
 
 /// Whether the swap file of a run is the image of a guest too.
 fn is_image<R: Files + AllocGlobal>(rt: &R, order: &RunOrder<'_>) -> bool {
@@ -149,8 +183,8 @@ fn is_image<R: Files + AllocGlobal>(rt: &R, order: &RunOrder<'_>) -> bool {
     false
 }
 
-/// Whether the log of a run has this name.
-fn is_log(order: Exec<'_>, name: &str) -> bool {
+/// Whether the log of an execution has this name.
+fn is_exec_log(order: Exec<'_>, name: &str) -> bool {
     match order.log {
         Some(log) => log == name,
         None => false,
@@ -161,7 +195,7 @@ fn is_log(order: Exec<'_>, name: &str) -> bool {
 fn is_output(subject: Subject<'_>, name: &str) -> bool {
     match subject {
         Subject::Asm(order) => order.output == name,
-        Subject::Exec(order) => is_log(order, name),
+        Subject::Exec(order) => is_exec_log(order, name),
         _ => false,
     }
 }
@@ -259,7 +293,7 @@ fn image_words<R: Files + AllocGlobal>(
     memory: Memory,
     fault: elf32::Fault,
 ) -> Option<Words> {
-    let bytes = contents(rt, name)?;
+    let bytes = executable(rt, name)?;
     let refusal = elf::explain(rt.alloc(), &bytes, memory).ok()??;
     if refusal.fault == fault {
         Some(refusal.words)
@@ -272,7 +306,7 @@ fn image_words<R: Files + AllocGlobal>(
 fn guest_words<R: Files + AllocGlobal>(rt: &R, text: &str, fault: elf32::Fault) -> Option<Words> {
     let Script { header, blocks: _ } = script::read(rt.alloc(), text).ok()?;
     for (number, guest) in header.guests.iter().enumerate() {
-        let bytes = contents(rt, guest.file)?;
+        let bytes = executable(rt, guest.file)?;
         let memory = Memory::Guest { pages: guest.pages };
         if let Some(refusal) = elf::explain(rt.alloc(), &bytes, memory).ok()? {
             if refusal.fault != fault {
@@ -291,7 +325,7 @@ fn run_guest_words<R: Files + AllocGlobal>(
     fault: elf32::Fault,
 ) -> Option<Words> {
     for (number, guest) in order.guests.iter().enumerate() {
-        let bytes = contents(rt, guest.image)?;
+        let bytes = executable(rt, guest.image)?;
         let memory = Memory::Guest { pages: guest.pages };
         if let Some(refusal) = elf::explain(rt.alloc(), &bytes, memory).ok()? {
             if refusal.fault != fault {

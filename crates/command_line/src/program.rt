@@ -268,7 +268,7 @@ where
         Ok(text) => text,
         Err(fault) => return write_refusal(rt, Subject::ScriptFile, &fault, err),
     };
-    match run_script(rt, &text, order.numbered, order.logs, out) {
+    match run_script(rt, order, &text, out) {
         Ok(unwritten) => answer_logs(order.logs, unwritten, tells, err),
         Err(SimFault::Refused(fault)) => write_refusal(
             rt,

@@ -1,6 +1,7 @@
 -- Which faults a command can have.
 use Rattle.std.specs.Prelude.{◌≡◌, ◌<◌, ◌⊎◌, ℕ, true, is_some, List, length, Some, Ok}
 use Rattle.elf32.specs.Faults.{first_fault}
+use Rattle.elf32.specs.declared.fault.Fault.TheVariants as elf_fault
 use Rattle.masm.specs.Assembly as assembly
 use Rattle.masm.specs.declared.error.AsmError.{AsmError}
 use Rattle.masm.specs.declared.error.AsmError.TheVariants as asm_error
@@ -60,6 +61,10 @@ IsElfRefusal all pages (File name) = Unit {0}
 IsElfRefusal all pages (Elf fault) = first_fault all pages ≡ Some fault
 IsElfRefusal all pages Memory = Unit {0}
 IsElfRefusal all pages other = ⊥
+
+-- these are the bytes of a file with another identification than that of an executable, for however many pages
+abbrev pub IsNoElf : List ℕ → Type 0
+IsNoElf all = (pages : ℕ) → first_fault all pages ≡ Some elf_fault.Identification
 
 -- of the image that is run: one of the file, by its format, or the machine is not booted
 abbrev pub IsImageFault : Exec → Fault → Type 0

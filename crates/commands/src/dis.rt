@@ -4,7 +4,7 @@ ghost use Rattle.commands.specs.Faults.{IsDisFault, IsElfFault, IsElfRefusal};
 ghost use Rattle.masm.specs.Disassembly.{IsDisassemblyOf};
 
 use crate::fault::{Fault, of_file};
-use crate::image_file::{image_in, whole_file};
+use crate::image_file::{elf_file, image_in};
 use crate::order::Dis;
 use masm::disassembly_of;
 use std::alloc::Global;
@@ -39,8 +39,12 @@ pub fn disassembly<'a, F: Read + Drop>(
     ensures refused { IfSome (F.remaining file) (λ all. IfErr result (λ fault. IsElfRefusal all 131072 fault)) }
     ensures faults { IfErr result (λ fault. IsElfFault (Fault.File name.entry) fault) }
 {
-    let bytes = of_file(name, whole_file(alloc, file))?;
-    disassembly_in(alloc, &bytes)
+    match of_file(name, elf_file(alloc, file))? {
+        Some(bytes) => disassembly_in(alloc, &bytes),
+        None => Err(Fault::Elf {
+            fault: elf32::Fault::Identification,
+        }),
+    }
 }
 
 /// The disassembly of the executable of these bytes.

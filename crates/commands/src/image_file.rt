@@ -1,9 +1,10 @@
 //! Images in files.
 ghost use Rattle.std.specs.Prelude.{◌≡◌, ◌⊎◌, ◌<◌, ◌*◌, ◌^◌, ◌↔◌, IfErr, IfOk, IfSome, IsErrOf, IsTrue, MatchOption, Some, length};
+ghost use Rattle.std.specs.Io.KnownBytes.{Keeps};
 ghost use Rattle.sha2.specs.Sha256.{sha256};
 ghost use Rattle.elf32.specs.Images.{FitsPages};
 ghost use Rattle.elf32.specs.Files.{StandsFor};
-ghost use Rattle.commands.specs.Faults.{IsElfFault, IsElfRefusal, IsRawFault};
+ghost use Rattle.commands.specs.Faults.{IsElfFault, IsElfRefusal, IsNoElf, IsRawFault};
 ghost use Rattle.commands.specs.Raw.{IsPageCount, IsRaw, IsRawImage};
 
 use crate::fault::{Fault, of_file};
@@ -12,7 +13,7 @@ use elf32::{ElfError, Image};
 use logfile::image_digest;
 use std::alloc::Global;
 use std::io;
-use std::io::Read;
+use std::io::{BufRead, BufReader, Read};
 use tenant::BootError;
 
 /// The least and the greatest number of pages.
@@ -39,7 +40,7 @@ pub struct Loaded {
 /// The image of an ELF executable in the file of this name, for a memory of some pages, which hold it.
 ///
 /// An error is `Elf` with the file's first fault, `Memory` where a request for memory was refused, and `File` where the
-/// file can't be read.
+/// file can't be read. A file whose first bytes say that it is no such executable is not read to its end.
 pub fn elf_image<'a, F: Read + Drop>(
     alloc: Global,
     file: F,
@@ -52,10 +53,43 @@ pub fn elf_image<'a, F: Read + Drop>(
     ensures refused { IfSome (F.remaining file) (λ all. IfErr result (λ fault. IsElfRefusal all pages fault)) }
     ensures faults { IfErr result (λ fault. IsElfFault (Fault.File name.entry) fault) }
 {
-    let bytes = of_file(name, whole_file(alloc, file))?;
+    let Some(bytes) = of_file(name, elf_file(alloc, file))? else {
+        return Err(Fault::Elf {
+            fault: elf32::Fault::Identification,
+        });
+    };
     let digest = image_digest(&bytes);
     let image = image_in(alloc, &bytes, pages)?;
     Ok(Loaded { image, digest })
+}
+
+/// How many bytes the header of an ELF executable has.
+const HEADER_BYTES: usize = 52;
+
+/// What an ELF executable begins with: its magic number, 32 bits, the low byte first, version 1.
+const IDENTIFICATION: [u8; 7] = [0x7f, b'E', b'L', b'F', 1, 1, 1];
+
+/// The bytes of a file; None where its first bytes say that it is no ELF executable, and then it is not read to its end, which may be far.
+pub fn elf_file<F: Read + Drop>(alloc: Global, file: F) -> io::Result<Option<Vec<u8>>>
+    ensures { IfSome (F.remaining file) (λ all. IfOk result (λ found. MatchOption found (IsNoElf all) (λ bytes. bytes.items ≡ all))) }
+{
+    let mut file = BufReader::new(alloc, file)?;
+    if begins_otherwise(&mut file) {
+        return Ok(None);
+    }
+    Ok(Some(whole_file(alloc, file)?))
+}
+
+/// Whether what a reader has next is a whole header with another identification.
+fn begins_otherwise<B: BufRead>(file: &mut B) -> bool
+    ensures kept { Keeps (B.remaining file.old) (B.remaining file.new) }
+    ensures refused { IfSome (B.remaining file.old) (λ all. IsTrue result → IsNoElf all) }
+{
+    match file.fill_buf() {
+        Ok(first) => HEADER_BYTES <= first.len() && !first.starts_with(&IDENTIFICATION),
+        // What can't be read now is told by whoever reads on.
+        Err(_) => false,
+    }
 }
 
 /// The bytes of a file.

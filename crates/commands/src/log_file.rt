@@ -6,7 +6,7 @@ ghost use Rattle.commands.specs.LogFiles.{IsLogFile};
 use crate::fault::{Fault, of_file};
 use guest::Log;
 use logfile::{append, write};
-use output_file::write_file;
+use output_file::{is_one_file, write_file};
 use simulation::LogKeeper;
 use std::alloc::{AllocError, Global};
 use std::rt::Files;
@@ -15,6 +15,22 @@ use std::{fs, io};
 /// The name of the file of a guest's log in a directory: `0.log`, and so on.
 pub fn log_name(alloc: Global, directory: &str, guest: usize) -> Result<String, AllocError> {
     format!(in alloc; "{directory}/{guest}.log")
+}
+
+/// Whether the file of this name is one that the log of one of so many guests is written to, in a directory: by that name, or by another one.
+pub fn is_log<R: Files + AllocGlobal>(
+    rt: &R,
+    directory: &str,
+    guests: usize,
+    name: &str,
+) -> Result<bool, AllocError> {
+    for guest in 0..guests {
+        let log = log_name(rt.alloc(), directory, guest)?;
+        if is_one_file(rt, &log, name) {
+            return Ok(true);
+        }
+    }
+    Ok(false)
 }
 
 /// Makes a directory for logs, where it is not there.

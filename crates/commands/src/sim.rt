@@ -11,7 +11,7 @@ ghost use Rattle.commands.specs.Sims.{IsKnown, IsOver, IsSimulation, config_of, 
 
 use crate::fault::{Fault, of_file};
 use crate::image_file::{Loaded, elf_image, whole_file};
-use crate::log_file::LogFiles;
+use crate::log_file::{LogFiles, is_log};
 use crate::order::Sim;
 use elf32::Image;
 use script::{Block, GuestLine, Header, Script, ScriptError, StoreCall};
@@ -54,32 +54,31 @@ pub enum SimFault<'a> {
     Output,
 }
 
-/// Does the events of a script in a world of its guests, over a store in memory, and writes the reply to each as soon as it is done,
-/// behind the number of its line where `numbered` says so. At the end, also where it comes early, the guests' logs are written into the
-/// directory `logs`, if it is given. The answer is the number of the first guest whose log could not be written.
+/// Does the events of a script of this text in a world of its guests, over a store in memory, and writes the reply to each as soon as it is
+/// done, behind the number of its line where the order says so. At the end, also where it comes early, the guests' logs are written into
+/// the directory of the order, if it names one. The answer is the number of the first guest whose log could not be written.
 ///
 /// An error is `Refused`, before anything is written: `Script` with the first line that is refused, and `Boot` where there are more than
-/// 16 guests, before any other file is read; `File`
+/// 16 guests, before any other file is read; `File` with the script's name or a guest's file where a log would be written over it; `File`
 /// where a guest's file can't be read and `Elf` with its first fault, guest after guest; `File` where the directory of the logs can't be made; `Boot` where the world is refused; `Memory` where a
 /// request for memory was refused. Behind the boot it is `Memory`, where the replies to the first events are written, or `Output` where a
 /// reply could not be. The line `profile` is refused like a word of no event.
 pub fn run_script<'a, R: Files + AllocGlobal, O: Write>(
     rt: &R,
+    order: Sim<'a>,
     text: &'a str,
-    numbered: bool,
-    logs: Option<&'a str>,
     out: &mut O,
 ) -> Result<Option<usize>, SimFault<'a>>
-    ensures replies { OnOk result (IsSimulation true numbered text.now (O.contents out.old) (O.contents out.new)) }
-    ensures broken_off { IsErrOf result SimFault.Memory → IsSimulation false numbered text.now (O.contents out.old) (O.contents out.new) }
+    ensures replies { OnOk result (IsSimulation true order.entry.numbered text.now (O.contents out.old) (O.contents out.new)) }
+    ensures broken_off { IsErrOf result SimFault.Memory → IsSimulation false order.entry.numbered text.now (O.contents out.old) (O.contents out.new) }
     ensures unwritten { (fault : Fault) → IsErrOf result (SimFault.Refused fault) → out.new ≡ out.old }
     ensures faults { IfErr result (λ fault. IsSimFault text.now fault) }
 {
-    let (header, blocks, guests, digests) = match loaded(rt, text) {
+    let (header, blocks, guests, digests) = match loaded(rt, order, text) {
         Ok(loaded) => loaded,
         Err(fault) => return Err(SimFault::Refused(fault)),
     };
-    let mut files = match LogFiles::new(rt, logs, digests) {
+    let mut files = match LogFiles::new(rt, order.logs, digests) {
         Ok(files) => files,
         Err(fault) => return Err(SimFault::Refused(fault)),
     };
@@ -88,7 +87,7 @@ pub fn run_script<'a, R: Files + AllocGlobal, O: Write>(
         &header,
         guests,
         &blocks,
-        numbered,
+        order.numbered,
         &mut files,
         out,
     ) {
@@ -107,6 +106,7 @@ struct LoadedGuests {
 /// The script that a text is, and its guests, with the images of their files and these files' digests.
 fn loaded<'a, R: Files + AllocGlobal>(
     rt: &R,
+    order: Sim<'a>,
     text: &'a str,
 ) -> Result<(Header<'a>, Vec<Block>, Vec<NewGuest>, Vec<[u8; 32]>), Fault<'a>>
     ensures script { IfOk result (λ parts. script_of text.now ≡ Ok (script_view (record { header = parts.0; blocks = parts.1 }))) }
@@ -121,8 +121,31 @@ fn loaded<'a, R: Files + AllocGlobal>(
             error: BootError::Limits,
         });
     }
+    logs_are_apart(rt, order, &header.guests)?;
     let loaded = load_guests(rt, &header.guests)?;
     Ok((header, blocks, loaded.guests, loaded.digests))
+}
+
+/// Whether no log, where the order wants them, is to be written over the script or the file of a guest.
+fn logs_are_apart<'a, R: Files + AllocGlobal>(
+    rt: &R,
+    order: Sim<'a>,
+    lines: &[GuestLine<'a>],
+) -> Result<(), Fault<'a>>
+    ensures faults { IfErr result (λ fault. IsFileFault fault) }
+{
+    let Some(directory) = order.logs else {
+        return Ok(());
+    };
+    if is_log(rt, directory, lines.len(), order.script)? {
+        return Err(Fault::File { name: order.script });
+    }
+    for line in lines {
+        if is_log(rt, directory, lines.len(), line.file)? {
+            return Err(Fault::File { name: line.file });
+        }
+    }
+    Ok(())
 }
 
 /// The script that a text is, where all that it says is known.

@@ -8,6 +8,7 @@ use booting::NewGuest;
 use commands::Fault;
 use commands::fault::of_file;
 use commands::image_file::{Loaded, elf_image};
+use commands::log_file::is_log;
 use output_file::is_one_file;
 use std::fs::File;
 use std::io;
@@ -45,6 +46,35 @@ fn swap_file<R: Files<File = File>>(rt: &R, name: &str) -> io::Result<File> {
         .write(true)
         .create(true)
         .open(rt, name)
+}
+
+/// Whether no log in this directory is to be written over the image of a guest.
+#[tactic(auto, using(crate::proofs::Faults::of_place))]
+pub(crate) fn logs_are_apart<'a, R: Files + AllocGlobal>(
+    rt: &R,
+    directory: &str,
+    orders: &[GuestOrder<'a>],
+) -> Result<(), Fault<'a>>
+    ensures faults { IfErr result (λ fault. IsGuestsFault orders.now fault) }
+{
+    for order in orders {
+        is_apart(rt, directory, orders.len(), *order)?;
+    }
+    Ok(())
+}
+
+fn is_apart<'a, R: Files + AllocGlobal>(
+    rt: &R,
+    directory: &str,
+    guests: usize,
+    order: GuestOrder<'a>,
+) -> Result<(), Fault<'a>>
+    ensures faults { IfErr result (λ fault. IsGuestFault order.entry fault) }
+{
+    if is_log(rt, directory, guests, order.image)? {
+        return Err(Fault::File { name: order.image });
+    }
+    Ok(())
 }
 
 /// The guests of an order, with the images of their files, guest after guest.

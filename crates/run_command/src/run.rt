@@ -5,7 +5,7 @@ ghost use Rattle.run_command.specs.Faults.{IsRunFault, MayBoot};
 
 use crate::boot::{boot, open_doors, port_of};
 use crate::fault::RunFault;
-use crate::files::{LoadedGuests, load_guests, open_swap};
+use crate::files::{LoadedGuests, load_guests, logs_are_apart, open_swap};
 use crate::logs::{close_all, write_logs};
 use crate::order::RunOrder;
 use commands::Fault;
@@ -36,7 +36,8 @@ pub enum RunStatus {
 /// `err` first says which guests run at which ports. At the end it writes each guest's log, and then replies `ok` to `quit`.
 ///
 /// An error comes before any guest runs, and before `input` is read and `out` written: the first of these, `File` for the swap file, the directory for
-/// the logs, then an image, which has `Elf` where it is refused; `Boot`; `Port`. `Memory` where a request for memory was refused.
+/// the logs, an image that a log would be written over, then one that can't be read, and `Elf` where it is refused; `Boot`; `Port`. `Memory` where a
+/// request for memory was refused.
 pub fn run_order<'a, R, I, O, E>(
     rt: &R,
     order: &RunOrder<'a>,
@@ -62,6 +63,7 @@ where
 {
     let swap = open_swap(rt, order)?;
     make_directory(rt, order.logs)?;
+    logs_are_apart(rt, order.logs, &order.guests)?;
     let LoadedGuests { guests, digests } = load_guests(rt, &order.guests)?;
     let Booted { host, handles } = boot(rt, rt.alloc(), order, guests, swap)?;
     let doors = match open_doors(rt, rt.alloc(), order) {

@@ -10,7 +10,7 @@ returns-in-Ok-replies_to-clause-replies g c =
     let script : Script = record { header = parts.0; blocks = parts.1 } in
     let done = c.replies_to.ensures in
     let is = c.in-Ok-replies_to.is in
-    simulated true c.args.numbered c.args.text.now script parts.2.items c.deref.result.now (g.O.Write.contents c.args.out.now) (g.O.Write.contents c.replies_to.new.out)
+    simulated true c.args.order.numbered c.args.text.now script parts.2.items c.deref.result.now (g.O.Write.contents c.args.out.now) (g.O.Write.contents c.replies_to.new.out)
     c.in-Ok.ensures.script c.in-Ok.ensures.known c.in-Ok.ensures.guests c.deref.ensures.value
     (told_whole c.replies_to.result _ _ is done.replies) (told_whole c.replies_to.result _ _ is done.within) (told_whole c.replies_to.result _ _ is done.admitted)
 
@@ -20,5 +20,5 @@ returns-clause-broken_off g c = λ want.
     let script : Script = record { header = parts.0; blocks = parts.1 } in
     let done = c.replies_to.ensures in
     let memory = c.in-Err-replies_to.is ∙ ap (λ (e : SimFault). let q : Result (Unit {0}) SimFault = Err e in q) (same_error _ _ want) in
-    simulated false c.args.numbered c.args.text.now script parts.2.items c.deref.result.now (g.O.Write.contents c.args.out.now) (g.O.Write.contents c.replies_to.new.out)
+    simulated false c.args.order.numbered c.args.text.now script parts.2.items c.deref.result.now (g.O.Write.contents c.args.out.now) (g.O.Write.contents c.replies_to.new.out)
     c.in-Ok.ensures.script c.in-Ok.ensures.known c.in-Ok.ensures.guests c.deref.ensures.value (done.broken_off memory) (done.begun_within memory) (done.begun_admitted memory)
