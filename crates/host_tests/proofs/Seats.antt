@@ -1,5 +1,6 @@
 -- What was handed out of a guest, of which one seat has been used.
-use Rattle.std.proofs.Common.{ℕ, List}
+use Rattle.std.proofs.Common.{◌≡◌, ℕ, List, ◌∙◌}
+use Rattle.console_queue.specs.Queues.{FeedIs}
 use Rattle.cell.specs.declared.cell.Cell.{Cell}
 use Rattle.cell.specs.declared.seat.Seat.{Seat}
 use Rattle.cell.specs.Sitting.{IsOf}
@@ -30,3 +31,10 @@ with_debugger cells guest h s at of = record {
   each = λ cell its. let was = at.each cell its in
       record { seats = record { runner = was.seats.runner; console = was.seats.console; policy = was.seats.policy; debugger = of.each cell its }; feed = was.feed };
 }
+
+pub feed_of : {S : Type 0} (cells : List (Cell S)) (guest : ℕ) (h : Handles) → AtGuest cells guest (λ front. AreHandlesOf front h) → AtGuest cells guest (λ front. h.feed.queue ≡ front.queue.id)
+feed_of cells guest h at = record { each = λ cell its. (at.each cell its).feed }
+
+pub with_feed : {S : Type 0} (cells : List (Cell S)) (guest : ℕ) (h : Handles) (f : FeedIs) → AtGuest cells guest (λ front. AreHandlesOf front h) → f.queue ≡ h.feed.queue
+    → AtGuest cells guest (λ front. AreHandlesOf front (record h { feed = f }))
+with_feed cells guest h f at same = record { each = λ cell its. record { seats = (at.each cell its).seats; feed = same ∙ (at.each cell its).feed } }

@@ -130,9 +130,9 @@ pub(crate) fn booted<R: Abort + Wait, G: Gate + Drop>(
     }
 }
 
-// A slice of a guest's runner.
+/// A slice of a guest's runner.
 #[tactic(auto, using(crate::proofs::Seats::runner_of, crate::proofs::Seats::with_runner))]
-fn run<R: Wait, G: Gate + Drop>(
+pub(crate) fn run<R: Wait, G: Gate + Drop>(
     rt: &R,
     alloc: Global,
     host: &Host<MemStore, G>,

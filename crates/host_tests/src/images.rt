@@ -58,8 +58,8 @@ pub(crate) const BUSY: [u32; 24] = [
     0x0000_0000, // sll $0,$0,0
 ];
 
-// The bytes of words, in order.
-fn bytes_of(rt: &impl Abort, alloc: Global, words: &[u32]) -> Vec<u8> {
+/// The bytes of words, in order.
+pub(crate) fn bytes_of(rt: &impl Abort, alloc: Global, words: &[u32]) -> Vec<u8> {
     let mut bytes = Vec::new(alloc);
     for word in words {
         if bytes.extend_from_slice(&word.to_le_bytes()).is_err() {

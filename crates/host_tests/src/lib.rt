@@ -8,9 +8,15 @@ mod bench;
 #[cfg(test)]
 mod crews;
 #[cfg(test)]
+mod exec_tests;
+#[cfg(test)]
 mod gate_tests;
 #[cfg(test)]
 mod images;
+#[cfg(test)]
+mod pairs;
+#[cfg(test)]
+mod policy_tests;
 #[cfg(test)]
 mod race;
 #[cfg(test)]
@@ -18,4 +24,10 @@ mod race_tests;
 #[cfg(test)]
 mod replaying;
 #[cfg(test)]
+mod rows_tests;
+#[cfg(test)]
+mod sharing_tests;
+#[cfg(test)]
 mod slice_tests;
+#[cfg(test)]
+mod waiting_tests;
