@@ -3,7 +3,7 @@ use Rattle.std.proofs.Common.{◌≡◌, ◌≢◌, ℕ, ◌<◌, Bool, true, fa
 use Rattle.std.proofs.lemmas.Bool.Decides.{Decides-eqb}
 use Rattle.std.proofs.lemmas.Slice.Eq.{slice_eq-Decides}
 use lib.Pointwise.{pointwise}
-use Rattle.mips_step.specs.Step.{Machine}
+use Rattle.machine.specs.Step.{Machine}
 use Rattle.physmap.specs.declared.page.Page.{Page}
 use Rattle.physmap.specs.declared.page.Returned.{Returned}
 use Rattle.physmap.specs.declared.page.PageKind.{PageKind}
@@ -18,7 +18,7 @@ use Rattle.guest.specs.Guests.{GuestIs, view_of, Intact, without_pages, HasPause
 use Rattle.guest.specs.Views.{pages_seen}
 use Rattle.guest.specs.declared.progress.Pause.{Pause}
 use Rattle.guest.specs.declared.progress.Pause.TheVariants as pause
-use Rattle.mips_step.specs.declared.access.Why.{Why}
+use Rattle.machine.specs.declared.access.Why.{Why}
 use Rattle.guest.proofs.Keeping.{still_intact, same_view}
 use Rattle.machine_memory.specs.declared.stake.Stake.{Stake}
 use Rattle.machine_memory.proofs.Stakes.{level_by_outline, level_lags}

@@ -4,9 +4,9 @@ use Rattle.items.specs.declared.item.Item.{Item}
 use Rattle.items.specs.declared.item.What.{What}
 use Rattle.items.specs.declared.item.What.TheVariants as what
 use Rattle.loghead.specs.Heads.{HeadId}
-use Rattle.mips_step.specs.Step.{Machine}
-use Rattle.flatvm.specs.Boot.{boot_machine}
-use Rattle.flatvm.specs.Items.{accepts, reply, run}
+use Rattle.machine.specs.Step.{Machine}
+use Rattle.machine.specs.Boot.{boot_machine}
+use Rattle.machine.specs.Items.{accepts, reply, run}
 use Rattle.guest_log.specs.Logs.{IsFull}
 use Rattle.guest.specs.Guests.{GuestIs, view_of, Intact}
 use Rattle.guest.specs.Views.{pages_seen}

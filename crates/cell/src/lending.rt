@@ -8,7 +8,7 @@ ghost use Rattle.physmap.specs.Pages.{kind_at, is_resident};
 ghost use Rattle.guest.specs.Guests.{Intact, without_pages};
 ghost use Rattle.seated.specs.Acts.{Stays};
 ghost use Rattle.machine_memory.specs.Memories.{IsLevel};
-ghost use Rattle.mips_step.specs.declared.access.Why.{Why};
+ghost use Rattle.machine.specs.declared.access.Why.{Why};
 ghost use Rattle.guest.specs.declared.progress.Pause.{Pause};
 ghost use Rattle.cell.specs.Pausing.{LevelBefore};
 ghost use Rattle.cell.specs.Inputs.{bytes_in};

@@ -3,7 +3,7 @@ ghost use Rattle.std.specs.Prelude.{◌≡◌, ◌<◌, ◌≤◌, ◌∷◌, �
 ghost use Rattle.guest_log.specs.Logs.{IsFull};
 ghost use Rattle.guest_log.specs.declared.stop.Stop.{Stop};
 ghost use Rattle.loghead.specs.Legal.{Legal};
-ghost use Rattle.mips_step.specs.declared.access.Why.{Why};
+ghost use Rattle.machine.specs.declared.access.Why.{Why};
 ghost use Rattle.physmap.specs.Outline.{outline};
 ghost use Rattle.guest.specs.declared.progress.Pause.{Pause};
 ghost use Rattle.paging.specs.Faith.{Kept};

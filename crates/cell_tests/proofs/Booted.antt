@@ -5,9 +5,9 @@ use Rattle.elf32.specs.declared.image.Segment.{Segment}
 use Rattle.elf32.specs.declared.image.Image.{Image}
 use Rattle.elf32.specs.Images.{IsWithin, FitsPages}
 use Rattle.devices.specs.Devices.{fresh_devices}
-use Rattle.mips_step.specs.Step.{Machine}
-use Rattle.mips_step.proofs.Clearing.{length-zeros}
-use Rattle.flatvm.specs.Boot.{placed, boot_memory, boot_machine}
+use Rattle.machine.specs.Step.{Machine}
+use Rattle.machine.proofs.Clearing.{length-zeros}
+use Rattle.machine.specs.Boot.{placed, boot_memory, boot_machine}
 use Rattle.physmap.specs.declared.page.Page.{Page}
 use Rattle.physmap.specs.declared.page.Page.TheVariants as page
 use Rattle.physmap.specs.Pages.{page_at}

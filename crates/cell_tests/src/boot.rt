@@ -4,7 +4,7 @@ ghost use Rattle.frames.specs.Counts.{count_of, below};
 ghost use Rattle.machine_memory.specs.Memories.{IsLevel, AreLevel};
 ghost use Rattle.cell.specs.Level.{IsMemoryOf};
 ghost use Rattle.swapstore.specs.Faults.{store_of};
-ghost use Rattle.flatvm.specs.Boot.{boot_machine};
+ghost use Rattle.machine.specs.Boot.{boot_machine};
 ghost use Rattle.guest.specs.Guests.{Intact};
 ghost use Rattle.cell_tests.specs.Booting.{untouched};
 

@@ -14,17 +14,17 @@ use Rattle.guest_log.specs.Runs.{run_count}
 use Rattle.guest_log.specs.declared.stop.Stop.{Stop}
 use Rattle.guest_log.specs.declared.stop.Stop.TheVariants as halt
 use Rattle.mips_tlb.specs.declared.kind.Kind.{Kind}
-use Rattle.mips_step.specs.Accesses.{Access, accesses, first_lack}
-use Rattle.mips_step.specs.Step.{Machine, step}
-use Rattle.mips_step.specs.Answer.{need_of}
-use Rattle.mips_step.specs.declared.access.StepOut.{StepOut}
-use Rattle.mips_step.specs.declared.access.StepOut.TheVariants as out
-use Rattle.mips_step.specs.declared.access.Why.{Why}
-use Rattle.mips_step.proofs.OtherPages.{step_stays}
+use Rattle.machine.specs.Accesses.{Access, accesses, first_lack}
+use Rattle.machine.specs.Step.{Machine, step}
+use Rattle.machine.specs.Answer.{need_of}
+use Rattle.machine.specs.declared.access.StepOut.{StepOut}
+use Rattle.machine.specs.declared.access.StepOut.TheVariants as out
+use Rattle.machine.specs.declared.access.Why.{Why}
+use Rattle.machine.proofs.OtherPages.{step_stays}
 use Rattle.elf32.specs.declared.image.Image.{Image}
-use Rattle.flatvm.specs.Boot.{boot_machine}
-use Rattle.flatvm.specs.Items.{accepts, after, run}
-use Rattle.flatvm.proofs.Runs.{run_append}
+use Rattle.machine.specs.Boot.{boot_machine}
+use Rattle.machine.specs.Items.{accepts, after, run}
+use Rattle.machine.proofs.Runs.{run_append}
 use Rattle.sharetab.specs.Entries.{EntriesAre, entry_at, one_entry, tickets_of, entry_count, ticket_count, Fits, AllFit}
 use Rattle.frames.specs.Frames.{SharedIs}
 use Rattle.physmap.specs.declared.page.Page.{Page}

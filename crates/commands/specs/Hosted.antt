@@ -1,8 +1,8 @@
 -- A guest that has a world of its own.
 use Rattle.std.specs.Prelude.{◌≡◌, ◌≢◌, ℕ, ◌*◌, ◌<◌, false, List, [], ◌∷◌, length}
 use Rattle.devices.specs.Devices.{fresh_devices}
-use Rattle.mips_step.specs.Processor.{boot_processor}
-use Rattle.mips_step.specs.Step.{Machine, in_world}
+use Rattle.machine.specs.Processor.{boot_processor}
+use Rattle.machine.specs.Step.{Machine, in_world}
 use Rattle.guest_log.specs.Logs.{LogIs}
 use Rattle.swapstore.specs.Memories.{MemoryIs}
 use Rattle.physmap.specs.declared.page.Page.{Page}

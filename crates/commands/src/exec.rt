@@ -4,7 +4,7 @@ ghost use Rattle.sha2.specs.Sha256.{sha256};
 ghost use Rattle.elf32.specs.declared.image.Image.{Image};
 ghost use Rattle.elf32.specs.Files.{StandsFor};
 ghost use Rattle.elf32.specs.Images.{FitsPages};
-ghost use Rattle.flatvm.specs.Boot.{boot_machine};
+ghost use Rattle.machine.specs.Boot.{boot_machine};
 ghost use Rattle.commands.specs.Faults.{IsElfRunFault, IsExecFault, IsImageFault, IsRunFault, IsWant};
 ghost use Rattle.commands.specs.Raw.{IsPageCount};
 ghost use Rattle.commands.specs.Runs.{IsImageOf, IsReport, IsReportOf, report_text};

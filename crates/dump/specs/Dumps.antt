@@ -3,9 +3,9 @@ use Rattle.std.specs.Prelude.{ℕ, ◌+◌, List, [], ◌∷◌, ◌++◌, codes
 use Rattle.mips_instr.specs.Operands.{hex_byte}
 use Rattle.mips_cp0.specs.Access.{register_value}
 use Rattle.mips_cp0.specs.declared.register.SystemRegister.TheVariants.{Cause}
-use Rattle.mips_step.specs.Processor.{Processor, reg}
-use Rattle.mips_step.specs.Step.{Machine}
-use Rattle.mips_step.specs.World.{lines_of}
+use Rattle.machine.specs.Processor.{Processor, reg}
+use Rattle.machine.specs.Step.{Machine}
+use Rattle.machine.specs.World.{lines_of}
 use Rattle.masm.specs.Disassembly.{hex_word}
 use Rattle.guest_log.specs.declared.stop.Stop.{Stop}
 use Rattle.guest_log.specs.Stops.{stop_number}

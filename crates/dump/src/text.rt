@@ -1,9 +1,9 @@
 //! The dump of a machine.
 ghost use Rattle.std.specs.Prelude.{◌≡◌, ◌+◌, ◌<◌, ◌++◌, IfOk, OnOk, string_bytes};
-ghost use Rattle.mips_step.specs.Step.{Machine};
+ghost use Rattle.machine.specs.Step.{Machine};
 ghost use Rattle.dump.specs.Dumps as spec;
 
-use flatvm::View;
+use mips_step::View;
 use guest_log::Stop;
 use masm::{HexByte, HexWord};
 use mips_cp0::SystemRegister;

@@ -6,17 +6,17 @@ ghost use Rattle.dev_console.specs.Console.{input_room};
 ghost use Rattle.devices.specs.Registers.{device_register_at};
 ghost use Rattle.devices.specs.Devices.{device_input_fed, device_output_drained, device_target_set};
 ghost use Rattle.elf32.specs.Images.{IsWithin, FitsPages};
-ghost use Rattle.mips_step.specs.World.{World, first_byte, bytes_of, value_in, limit_of, bytes_after, page_cleared};
-ghost use Rattle.mips_step.specs.World.{register_reach, device_reach, reached_value, world_loaded, world_stored};
-ghost use Rattle.mips_step.specs.Bus.{ready_answer};
-ghost use Rattle.flatvm.specs.Answers.{replied};
-ghost use Rattle.flatvm.specs.Boot.{placed, boot_memory, boot_world};
+ghost use Rattle.machine.specs.World.{World, first_byte, bytes_of, value_in, limit_of, bytes_after, page_cleared};
+ghost use Rattle.machine.specs.World.{register_reach, device_reach, reached_value, world_loaded, world_stored};
+ghost use Rattle.machine.specs.Bus.{ready_answer};
+ghost use Rattle.machine.specs.Answers.{replied};
+ghost use Rattle.machine.specs.Boot.{placed, boot_memory, boot_world};
 
-use crate::{Rejection, Reply};
+use machine::{Rejection, Reply};
 use devices::{DeviceRegister, Devices};
 use elf32::{Image, SEGMENT_BASE, Segment};
 use mips_alu::{store_left, store_right};
-use mips_step::{Kind, PhysBus, Refusal, Size};
+use machine::{Kind, PhysBus, Refusal, Size};
 use std::alloc::{AllocError, Global};
 use std::marker::Model;
 use word32::{Ppn, half_at, page_of, put_half, put_word, word_at};
@@ -31,7 +31,7 @@ pub struct FlatBus {
 
 impl Model for FlatBus {
     ghost use Rattle.std.specs.Prelude.{◌≡◌, ◌*◌, length};
-    ghost use Rattle.mips_step.specs.World.{World};
+    ghost use Rattle.machine.specs.World.{World};
 
     ghost Value = { World };
 

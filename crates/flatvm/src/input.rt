@@ -2,16 +2,15 @@
 ghost use Rattle.std.specs.Prelude.{◌≡◌, ◌↔◌, true, false, IfOk, OnOk, OnErr, IsErrOf, Err};
 ghost use Rattle.items.specs.Items.{is_step};
 ghost use Rattle.items.specs.declared.item.What.TheVariants.{Drain, Write};
-ghost use Rattle.mips_step.specs.Step.{in_world};
-ghost use Rattle.flatvm.specs.Answers.{replied};
-ghost use Rattle.flatvm.specs.Items.{accepts, after, reply};
+ghost use Rattle.machine.specs.Step.{in_world};
+ghost use Rattle.machine.specs.Answers.{replied};
+ghost use Rattle.machine.specs.Items.{accepts, after, reply};
 
-use crate::{FlatBus, Rejection, Reply, debug};
+use crate::FlatBus;
+use machine::{Rejection, Reply, WRITE_LIMIT};
+use mips_step::debug;
 use items::What;
 use mips_step::Cpu;
-
-/// At most so many bytes are written at once.
-pub const WRITE_LIMIT: usize = 1024;
 
 impl FlatBus {
     /// What happens to the machine of this bus and a processor, but for a step.

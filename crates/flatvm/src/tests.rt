@@ -2,11 +2,14 @@
 //! the manual encodes it to, with its text beside; what it leads to is worked out by hand.
 ghost use Rattle.std.specs.Prelude.{◌<◌};
 
-use crate::{Flat, FlatBus, Rejection, Reply, debug};
+use crate::{Flat, FlatBus};
+use machine::{Rejection, Reply};
+use mips_step::debug;
 use elf32::Image;
 use items::{DebugRegister, What, WriteBytes};
 use mips_instr::Reg;
-use mips_step::{Cpu, StepOut};
+use machine::StepOut;
+use mips_step::Cpu;
 use std::fmt::Debug;
 use std::process::Abort;
 use std::test::Fail;

@@ -5,13 +5,13 @@ use Rattle.word32.specs.Zeros.{zeros}
 use Rattle.elf32.specs.declared.image.Segment.{Segment}
 use Rattle.elf32.specs.declared.image.Image.{Image}
 use Rattle.elf32.specs.Images.{IsWithin, FitsPages}
-use Rattle.mips_step.specs.World.{page_bytes}
-use Rattle.mips_step.proofs.Clearing.{length-zeros}
-use Rattle.mips_step.proofs.Pages.{patched_stored}
-use Rattle.flatvm.specs.Boot.{placed, boot_memory}
+use Rattle.machine.specs.World.{page_bytes}
+use Rattle.machine.proofs.Clearing.{length-zeros}
+use Rattle.machine.proofs.Pages.{patched_stored}
+use Rattle.machine.specs.Boot.{placed, boot_memory}
 use Rattle.word32.specs.Words.{patched}
 use Rattle.frames.specs.Frames.{FrameIs}
-use Rattle.mips_step.specs.World.{World}
+use Rattle.machine.specs.World.{World}
 use Rattle.physmap.specs.declared.page.Page.{Page}
 use Rattle.physmap.specs.declared.page.Page.TheVariants as page
 use Rattle.physmap.specs.declared.page.PageKind.TheVariants.{Private}

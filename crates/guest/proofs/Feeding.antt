@@ -2,9 +2,9 @@
 use Rattle.std.proofs.Common.{ℕ, ◌≡◌, true, sym, ap, ◌∙◌}
 use Rattle.items.specs.declared.item.What.TheVariants.{In}
 use Rattle.devices.specs.Devices.{DevicesAre, device_input_fed}
-use Rattle.mips_step.specs.Processor.{Processor}
-use Rattle.mips_step.specs.Step.{Machine, in_world}
-use Rattle.flatvm.specs.Items.{accepts, after}
+use Rattle.machine.specs.Processor.{Processor}
+use Rattle.machine.specs.Step.{Machine, in_world}
+use Rattle.machine.specs.Items.{accepts, after}
 use Rattle.paged_bus.specs.Buses.{PagedBusIs, world_of}
 use Rattle.guest.specs.Views.{Shows}
 

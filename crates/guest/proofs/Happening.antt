@@ -7,17 +7,17 @@ use Rattle.items.specs.Items.{is_step}
 use Rattle.devices.specs.Devices.{DevicesAre}
 use Rattle.mips_tlb.specs.Translation.{probed}
 use Rattle.mips_tlb.specs.declared.kind.Kind.TheVariants.{Store}
-use Rattle.mips_step.specs.declared.access.Size.TheVariants.{Byte}
-use Rattle.mips_step.specs.Processor.{Processor}
-use Rattle.mips_step.specs.World.{World, page_bytes}
-use Rattle.mips_step.specs.Step.{Machine, in_world}
-use Rattle.mips_step.specs.Agreeing.{Agree}
-use Rattle.mips_step.proofs.Stores.{length-after, other_page}
-use Rattle.mips_step.proofs.Worlds.{memory_stored_agree}
-use Rattle.flatvm.specs.Items.{accepts, after, reply, byte_written, written_from}
-use Rattle.flatvm.specs.Replies.{in_memory, probe, bytes_at, byte_in, with_next}
-use Rattle.flatvm.proofs.Replies.{moved}
-use Rattle.flatvm.proofs.Writing.{place_same}
+use Rattle.machine.specs.declared.access.Size.TheVariants.{Byte}
+use Rattle.machine.specs.Processor.{Processor}
+use Rattle.machine.specs.World.{World, page_bytes}
+use Rattle.machine.specs.Step.{Machine, in_world}
+use Rattle.machine.specs.Agreeing.{Agree}
+use Rattle.machine.proofs.Stores.{length-after, other_page}
+use Rattle.machine.proofs.Worlds.{memory_stored_agree}
+use Rattle.machine.specs.Items.{accepts, after, reply, byte_written, written_from}
+use Rattle.machine.specs.Replies.{in_memory, probe, bytes_at, byte_in, with_next}
+use Rattle.machine.proofs.Replies.{moved}
+use Rattle.machine.proofs.Writing.{place_same}
 use Rattle.physmap.specs.declared.page.PageKind.TheVariants.{Swapped}
 use Rattle.physmap.specs.Pages.{kind_at, AreWhole}
 use Rattle.physmap.specs.Outline.{outline}

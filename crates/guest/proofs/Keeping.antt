@@ -1,9 +1,9 @@
 -- A guest whose pages have left their places.
 use Rattle.std.proofs.Common.{ℕ, ◌≡◌, ◌*◌, List, [], Option, length, sym, ap, subst, ◌∙◌}
 use Rattle.items.specs.declared.item.Item.{Item}
-use Rattle.mips_step.specs.Processor.{Processor}
-use Rattle.mips_step.specs.Step.{Machine}
-use Rattle.flatvm.specs.Items.{run, AllAccepted}
+use Rattle.machine.specs.Processor.{Processor}
+use Rattle.machine.specs.Step.{Machine}
+use Rattle.machine.specs.Items.{run, AllAccepted}
 use Rattle.paging.specs.Faith.{Faithful, Kept}
 use Rattle.paged_bus.specs.Buses.{PagedBusIs}
 use Rattle.guest.specs.Guests.{GuestIs, view_of, without_pages, LogsOnly, Intact}

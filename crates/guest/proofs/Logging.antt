@@ -2,12 +2,12 @@
 use Rattle.std.proofs.Common.{◌≡◌, true, List, [], ◌∷◌, ◌++◌, ℕ, sym, ap, subst, ◌∙◌}
 use Rattle.items.specs.declared.item.Item.{Item}
 use Rattle.elf32.specs.declared.image.Image.{Image}
-use Rattle.mips_step.specs.Agreeing.{GivenAreZeros}
-use Rattle.mips_step.specs.Step.{Machine}
-use Rattle.flatvm.specs.Boot.{boot_machine}
-use Rattle.flatvm.specs.Items.{accepts, after, run, AllAccepted}
-use Rattle.flatvm.proofs.Runs.{run_append, accepted_append}
-use Rattle.flatvm.proofs.Given.{boot_zeros, run_zeros}
+use Rattle.machine.specs.Agreeing.{GivenAreZeros}
+use Rattle.machine.specs.Step.{Machine}
+use Rattle.machine.specs.Boot.{boot_machine}
+use Rattle.machine.specs.Items.{accepts, after, run, AllAccepted}
+use Rattle.machine.proofs.Runs.{run_append, accepted_append}
+use Rattle.machine.proofs.GivenPages.{boot_zeros, run_zeros}
 
 -- the view after one more item
 pub run_more : (items now : List Item) (i : Item) (boot : Machine) → now ≡ items ++ i ∷ [] → run now boot ≡ after i.what (run items boot)

@@ -3,15 +3,15 @@ use Rattle.std.proofs.Common.{ℕ, zero, suc, ◌≡◌, ◌≢◌, ◌↔◌, �
 use Rattle.word32.specs.Pages.{page_number}
 use Rattle.mips_tlb.specs.Translation.{probed}
 use Rattle.mips_tlb.specs.declared.kind.Kind.TheVariants.{Load}
-use Rattle.mips_step.specs.declared.access.Why.TheVariants as why
-use Rattle.mips_step.specs.Processor.{Processor}
-use Rattle.mips_step.specs.World.{World}
-use Rattle.mips_step.specs.Step.{Machine, in_world}
-use Rattle.mips_step.specs.Agreeing.{Agree}
-use Rattle.mips_step.proofs.Pages.{same_place}
-use Rattle.flatvm.specs.Replies.{probe, byte_in, with_next, bytes_at, EachPlace, SomePlaceIn, CanLook}
-use Rattle.flatvm.proofs.Replies.{moved}
-use Rattle.flatvm.proofs.Writing.{place_same}
+use Rattle.machine.specs.declared.access.Why.TheVariants as why
+use Rattle.machine.specs.Processor.{Processor}
+use Rattle.machine.specs.World.{World}
+use Rattle.machine.specs.Step.{Machine, in_world}
+use Rattle.machine.specs.Agreeing.{Agree}
+use Rattle.machine.proofs.Pages.{same_place}
+use Rattle.machine.specs.Replies.{probe, byte_in, with_next, bytes_at, EachPlace, SomePlaceIn, CanLook}
+use Rattle.machine.proofs.Replies.{moved}
+use Rattle.machine.proofs.Writing.{place_same}
 use Rattle.physmap.specs.declared.page.PageKind.{PageKind}
 use Rattle.physmap.specs.declared.page.PageKind.TheVariants.{Zero, Given, Private, Shared, Swapped}
 use Rattle.physmap.specs.Pages.{kind_at, AreWhole}

@@ -2,14 +2,14 @@
 use Rattle.std.proofs.Common.{ℕ, zero, suc, ◌≡◌, ◌+◌, ◌<◌, inl, inr, Option, Some, None, refl, sym, ap, subst, ◌∙◌, arith}
 use Rattle.std.proofs.lemmas.Bool.{cases_lt}
 use Rattle.items.specs.Entries.{steps_of}
-use Rattle.flatvm.specs.Items.{run}
-use Rattle.mips_step.specs.Bus.{Lacks}
-use Rattle.mips_step.specs.Processor.{Processor}
-use Rattle.mips_step.specs.Step.{Machine, in_world}
-use Rattle.mips_step.specs.Accesses.{accesses, first_lack}
-use Rattle.mips_step.specs.Agreeing.{GivenAreZeros}
-use Rattle.mips_step.specs.Given.{step_given}
-use Rattle.mips_run.specs.Runs.{steps}
+use Rattle.machine.specs.Items.{run}
+use Rattle.machine.specs.Bus.{Lacks}
+use Rattle.machine.specs.Processor.{Processor}
+use Rattle.machine.specs.Step.{Machine, in_world}
+use Rattle.machine.specs.Accesses.{accesses, first_lack}
+use Rattle.machine.specs.Agreeing.{GivenAreZeros}
+use Rattle.machine.specs.Given.{step_given}
+use Rattle.mips_fast.specs.Runs.{steps}
 use Rattle.physmap.specs.Pages.{AreWhole}
 use Rattle.physmap.specs.Outline.{outline}
 use Rattle.paged_bus.specs.Buses.{PagedBusIs, IsSettled, world_of}

@@ -14,13 +14,13 @@ use Rattle.mips_tlb.specs.declared.kind.Kind.TheVariants.{Load}
 use Rattle.mips_tlb.specs.Entries.{matches}
 use Rattle.mips_tlb.specs.Segments.{is_mapped, unmapped_address}
 use Rattle.mips_tlb.specs.Translation.{half_of, through_half, through_entry, answer_of, probed}
-use Rattle.mips_step.specs.Processor.{Processor}
-use Rattle.mips_step.specs.World.{World}
-use Rattle.mips_step.specs.Step.{Machine, in_world}
-use Rattle.flatvm.specs.Replies.{in_memory, probe, byte_in, byte_at, with_next, bytes_at, SomePlaceIn}
-use Rattle.flatvm.proofs.Replies.{moved, one_more}
-use Rattle.flatvm.proofs.Bytes.{not_readable}
-use Rattle.flatvm.proofs.Writing.{place_same}
+use Rattle.machine.specs.Processor.{Processor}
+use Rattle.machine.specs.World.{World}
+use Rattle.machine.specs.Step.{Machine, in_world}
+use Rattle.machine.specs.Replies.{in_memory, probe, byte_in, byte_at, with_next, bytes_at, SomePlaceIn}
+use Rattle.machine.proofs.Replies.{moved, one_more}
+use Rattle.machine.proofs.Bytes.{not_readable}
+use Rattle.machine.proofs.Writing.{place_same}
 use Rattle.guest.specs.Guests.{GuestIs, view_of, standing, without_pages, Intact, IsSized, LiesIn}
 use Rattle.guest.proofs.Happening.{inside, placed_same}
 use Rattle.guest.proofs.Showing.{settled_memory}

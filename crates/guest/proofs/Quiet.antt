@@ -7,22 +7,22 @@ use Rattle.items.specs.Entries.{steps_of}
 use Rattle.items.proofs.Runs.{steps_of-join}
 use Rattle.devices.specs.Devices.{DevicesAre}
 use Rattle.dev_balloon.specs.Balloon.{is_given}
-use Rattle.mips_step.specs.Bus.{Lacks}
-use Rattle.mips_step.specs.Processor.{Processor}
-use Rattle.mips_step.specs.World.{World, is_given_page}
-use Rattle.mips_step.specs.Step.{Machine, in_world, step}
-use Rattle.mips_step.specs.Accesses.{Access, accesses, first_lack}
-use Rattle.mips_step.specs.Agreeing.{Agree, Within, StoresTo, GivenAreZeros}
-use Rattle.mips_step.specs.Given.{step_given}
-use Rattle.mips_step.proofs.Agreeing.{step_alike}
-use Rattle.mips_step.proofs.Alike.{Alike}
-use Rattle.mips_step.proofs.OtherPages.{step_stays, zeros_stay}
-use Rattle.mips_step.proofs.Pages.{length-page}
-use Rattle.mips_step.proofs.StepGiven.{newly_given}
-use Rattle.mips_run.specs.Runs.{steps, IsQuiet, AreQuiet}
-use Rattle.flatvm.specs.Items.{run}
-use Rattle.flatvm.proofs.Runs.{run_append}
-use Rattle.flatvm.proofs.Given.{run_zeros}
+use Rattle.machine.specs.Bus.{Lacks}
+use Rattle.machine.specs.Processor.{Processor}
+use Rattle.machine.specs.World.{World, is_given_page}
+use Rattle.machine.specs.Step.{Machine, in_world, step}
+use Rattle.machine.specs.Accesses.{Access, accesses, first_lack}
+use Rattle.machine.specs.Agreeing.{Agree, Within, StoresTo, GivenAreZeros}
+use Rattle.machine.specs.Given.{step_given}
+use Rattle.machine.proofs.Agreeing.{step_alike}
+use Rattle.machine.proofs.Alike.{Alike}
+use Rattle.machine.proofs.OtherPages.{step_stays, zeros_stay}
+use Rattle.machine.proofs.Pages.{length-page}
+use Rattle.machine.proofs.StepGiven.{newly_given}
+use Rattle.mips_fast.specs.Runs.{steps, IsQuiet, AreQuiet}
+use Rattle.machine.specs.Items.{run}
+use Rattle.machine.proofs.Runs.{run_append}
+use Rattle.machine.proofs.GivenPages.{run_zeros}
 use Rattle.physmap.specs.declared.page.Page.{Page}
 use Rattle.physmap.specs.declared.page.PageKind.TheVariants.{Swapped}
 use Rattle.physmap.specs.Pages.{kind_at, AreWhole}

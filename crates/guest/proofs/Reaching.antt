@@ -6,19 +6,19 @@ use Rattle.mips_cp0.specs.declared.exception.Exc.{Exc}
 use Rattle.mips_cp0.specs.Interrupts.{interrupt_taken}
 use Rattle.mips_tlb.specs.declared.kind.Kind.{Kind}
 use Rattle.mips_tlb.specs.declared.kind.Kind.TheVariants.{Fetch, Load, Store}
-use Rattle.mips_step.specs.declared.access.Size.{Size}
-use Rattle.mips_step.specs.declared.access.Size.TheVariants.{Byte, Half, Word, Left, Right}
-use Rattle.mips_step.specs.declared.access.Why.{Why}
-use Rattle.mips_step.specs.Processor.{Processor, clocked}
-use Rattle.mips_step.specs.World.{World, is_in_memory, device_reach, register_reach, is_register_access, value_in, lines_of}
-use Rattle.mips_step.specs.World.Reach.{InMemory, Nowhere}
+use Rattle.machine.specs.declared.access.Size.{Size}
+use Rattle.machine.specs.declared.access.Size.TheVariants.{Byte, Half, Word, Left, Right}
+use Rattle.machine.specs.declared.access.Why.{Why}
+use Rattle.machine.specs.Processor.{Processor, clocked}
+use Rattle.machine.specs.World.{World, is_in_memory, device_reach, register_reach, is_register_access, value_in, lines_of}
+use Rattle.machine.specs.World.Reach.{InMemory, Nowhere}
 use Rattle.devices.specs.declared.register.DeviceRegister.{DeviceRegister}
 use Rattle.devices.specs.Registers.{device_register_at}
-use Rattle.mips_step.specs.Places.{fetch_place}
-use Rattle.mips_step.specs.Operations.{Operation, word_operation}
-use Rattle.mips_step.specs.Operations.Operation.{OnProcessor, Loads, Stores}
-use Rattle.mips_step.specs.Step.{Machine, in_world, load_size, load_place, store_size, store_place, is_given_up}
-use Rattle.mips_step.specs.Accesses.{Access, reached, placed_accesses, data_accesses, word_accesses, fetch_accesses, accesses, first_lack}
+use Rattle.machine.specs.Places.{fetch_place}
+use Rattle.machine.specs.Operations.{Operation, word_operation}
+use Rattle.machine.specs.Operations.Operation.{OnProcessor, Loads, Stores}
+use Rattle.machine.specs.Step.{Machine, in_world, load_size, load_place, store_size, store_place, is_given_up}
+use Rattle.machine.specs.Accesses.{Access, reached, placed_accesses, data_accesses, word_accesses, fetch_accesses, accesses, first_lack}
 use Rattle.physmap.specs.Pages.{AreWhole}
 use Rattle.physmap.proofs.Memory.{length_of_memory}
 use Rattle.paged_bus.specs.Buses.{PagedBusIs, IsSettled, world_of}

@@ -4,11 +4,11 @@ use Rattle.items.specs.declared.item.Item.{Item}
 use Rattle.items.specs.Entries.{step_by, steps_of}
 use Rattle.items.proofs.Runs.{steps_of-none, steps_of-one, steps_of-join, length-steps_of}
 use Rattle.std.proofs.lemmas.Bool.{cases_eq}
-use Rattle.mips_step.specs.Processor.{Processor}
-use Rattle.mips_step.specs.Step.{Machine, step}
-use Rattle.mips_step.specs.Given.{step_given}
-use Rattle.flatvm.specs.Items.{run, AllAccepted}
-use Rattle.flatvm.proofs.Runs.{run_append, accepted_append}
+use Rattle.machine.specs.Processor.{Processor}
+use Rattle.machine.specs.Step.{Machine, step}
+use Rattle.machine.specs.Given.{step_given}
+use Rattle.machine.specs.Items.{run, AllAccepted}
+use Rattle.machine.proofs.Runs.{run_append, accepted_append}
 use Rattle.guest_log.specs.Logs.{LogIs, HasRoomFor, IsFull}
 use Rattle.guest_log.specs.Runs.{run_count}
 use Rattle.guest_log.proofs.Counting.{run_count-run}

@@ -6,20 +6,20 @@ use Rattle.mips_instr.specs.declared.instr.StoreOp.{StoreOp}
 use Rattle.word32.specs.Pages.{page_number}
 use Rattle.mips_tlb.specs.declared.kind.Kind.TheVariants.{Fetch, Store}
 use Rattle.devices.specs.Registers.{page_to_give}
-use Rattle.mips_step.specs.declared.access.Size.TheVariants.{Word}
-use Rattle.mips_step.specs.Processor.{Processor, reg, clocked}
-use Rattle.mips_step.specs.World.{World, Reach, reach, is_in_memory, value_in, touched, lines_of}
-use Rattle.mips_step.specs.World.Reach.{InMemory, AtRegister, Nowhere}
-use Rattle.mips_step.specs.Places.{fetch_place}
-use Rattle.mips_step.specs.Operations.{Operation, word_operation}
-use Rattle.mips_step.specs.Operations.Operation.{OnProcessor, Loads, Stores}
-use Rattle.mips_step.specs.Step.{in_world, store_size, store_place, is_given_up}
-use Rattle.mips_step.specs.Accesses.{word_accesses, data_accesses, fetch_accesses, accesses_after_tick, accesses}
-use Rattle.mips_step.specs.Given.{reached_given, placed_given, operation_given, word_given, fetch_given, given_after_tick, step_given}
-use Rattle.mips_step.specs.Agreeing.{Agree, Within}
-use Rattle.mips_step.proofs.Aligned.{place_aligned}
-use Rattle.mips_step.proofs.Alike.{IsAligned}
-use Rattle.mips_step.proofs.Worlds.{first_within, reach_same, in_memory_same, lines_same, given_value, touched_agree}
+use Rattle.machine.specs.declared.access.Size.TheVariants.{Word}
+use Rattle.machine.specs.Processor.{Processor, reg, clocked}
+use Rattle.machine.specs.World.{World, Reach, reach, is_in_memory, value_in, touched, lines_of}
+use Rattle.machine.specs.World.Reach.{InMemory, AtRegister, Nowhere}
+use Rattle.machine.specs.Places.{fetch_place}
+use Rattle.machine.specs.Operations.{Operation, word_operation}
+use Rattle.machine.specs.Operations.Operation.{OnProcessor, Loads, Stores}
+use Rattle.machine.specs.Step.{in_world, store_size, store_place, is_given_up}
+use Rattle.machine.specs.Accesses.{word_accesses, data_accesses, fetch_accesses, accesses_after_tick, accesses}
+use Rattle.machine.specs.Given.{reached_given, placed_given, operation_given, word_given, fetch_given, given_after_tick, step_given}
+use Rattle.machine.specs.Agreeing.{Agree, Within}
+use Rattle.machine.proofs.Aligned.{place_aligned}
+use Rattle.machine.proofs.Alike.{IsAligned}
+use Rattle.machine.proofs.Worlds.{first_within, reach_same, in_memory_same, lines_same, given_value, touched_agree}
 
 module _ (these : ℕ → Bool) (cpu : Processor) (a b : World) (agree : Agree these a b) where
   reached_same : (r : Reach) (value : ℕ) → reached_given r value b ≡ reached_given r value a

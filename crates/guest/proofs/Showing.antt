@@ -4,12 +4,12 @@ use Rattle.std.proofs.lemmas.Bool.{cases_eq, cases_lt}
 use Rattle.std.proofs.Math.ListN.{get_or-eq_default}
 use Rattle.word32.specs.Zeros.{zeros}
 use Rattle.mips_tlb.specs.declared.kind.Kind.{Kind}
-use Rattle.mips_step.specs.Processor.{Processor}
-use Rattle.mips_step.specs.World.{page_bytes, given_away}
-use Rattle.mips_step.specs.Step.{Machine}
-use Rattle.mips_step.specs.Agreeing.{Agree}
-use Rattle.mips_step.proofs.Clearing.{other_page_cleared}
-use Rattle.mips_step.proofs.Worlds.{given_away_size}
+use Rattle.machine.specs.Processor.{Processor}
+use Rattle.machine.specs.World.{page_bytes, given_away}
+use Rattle.machine.specs.Step.{Machine}
+use Rattle.machine.specs.Agreeing.{Agree}
+use Rattle.machine.proofs.Clearing.{other_page_cleared}
+use Rattle.machine.proofs.Worlds.{given_away_size}
 use Rattle.physmap.specs.declared.page.Page.{Page}
 use Rattle.physmap.specs.declared.page.Page.TheVariants as page
 use Rattle.physmap.specs.declared.page.PageKind.{PageKind}

@@ -1,20 +1,20 @@
 -- A step of a guest whose pages are those of its view.
 use Rattle.std.proofs.Common.{ℕ, zero, suc, ◌≡◌, ◌*◌, ◌-◌, ◌<◌, ◌⊎◌, inl, inr, Bool, true, false, IsTrue, All, List, [], ◌∷◌, length, min, get_or, Option, Some, None, refl, sym, ap, subst, ◌∙◌, arith}
 use Rattle.word32.specs.Zeros.{zeros}
-use Rattle.mips_step.specs.Bus.{Lacks}
-use Rattle.mips_step.specs.Processor.{Processor}
-use Rattle.mips_step.specs.World.{World, is_given_page}
-use Rattle.mips_step.specs.Step.{Machine, in_world, step}
-use Rattle.mips_step.specs.Accesses.{Access, accesses, first_lack}
-use Rattle.mips_step.specs.Agreeing.{Agree, Within, StoresTo, GivenAreZeros}
-use Rattle.mips_step.specs.Given.{step_given}
-use Rattle.mips_step.specs.declared.access.Why.{Why}
-use Rattle.mips_step.proofs.Agreeing.{step_alike}
-use Rattle.mips_step.proofs.Alike.{Alike}
-use Rattle.mips_step.proofs.Lacking.{lack_alike}
-use Rattle.mips_step.proofs.OtherPages.{step_stays, zeros_stay}
-use Rattle.mips_step.proofs.Pages.{length-page}
-use Rattle.mips_step.proofs.StepGiven.{newly_given, given_after}
+use Rattle.machine.specs.Bus.{Lacks}
+use Rattle.machine.specs.Processor.{Processor}
+use Rattle.machine.specs.World.{World, is_given_page}
+use Rattle.machine.specs.Step.{Machine, in_world, step}
+use Rattle.machine.specs.Accesses.{Access, accesses, first_lack}
+use Rattle.machine.specs.Agreeing.{Agree, Within, StoresTo, GivenAreZeros}
+use Rattle.machine.specs.Given.{step_given}
+use Rattle.machine.specs.declared.access.Why.{Why}
+use Rattle.machine.proofs.Agreeing.{step_alike}
+use Rattle.machine.proofs.Alike.{Alike}
+use Rattle.machine.proofs.Lacking.{lack_alike}
+use Rattle.machine.proofs.OtherPages.{step_stays, zeros_stay}
+use Rattle.machine.proofs.Pages.{length-page}
+use Rattle.machine.proofs.StepGiven.{newly_given, given_after}
 use Rattle.dev_balloon.specs.Balloon.{is_given}
 use Rattle.devices.specs.Devices.{DevicesAre}
 use Rattle.physmap.specs.declared.page.Page.{Page}

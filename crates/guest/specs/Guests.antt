@@ -3,15 +3,15 @@ use Rattle.std.specs.Prelude.{◌≡◌, ◌≢◌, ℕ, zero, suc, ◌*◌, Opt
 use Rattle.word32.specs.Pages.{page_number}
 use Rattle.items.specs.declared.item.Item.{Item}
 use Rattle.items.specs.Entries.{steps_of}
-use Rattle.mips_step.specs.Processor.{Processor}
-use Rattle.mips_step.specs.Step.{Machine, in_world}
-use Rattle.mips_step.specs.Given.{step_given}
-use Rattle.flatvm.specs.Items.{run, AllAccepted}
-use Rattle.flatvm.specs.Replies.{probe}
+use Rattle.machine.specs.Processor.{Processor}
+use Rattle.machine.specs.Step.{Machine, in_world}
+use Rattle.machine.specs.Given.{step_given}
+use Rattle.machine.specs.Items.{run, AllAccepted}
+use Rattle.machine.specs.Replies.{probe}
 use Rattle.guest_log.specs.Logs.{LogIs}
 use Rattle.loghead.specs.Heads.{HeadId, SeatIs}
 use Rattle.journal.specs.Journals.{JournalIs, Adds, AddsSteps}
-use Rattle.mips_step.specs.declared.access.Why.{Why}
+use Rattle.machine.specs.declared.access.Why.{Why}
 use Rattle.physmap.specs.declared.page.Page.{Page}
 use Rattle.physmap.specs.declared.page.Returned.{Returned}
 use Rattle.physmap.specs.Outline.{outline}

@@ -1,8 +1,8 @@
 -- A processor and pages that are those of a machine.
 use Rattle.std.specs.Prelude.{◌≡◌, ℕ, ◌*◌, Bool, true, false, ◌&&◌, nat_lt, List, length}
-use Rattle.mips_step.specs.Processor.{Processor}
-use Rattle.mips_step.specs.World.{page_bytes}
-use Rattle.mips_step.specs.Step.{Machine}
+use Rattle.machine.specs.Processor.{Processor}
+use Rattle.machine.specs.World.{page_bytes}
+use Rattle.machine.specs.Step.{Machine}
 use Rattle.physmap.specs.declared.page.Page.{Page}
 use Rattle.physmap.specs.declared.page.PageKind.{PageKind}
 use Rattle.physmap.specs.declared.page.PageKind.TheVariants.{Zero, Given, Private, Shared, Swapped}

@@ -8,7 +8,7 @@ impl Guest {
     ghost use Rattle.std.specs.Prelude.{◌≡◌, ◌↔◌, ℕ, true, List, Option, OnOk, IsErrOf};
     ghost use Rattle.items.specs.declared.item.What.TheVariants.{In};
     ghost use Rattle.devices.specs.Devices.{device_input_fed};
-    ghost use Rattle.flatvm.specs.Items.{accepts, after};
+    ghost use Rattle.machine.specs.Items.{accepts, after};
     ghost use Rattle.guest_log.specs.Logs.{HasItemRoom, IsFull, TakesRoom};
     ghost use Rattle.guest_log.specs.declared.stop.Stop.{Stop};
     ghost use Rattle.paging.specs.Faith.{Kept};

@@ -6,11 +6,13 @@ use crate::placed::pages_reached;
 use crate::step::{input_pages, need_pages, read_pages, run_pages, step_pages, whole};
 use crate::{Head, Log, Progress, Refused, Seat, Stepped, Stop};
 use elf32::Image;
-use flatvm::{Reply, Unreached, View};
+use machine::Reply;
+use mips_step::{Unreached, View};
 use items::Item;
 use journal::Journal;
-use mips_run::RunCache;
-use mips_step::{Cpu, Ppn, Why};
+use mips_fast::RunCache;
+use machine::{Ppn, Why};
+use mips_step::Cpu;
 use paged_bus::{InputError, PagedBus};
 use std::alloc::{AllocError, Global};
 use std::marker::Model;
@@ -35,7 +37,7 @@ pub struct Guest {
 }
 
 impl Model for Guest {
-    ghost use Rattle.flatvm.specs.Boot.{boot_machine};
+    ghost use Rattle.machine.specs.Boot.{boot_machine};
     ghost use Rattle.paged_bus.specs.Buses.{IsSettled};
     ghost use Rattle.guest.specs.Guests.{GuestIs, guest_of};
 
@@ -55,14 +57,14 @@ impl Guest {
     ghost use Rattle.items.specs.declared.item.What.TheVariants.{Step};
     ghost use Rattle.devices.specs.Devices.{fresh_devices};
     ghost use Rattle.mips_tlb.specs.declared.kind.Kind.TheVariants.{Store};
-    ghost use Rattle.mips_step.specs.Step.{step};
-    ghost use Rattle.mips_step.specs.World.{page_bytes};
-    ghost use Rattle.mips_step.specs.Given.{step_given};
-    ghost use Rattle.mips_step.specs.Accesses.{accesses, first_lack};
-    ghost use Rattle.flatvm.specs.Answers.{replied};
-    ghost use Rattle.flatvm.specs.Boot.{boot_machine, boot_memory};
-    ghost use Rattle.flatvm.specs.Items.{accepts, after, reply, run};
-    ghost use Rattle.flatvm.specs.Replies.{bytes_at, SomePlaceIn};
+    ghost use Rattle.machine.specs.Step.{step};
+    ghost use Rattle.machine.specs.World.{page_bytes};
+    ghost use Rattle.machine.specs.Given.{step_given};
+    ghost use Rattle.machine.specs.Accesses.{accesses, first_lack};
+    ghost use Rattle.machine.specs.Answers.{replied};
+    ghost use Rattle.machine.specs.Boot.{boot_machine, boot_memory};
+    ghost use Rattle.machine.specs.Items.{accepts, after, reply, run};
+    ghost use Rattle.machine.specs.Replies.{bytes_at, SomePlaceIn};
     ghost use Rattle.guest_log.specs.Logs.{HasRoom, IsFull, TakesRoom};
     ghost use Rattle.guest_log.specs.declared.stop.Stop.{Stop};
     ghost use Rattle.loghead.specs.Legal.{Legal};
@@ -74,7 +76,7 @@ impl Guest {
     ghost use Rattle.paging.specs.Faith.{Kept};
     ghost use Rattle.paged_bus.specs.Lacking.{lacks_in};
     ghost use Rattle.paged_bus.specs.Writes.{WritesTo};
-    ghost use Rattle.mips_step.specs.declared.access.Why.{Why};
+    ghost use Rattle.machine.specs.declared.access.Why.{Why};
     ghost use Rattle.physmap.specs.declared.page.Returned.{Returned};
     ghost use Rattle.guest.specs.Guests.{GuestIs, view_of, standing, Intact, IsSized, need_of, without_pages};
     ghost use Rattle.guest.specs.Guests.{HandsBack, last_given, HasPaused, Logs, LogsSteps, LogsOnly};

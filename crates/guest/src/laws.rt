@@ -3,9 +3,9 @@ ghost use Rattle.std.specs.Prelude.{◌≡◌, ◌↔◌, ◌*◌, ◌<◌, ℕ,
 ghost use Rattle.word32.specs.Zeros.{zeros};
 ghost use Rattle.elf32.specs.declared.image.Image.{Image};
 ghost use Rattle.elf32.specs.Images.{FitsPages};
-ghost use Rattle.mips_step.specs.World.{page_bytes};
-ghost use Rattle.flatvm.specs.Boot.{boot_memory};
-ghost use Rattle.flatvm.specs.Replies.{bytes_at, SomePlaceIn};
+ghost use Rattle.machine.specs.World.{page_bytes};
+ghost use Rattle.machine.specs.Boot.{boot_memory};
+ghost use Rattle.machine.specs.Replies.{bytes_at, SomePlaceIn};
 ghost use Rattle.paging.specs.Faith.{Faithful};
 ghost use Rattle.guest.specs.Guests.{GuestIs, view_of, standing, without_pages, Intact, IsSized};
 ghost use Rattle.guest.specs.Loading.{IsBeside};

@@ -2,9 +2,9 @@
 ghost use Rattle.std.specs.Prelude.{◌≡◌, ◌+◌, ◌-◌, ◌*◌, ◌^◌, ◌<◌, ◌≤◌, ℕ, IsTrue, false, All, List, length, take, drop, fold};
 ghost use Rattle.word32.specs.Words.{patched};
 ghost use Rattle.word32.specs.Zeros.{zeros};
-ghost use Rattle.mips_step.specs.World.{page_bytes};
+ghost use Rattle.machine.specs.World.{page_bytes};
 ghost use Rattle.elf32.specs.Images.{IsWithin, FitsPages};
-ghost use Rattle.flatvm.specs.Boot.{placed, boot_memory};
+ghost use Rattle.machine.specs.Boot.{placed, boot_memory};
 ghost use Rattle.physmap.specs.declared.page.Page.{Page};
 ghost use Rattle.physmap.specs.declared.page.PageKind.{PageKind};
 ghost use Rattle.physmap.specs.Pages.{page_at, kind_at, own_frame};
@@ -13,7 +13,7 @@ ghost use Rattle.guest.specs.Loading.{segment_reaches, Reaches, IsBeside, IsBoot
 
 use crate::step::whole;
 use elf32::{Image, SEGMENT_BASE, Segment};
-use mips_step::Ppn;
+use machine::Ppn;
 use paged_bus::PagedBus;
 
 // Where a segment and a page begin, in bytes from physical address 0 on.

@@ -3,7 +3,7 @@ ghost use Rattle.guest.specs.Guests.{without_pages};
 
 use crate::Guest;
 use frames::{Frame, SharePage, ShareTicket, SlotTicket};
-use mips_step::Ppn;
+use machine::Ppn;
 use paging::Pages;
 use physmap::{PageKind, Returned};
 use sharetab::Shares;

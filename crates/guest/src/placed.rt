@@ -1,14 +1,15 @@
 //! The pages that bytes from a virtual address on lie in, by the addresses that a debugger's reads lead to.
 ghost use Rattle.std.specs.Prelude.{◌≡◌, ◌↔◌, ◌⊎◌, ◌<◌, ◌≤◌, ◌+◌, ◌%◌, ◌^◌, ℕ, suc, true, is_some, IfSome, IsNone, None, length};
-ghost use Rattle.mips_step.specs.Step.{in_world};
-ghost use Rattle.flatvm.specs.Replies.{probe, bytes_at, SomePlaceIn};
+ghost use Rattle.machine.specs.Step.{in_world};
+ghost use Rattle.machine.specs.Replies.{probe, bytes_at, SomePlaceIn};
 ghost use Rattle.physmap.specs.Pages.{AreWhole};
 ghost use Rattle.paged_bus.specs.Buses.{IsSettled, world_of};
 ghost use Rattle.guest.specs.Guests.{LiesIn};
 
 use crate::step::whole;
-use flatvm::debug;
-use mips_step::{Cpu, Ppn};
+use mips_step::debug;
+use machine::Ppn;
+use mips_step::Cpu;
 use paged_bus::PagedBus;
 use word32::page_of;
 

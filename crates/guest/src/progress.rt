@@ -2,7 +2,7 @@
 ghost use Rattle.std.specs.Prelude.{◌≡◌};
 ghost use Rattle.guest.specs.Guests.{steps_by};
 
-use mips_step::{Ppn, Why};
+use machine::{Ppn, Why};
 use physmap::Returned;
 
 /// Why a run of steps pauses.

@@ -5,14 +5,14 @@ ghost use Rattle.items.specs.Entries.{steps_of};
 ghost use Rattle.items.specs.Items.{is_step};
 ghost use Rattle.items.specs.declared.item.What.TheVariants.{Drain};
 ghost use Rattle.mips_tlb.specs.declared.kind.Kind.TheVariants.{Store};
-ghost use Rattle.mips_step.specs.Accesses.{accesses, first_lack};
-ghost use Rattle.mips_step.specs.Agreeing.{GivenAreZeros};
-ghost use Rattle.mips_step.specs.Given.{step_given};
-ghost use Rattle.mips_step.specs.Step.{Machine, in_world, step};
-ghost use Rattle.flatvm.specs.Answers.{replied};
-ghost use Rattle.flatvm.specs.Items.{accepts, after, reply, run};
-ghost use Rattle.flatvm.specs.Replies.{bytes_at, SomePlaceIn};
-ghost use Rattle.mips_run.specs.Runs.{steps, AreQuiet};
+ghost use Rattle.machine.specs.Accesses.{accesses, first_lack};
+ghost use Rattle.machine.specs.Agreeing.{GivenAreZeros};
+ghost use Rattle.machine.specs.Given.{step_given};
+ghost use Rattle.machine.specs.Step.{Machine, in_world, step};
+ghost use Rattle.machine.specs.Answers.{replied};
+ghost use Rattle.machine.specs.Items.{accepts, after, reply, run};
+ghost use Rattle.machine.specs.Replies.{bytes_at, SomePlaceIn};
+ghost use Rattle.mips_fast.specs.Runs.{steps, AreQuiet};
 ghost use Rattle.physmap.specs.declared.page.PageKind.{PageKind};
 ghost use Rattle.physmap.specs.declared.page.Returned.{Returned};
 ghost use Rattle.physmap.specs.Pages.{kind_at, AreWhole};
@@ -21,16 +21,18 @@ ghost use Rattle.paging.specs.Faith.{Kept};
 ghost use Rattle.paged_bus.specs.Buses.{IsSettled, world_of, after_settling, page_returned};
 ghost use Rattle.paged_bus.specs.Lacking.{lacks_in};
 ghost use Rattle.paged_bus.specs.Writes.{WritesTo};
-ghost use Rattle.mips_step.specs.declared.access.Why.{Why};
+ghost use Rattle.machine.specs.declared.access.Why.{Why};
 ghost use Rattle.guest.specs.Guests.{need_of, HandsBack, last_given, HasPaused, IsMade};
 ghost use Rattle.guest.specs.declared.progress.Pause.{Pause};
 ghost use Rattle.guest.specs.Views.{pages_seen, Shows};
 
 use crate::{Pause, Progress, Stepped};
-use flatvm::{Reply, Unreached, debug};
+use machine::Reply;
+use mips_step::{Unreached, debug};
 use items::What;
-use mips_run::RunCache;
-use mips_step::{Cpu, Ppn, StepOut, Why};
+use mips_fast::RunCache;
+use machine::{Ppn, StepOut, Why};
+use mips_step::Cpu;
 use paged_bus::{InputError, PagedBus};
 use physmap::Returned;
 
@@ -165,7 +167,7 @@ pub(crate) fn run_pages(
     }
 }
 
-/// Some steps of a processor over pages, at most `count`, as `mips_run::run` makes them, and how many: none of them needs a page that is
+/// Some steps of a processor over pages, at most `count`, as `mips_fast::run` makes them, and how many: none of them needs a page that is
 /// lacking or gives one. Where processor and pages were those of a machine, they are those of that machine after so many steps.
 #[inline(always)]
 fn run_quietly(cpu: &mut Cpu, bus: &mut PagedBus, cache: &mut RunCache, count: u32) -> u32
@@ -181,7 +183,7 @@ fn run_quietly(cpu: &mut Cpu, bus: &mut PagedBus, cache: &mut RunCache, count: u
     ensures settled { IsSettled bus.new }
 {
     whole(bus);
-    let made = mips_run::run(cpu, bus, cache, count);
+    let made = mips_fast::run(cpu, bus, cache, count);
     whole(bus);
     made
 }

@@ -1,5 +1,5 @@
 //! What a step of a guest answers.
-use mips_step::{Ppn, Why};
+use machine::{Ppn, Why};
 use physmap::Returned;
 
 /// What a step of a guest answers.

@@ -12,7 +12,7 @@ use framepool::Pool;
 use frames::{Frame, FrameNo};
 use items::{Item, What, WriteBytes};
 use mips_instr::Reg;
-use mips_step::{Ppn, Why};
+use machine::{Ppn, Why};
 use paging::{Pages, evict_in, supply_first, supply_swapped};
 use physmap::{PageKind, Returned};
 use sharetab::Shares;

@@ -29,7 +29,7 @@ use Rattle.guest_log.proofs.log.Log.TheSendSync as log
 use Rattle.journal.specs.contracts.journal.Journal as Journal
 use Rattle.journal.specs.contracts.journal.Journal.TheInside as inside_journal
 use Rattle.mips_step.proofs.cpu.Cpu.TheSendSync as cpu
-use Rattle.mips_run.proofs.caches.RunCache.TheSendSync as cache
+use Rattle.mips_fast.proofs.caches.RunCache.TheSendSync as cache
 use Rattle.paged_bus.proofs.bus.PagedBus.TheSendSync as bus
 use Rattle.guest.specs.contracts.guest.Guest as Guest
 use Rattle.guest.specs.contracts.guest.Guest.TheInside as inside_guest

@@ -3,8 +3,9 @@ ghost use Rattle.std.specs.Prelude.{◌≡◌, ◌≤◌};
 
 use crate::images::image_of;
 use dump::{dump, steps_in};
-use flatvm::debug::read;
-use flatvm::{FlatBus, View};
+use mips_step::debug::read;
+use flatvm::FlatBus;
+use mips_step::View;
 use guest::Guest;
 use guest_log::Log;
 use items::{Entry, What};

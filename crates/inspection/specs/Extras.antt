@@ -1,7 +1,7 @@
 -- What is printed of a machine behind its dump.
 use Rattle.std.specs.Prelude.{ℕ, Bool, true, false, List, [], ◌++◌, flat_map, if◌then◌else◌}
-use Rattle.mips_step.specs.Step.{Machine}
-use Rattle.mips_step.specs.World.{lines_of}
+use Rattle.machine.specs.Step.{Machine}
+use Rattle.machine.specs.World.{lines_of}
 use Rattle.inspection.specs.declared.extras.Extras.{Extras}
 use Rattle.inspection.specs.declared.extras.Region.{Region}
 use Rattle.inspection.specs.Memory.{memory_text}

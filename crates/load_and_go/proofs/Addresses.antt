@@ -8,8 +8,8 @@ use Rattle.mips_cp0.specs.Registers.{SystemRegisters}
 use Rattle.mips_tlb.specs.Segments.{is_mapped}
 use Rattle.mips_tlb.specs.Translation.{probed}
 use Rattle.mips_tlb.specs.declared.tlb.Entry.{Entry}
-use Rattle.mips_step.specs.Step.{Machine}
-use Rattle.flatvm.specs.Replies.{in_memory, byte_in, byte_at}
+use Rattle.machine.specs.Step.{Machine}
+use Rattle.machine.specs.Replies.{in_memory, byte_in, byte_at}
 
 -- where the first test and the last are false
 neither_of : (a b c : Bool) → a ≡ false → c ≡ false → ((a && b) || c) ≡ false

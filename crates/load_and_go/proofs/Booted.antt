@@ -16,9 +16,9 @@ use Rattle.elf32.proofs.Fitting.{stands_fit}
 use Rattle.elf32.proofs.Returning as returning
 use Rattle.masm.specs.Listings.{Part, Listing}
 use Rattle.masm.specs.Images.{IsSegmentOf, AreSegmentsOf, IsImageOf}
-use Rattle.mips_step.specs.Step.{Machine}
-use Rattle.flatvm.specs.Boot.{boot_machine}
-use Rattle.flatvm.specs.Replies.{byte_at}
+use Rattle.machine.specs.Step.{Machine}
+use Rattle.machine.specs.Boot.{boot_machine}
+use Rattle.machine.specs.Replies.{byte_at}
 use Rattle.load_and_go.specs.Holds.{HoldsFrom, Holds}
 use Rattle.load_and_go.proofs.Placing.{IsIn, length-all, all_in}
 use Rattle.load_and_go.proofs.Addresses.{byte_there}

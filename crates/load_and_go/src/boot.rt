@@ -4,7 +4,7 @@ ghost use Rattle.elf32.specs.declared.image.Image as elf;
 ghost use Rattle.elf32.specs.Images.{FitsPages};
 ghost use Rattle.masm.specs.Listings.{Listing};
 ghost use Rattle.masm.specs.Assembly.{Means};
-ghost use Rattle.flatvm.specs.Boot.{boot_machine};
+ghost use Rattle.machine.specs.Boot.{boot_machine};
 ghost use Rattle.sharetab.specs.Maps.{at_page};
 ghost use Rattle.sharetab.specs.declared.guest_page.GuestPage.{GuestPage};
 ghost use Rattle.guest.specs.Guests.{view_of};

@@ -11,22 +11,15 @@
 //! accesses alone, which pages it leaves, and which it gives and takes.
 #![tactic(auto)]
 
-pub mod access;
-pub mod bus;
-pub mod clockless;
 pub mod cpu;
-pub mod decoded;
-pub mod laws;
-mod meaning;
+pub mod debug;
+pub mod meaning;
 mod operating;
 mod sign;
 pub mod stepping;
-mod transfer;
+pub mod transfer;
+pub mod view;
 
-pub use access::{Refusal, Size, StepOut, Why};
-pub use bus::PhysBus;
-pub use clockless::Performed;
 pub use cpu::{Counter, Cpu};
-pub use decoded::Decoded;
-pub use mips_tlb::Kind;
-pub use word32::Ppn;
+pub use debug::Unreached;
+pub use view::View;

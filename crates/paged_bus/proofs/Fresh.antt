@@ -3,7 +3,7 @@ use Rattle.std.proofs.Common.{ℕ, zero, suc, ◌≡◌, ◌+◌, ◌*◌, ◌/�
 use Rattle.std.proofs.lemmas.List.{replicate-append-replicate}
 use Rattle.word32.specs.Zeros.{zeros}
 use Rattle.devices.specs.Devices.{DevicesAre, fresh_devices}
-use Rattle.mips_step.specs.World.{World, with_memory}
+use Rattle.machine.specs.World.{World, with_memory}
 use Rattle.physmap.specs.declared.page.Page.{Page}
 use Rattle.physmap.specs.declared.page.Page.TheVariants.{Zero}
 use Rattle.physmap.specs.Pages.{memory_of}

@@ -4,14 +4,14 @@ use Rattle.std.proofs.lemmas.Bool.{cases_lt, lt-ltb, le-ltb, le-leb, lt-leb, leb
 use Rattle.word32.specs.Pages.{page_number}
 use Rattle.mips_tlb.specs.declared.kind.Kind.{Kind}
 use Rattle.mips_tlb.specs.declared.kind.Kind.TheVariants.{Fetch, Store}
-use Rattle.mips_step.specs.declared.access.Why.{Why}
-use Rattle.mips_step.specs.declared.access.Size.{Size}
-use Rattle.mips_step.specs.declared.access.Size.TheVariants.{Byte, Half, Word, Left, Right}
-use Rattle.mips_step.specs.World.{World, Reach, reach, is_in_memory, first_byte, bytes_of}
-use Rattle.mips_step.specs.World.Reach.{InMemory, Nowhere}
-use Rattle.mips_step.specs.Bus.{Lacks, IsReady, ready_answer}
-use Rattle.mips_step.specs.Places.{alignment}
-use Rattle.mips_step.proofs.Worlds.{reach_fits}
+use Rattle.machine.specs.declared.access.Why.{Why}
+use Rattle.machine.specs.declared.access.Size.{Size}
+use Rattle.machine.specs.declared.access.Size.TheVariants.{Byte, Half, Word, Left, Right}
+use Rattle.machine.specs.World.{World, Reach, reach, is_in_memory, first_byte, bytes_of}
+use Rattle.machine.specs.World.Reach.{InMemory, Nowhere}
+use Rattle.machine.specs.Bus.{Lacks, IsReady, ready_answer}
+use Rattle.machine.specs.Places.{alignment}
+use Rattle.machine.proofs.Worlds.{reach_fits}
 use Rattle.physmap.specs.declared.page.Page.{Page}
 use Rattle.physmap.specs.declared.page.PageKind.{PageKind}
 use Rattle.physmap.specs.declared.page.PageKind.TheVariants.{Zero, Given, Private, Shared, Swapped}

@@ -1,8 +1,8 @@
 -- Why a write is not made, and what is kept tells which pages are lacking.
 use Rattle.std.proofs.Common.{ℕ, ◌≡◌, List, ap, refl}
 use Rattle.mips_tlb.specs.declared.kind.Kind.{Kind}
-use Rattle.flatvm.specs.declared.debug.Unreached.{Unreached}
-use Rattle.flatvm.specs.declared.debug.Unreached.TheVariants as unreached
+use Rattle.mips_step.specs.declared.debug.Unreached.{Unreached}
+use Rattle.mips_step.specs.declared.debug.Unreached.TheVariants as unreached
 use Rattle.physmap.specs.declared.page.Page.{Page}
 use Rattle.physmap.specs.Outline.{outline}
 use Rattle.physmap.proofs.Outlines.{outline_kind}

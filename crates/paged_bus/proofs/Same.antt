@@ -1,6 +1,6 @@
 -- Buses of one outline and one world are the same.
 use Rattle.std.proofs.Common.{◌≡◌, List, None, sym, ap, ◌∙◌}
-use Rattle.mips_step.specs.World.{World, given_away}
+use Rattle.machine.specs.World.{World, given_away}
 use Rattle.physmap.specs.declared.page.Page.{Page}
 use Rattle.physmap.specs.Pages.{memory_of, AreWhole}
 use Rattle.physmap.specs.Outline.{outline}

@@ -9,9 +9,9 @@ use Rattle.devices.specs.declared.register.DeviceRegister.{DeviceRegister}
 use Rattle.devices.specs.declared.register.DeviceRegister.TheVariants.{ConStat, ConIn, ConOut, BalTarget, BalCount, BalGive, BalTake}
 use Rattle.devices.specs.Devices.{DevicesAre}
 use Rattle.devices.specs.Registers.{page_to_give}
-use Rattle.mips_step.specs.World.{page_bytes, page_cleared, given_away}
-use Rattle.mips_step.proofs.Pages.{length-page}
-use Rattle.mips_step.proofs.Worlds.{given_away_size}
+use Rattle.machine.specs.World.{page_bytes, page_cleared, given_away}
+use Rattle.machine.proofs.Pages.{length-page}
+use Rattle.machine.proofs.Worlds.{given_away_size}
 
 -- a page that is given away leaves the memory its size
 pub length_of_world : (waiting : Option ℕ) (memory : List ℕ) (n : ℕ) → length memory ≡ n → length (given_away waiting memory) ≡ n

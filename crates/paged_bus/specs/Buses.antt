@@ -2,7 +2,7 @@
 use Rattle.std.specs.Prelude.{◌≡◌, ℕ, ◌*◌, List, Option, Some, None, slice_set}
 use Rattle.word32.specs.Words.{patched}
 use Rattle.devices.specs.Devices.{DevicesAre}
-use Rattle.mips_step.specs.World.{World, given_away}
+use Rattle.machine.specs.World.{World, given_away}
 use Rattle.physmap.specs.declared.page.Page.{Page}
 use Rattle.physmap.specs.declared.page.Page.TheVariants.{Given}
 use Rattle.physmap.specs.declared.page.Returned.{Returned}

@@ -2,8 +2,8 @@
 use Rattle.std.specs.Prelude.{ℕ, List, Option, Some, None}
 use Rattle.mips_tlb.specs.declared.kind.Kind.{Kind}
 use Rattle.mips_tlb.specs.declared.kind.Kind.TheVariants.{Fetch, Load, Store}
-use Rattle.mips_step.specs.declared.access.Why.{Why}
-use Rattle.mips_step.specs.declared.access.Why.TheVariants as why
+use Rattle.machine.specs.declared.access.Why.{Why}
+use Rattle.machine.specs.declared.access.Why.TheVariants as why
 use Rattle.physmap.specs.declared.page.Page.{Page}
 use Rattle.physmap.specs.declared.page.PageKind.{PageKind}
 use Rattle.physmap.specs.declared.page.PageKind.TheVariants.{Zero, Given, Private, Shared, Swapped}

@@ -2,11 +2,11 @@
 use Rattle.std.specs.Prelude.{ℕ, length}
 use Rattle.items.specs.declared.item.What.{What}
 use Rattle.items.specs.declared.item.What.TheVariants.{Step, In, Drain, Target, Poke, Write}
-use Rattle.mips_step.specs.Step as step
-use Rattle.mips_step.specs.Bus.{Lacks}
-use Rattle.flatvm.specs.declared.debug.Unreached.{Unreached}
-use Rattle.flatvm.specs.declared.debug.Unreached.TheVariants as unreached
-use Rattle.flatvm.specs.Replies.{SomePlaceIn, EachPlace, CanStore}
+use Rattle.machine.specs.Step as step
+use Rattle.machine.specs.Bus.{Lacks}
+use Rattle.mips_step.specs.declared.debug.Unreached.{Unreached}
+use Rattle.mips_step.specs.declared.debug.Unreached.TheVariants as unreached
+use Rattle.machine.specs.Replies.{SomePlaceIn, EachPlace, CanStore}
 use Rattle.paged_bus.specs.declared.input.InputError.{InputError}
 use Rattle.paged_bus.specs.declared.input.InputError.TheVariants.{Machine, Away}
 

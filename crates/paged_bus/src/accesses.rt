@@ -2,9 +2,9 @@
 ghost use Rattle.std.specs.Prelude.{◌≡◌, ℕ, ◌+◌, ◌*◌, ◌%◌, ◌^◌, ◌<◌, ◌≤◌, length, Ok, Err, None, if◌then◌else◌};
 ghost use Rattle.word32.specs.Pages.{page_number};
 ghost use Rattle.word32.specs.Words.{patched};
-ghost use Rattle.mips_step.specs.World.{value_in, limit_of, bytes_after, device_reach};
-ghost use Rattle.mips_step.specs.Places.{alignment};
-ghost use Rattle.mips_step.specs.Bus.{ready_answer};
+ghost use Rattle.machine.specs.World.{value_in, limit_of, bytes_after, device_reach};
+ghost use Rattle.machine.specs.Places.{alignment};
+ghost use Rattle.machine.specs.Bus.{ready_answer};
 ghost use Rattle.physmap.specs.declared.page.PageKind.{PageKind};
 ghost use Rattle.physmap.specs.Pages.{kind_at, memory_of};
 ghost use Rattle.physmap.specs.Outline.{outline};
@@ -12,7 +12,7 @@ ghost use Rattle.paged_bus.specs.Lacking.{lack_of};
 
 use devices::DeviceRegister;
 use mips_alu::{store_left, store_right};
-use mips_step::{Kind, Refusal, Size, Why};
+use machine::{Kind, Refusal, Size, Why};
 use physmap::{PageKind, PhysMap};
 
 /// Why a page of a kind is lacking for an access, or None where it is there.

@@ -7,11 +7,12 @@ ghost use Rattle.physmap.specs.Pages.{kind_at};
 ghost use Rattle.paged_bus.specs.Buses.{IsSettled};
 
 use crate::{InputError, PagedBus};
-use flatvm::Reply;
+use machine::Reply;
 use frames::{Frame, Numbers, SlotTicket};
 use items::{DebugRegister, What, WriteBytes};
 use mips_instr::Reg;
-use mips_step::{Cpu, StepOut, Why};
+use machine::{StepOut, Why};
+use mips_step::Cpu;
 use physmap::{PageKind, Returned};
 use sha2::{Digest, Sha256};
 use sharetab::{GuestNo, GuestPage, Offer, Shares};

@@ -8,9 +8,9 @@ use Rattle.mips_cp0.specs.Registers.{SystemRegisters}
 use Rattle.mips_cp0.specs.declared.exception.Exc.{Exc}
 use Rattle.mips_cp0.specs.declared.exception.Exc.TheVariants as exc
 use Rattle.mips_cp0.proofs.Entering.{level_set}
-use Rattle.mips_step.specs.Processor.{clocked, excepted}
-use Rattle.mips_step.specs.World.{World}
-use Rattle.mips_step.specs.Step.{Machine, in_world, step}
+use Rattle.machine.specs.Processor.{clocked, excepted}
+use Rattle.machine.specs.World.{World}
+use Rattle.machine.specs.Step.{Machine, in_world, step}
 use Rattle.runs.specs.Entries.{entered_since, has_entered, is_vector}
 
 -- an offset is one of the handlers'

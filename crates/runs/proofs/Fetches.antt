@@ -13,13 +13,13 @@ use Rattle.mips_tlb.specs.Translation.{address_error, answer_of, half_of, kernel
 use Rattle.mips_tlb.specs.declared.kind.Kind.TheVariants.{Fetch, Load}
 use Rattle.mips_tlb.specs.declared.tlb.Entry.{Entry}
 use Rattle.mips_tlb.proofs.Pages.{translation_same}
-use Rattle.mips_step.specs.declared.access.Size.TheVariants.{Word}
-use Rattle.mips_step.specs.Processor.{Processor}
-use Rattle.mips_step.specs.World.{World, is_given_page, is_in_memory}
-use Rattle.mips_step.specs.Places.{place}
-use Rattle.mips_step.specs.Step.{Machine}
-use Rattle.mips_step.proofs.Aligned.{passed, place_offset}
-use Rattle.flatvm.specs.Replies.{byte_at, byte_in, bytes_at, in_memory, probe, with_next}
+use Rattle.machine.specs.declared.access.Size.TheVariants.{Word}
+use Rattle.machine.specs.Processor.{Processor}
+use Rattle.machine.specs.World.{World, is_given_page, is_in_memory}
+use Rattle.machine.specs.Places.{place}
+use Rattle.machine.specs.Step.{Machine}
+use Rattle.machine.proofs.Aligned.{passed, place_offset}
+use Rattle.machine.specs.Replies.{byte_at, byte_in, bytes_at, in_memory, probe, with_next}
 use Rattle.runs.specs.Loops.{fetched_word, is_answered, read_as_word, word_at_place, word_read}
 
 -- ---- where a fetch leads, a load of kernel mode does

@@ -2,8 +2,8 @@
 use Rattle.std.proofs.Common.{◌≡◌, refl, sym, ap, ◌∙◌, arith, ℕ, zero, suc, ◌+◌, ◌<◌, List, [], ◌∷◌, length, take, get_or, add-one}
 use Rattle.std.proofs.lemmas.List.{length-append}
 use Rattle.items.specs.declared.item.What.TheVariants.{In}
-use Rattle.mips_step.specs.Step.{Machine}
-use Rattle.flatvm.specs.Items.{after}
+use Rattle.machine.specs.Step.{Machine}
+use Rattle.machine.specs.Items.{after}
 use Rattle.runs.specs.Runs.{fed}
 
 -- one byte more

@@ -28,14 +28,14 @@ use Rattle.mips_tlb.specs.Segments.{is_mapped, is_refused, unmapped_address}
 use Rattle.mips_tlb.specs.Translation.{address_error, through_entry}
 use Rattle.mips_tlb.specs.declared.kind.Kind.TheVariants.{Fetch}
 use Rattle.mips_tlb.specs.declared.tlb.Entry.{Entry}
-use Rattle.mips_step.specs.declared.access.Size.TheVariants.{Word}
-use Rattle.mips_step.specs.Processor.{Processor, reg, jumped, skipped, after_slot, linked, next}
-use Rattle.mips_step.specs.World.{World, is_given_page, is_in_memory, lines_of, touched, value_in}
-use Rattle.mips_step.specs.Places.{place}
-use Rattle.mips_step.specs.Meaning.{branch_condition, is_likely, is_likely_zero, links, zero_condition}
-use Rattle.mips_step.specs.Operations.{Operation, branched, decoded, done_or_excepted, instruction_of, jumped_far, linked_if, operation_of, outside_slot, word_operation}
-use Rattle.mips_step.specs.Operations.Operation.{OnProcessor}
-use Rattle.mips_step.specs.Step.{Machine, after_tick, fetched, in_world, performed, raised, step, word_fetched}
+use Rattle.machine.specs.declared.access.Size.TheVariants.{Word}
+use Rattle.machine.specs.Processor.{Processor, reg, jumped, skipped, after_slot, linked, next}
+use Rattle.machine.specs.World.{World, is_given_page, is_in_memory, lines_of, touched, value_in}
+use Rattle.machine.specs.Places.{place}
+use Rattle.machine.specs.Meaning.{branch_condition, is_likely, is_likely_zero, links, zero_condition}
+use Rattle.machine.specs.Operations.{Operation, branched, decoded, done_or_excepted, instruction_of, jumped_far, linked_if, operation_of, outside_slot, word_operation}
+use Rattle.machine.specs.Operations.Operation.{OnProcessor}
+use Rattle.machine.specs.Step.{Machine, after_tick, fetched, in_world, performed, raised, step, word_fetched}
 use Rattle.runs.specs.Loops.{at_branch, fetched_word, in_its_slot, is_answered, is_loop, is_number, is_quiet, jumped_to, leads_back, led_to, taken_to, word_at_place, word_leads}
 use Rattle.runs.specs.Runs.{after_steps}
 

@@ -13,14 +13,14 @@ use Rattle.mips_instr.specs.declared.instr.JumpOp.{JumpOp}
 use Rattle.mips_instr.specs.declared.instr.JumpOp.TheVariants.{J, Jal}
 use Rattle.mips_alu.specs.Comparing.{compare_result}
 use Rattle.mips_tlb.specs.declared.kind.Kind.TheVariants.{Fetch}
-use Rattle.mips_step.specs.declared.access.Size.TheVariants.{Word}
-use Rattle.mips_step.specs.Processor.{Processor, reg}
-use Rattle.mips_step.specs.World.{World, is_given_page, is_in_memory, value_in, lines_of}
-use Rattle.mips_step.specs.Places.{place}
-use Rattle.mips_step.specs.Meaning.{branch_condition, zero_condition, links}
-use Rattle.mips_step.specs.Operations.{instruction_of}
-use Rattle.mips_step.specs.Step.{Machine}
-use Rattle.flatvm.specs.Replies.{bytes_at}
+use Rattle.machine.specs.declared.access.Size.TheVariants.{Word}
+use Rattle.machine.specs.Processor.{Processor, reg}
+use Rattle.machine.specs.World.{World, is_given_page, is_in_memory, value_in, lines_of}
+use Rattle.machine.specs.Places.{place}
+use Rattle.machine.specs.Meaning.{branch_condition, zero_condition, links}
+use Rattle.machine.specs.Operations.{instruction_of}
+use Rattle.machine.specs.Step.{Machine}
+use Rattle.machine.specs.Replies.{bytes_at}
 use Rattle.word32.specs.Pages.{page_number}
 use Rattle.word32.specs.Words.{word_in}
 

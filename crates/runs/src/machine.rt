@@ -1,13 +1,13 @@
 //! Machines that make steps.
 ghost use Rattle.std.specs.Prelude.{◌≡◌, ◌<◌, ◌≤◌, None, Some, length, IfErr, IfSome, OnOk, OnErr};
 ghost use Rattle.items.specs.declared.item.What.TheVariants.{In};
-ghost use Rattle.mips_step.specs.Step.{Machine as State};
-ghost use Rattle.flatvm.specs.Items.{after};
-ghost use Rattle.flatvm.specs.Replies.{bytes_at};
+ghost use Rattle.machine.specs.Step.{Machine as State};
+ghost use Rattle.machine.specs.Items.{after};
+ghost use Rattle.machine.specs.Replies.{bytes_at};
 ghost use Rattle.guest_log.specs.declared.stop.Stop.{Stop};
 ghost use Rattle.runs.specs.Runs.{after_steps};
 
-use flatvm::View;
+use mips_step::View;
 use guest_log::Stop;
 
 /// One of the bytes that were to be read has no place in memory.

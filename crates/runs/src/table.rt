@@ -2,17 +2,20 @@
 ghost use Rattle.std.specs.Prelude.{◌≡◌, ◌≤◌, ◌^◌, ◌<◌, None, Some, length, IfOk, OnOk, OnErr};
 ghost use Rattle.elf32.specs.Images.{FitsPages};
 ghost use Rattle.items.specs.declared.item.What.TheVariants.{In};
-ghost use Rattle.mips_step.specs.Step.{step};
-ghost use Rattle.flatvm.specs.Boot.{boot_machine};
-ghost use Rattle.flatvm.specs.Items.{after};
+ghost use Rattle.machine.specs.Step.{step};
+ghost use Rattle.machine.specs.Boot.{boot_machine};
+ghost use Rattle.machine.specs.Items.{after};
 ghost use Rattle.runs.specs.Runs.{after_steps};
 
 use crate::{NoPlace, Runnable};
 use elf32::Image;
-use flatvm::{FlatBus, Rejection, Unreached, View, debug};
+use flatvm::FlatBus;
+use machine::Rejection;
+use mips_step::{Unreached, View, debug};
 use guest_log::Stop;
 use items::What;
-use mips_step::{Cpu, StepOut};
+use machine::StepOut;
+use mips_step::Cpu;
 use std::alloc::{AllocError, Global};
 use std::marker::Model;
 
@@ -24,7 +27,7 @@ pub struct Table {
 }
 
 impl Model for Table {
-    ghost use Rattle.mips_step.specs.Step.{Machine, in_world};
+    ghost use Rattle.machine.specs.Step.{Machine, in_world};
 
     ghost Value = { Machine };
 

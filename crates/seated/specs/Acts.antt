@@ -5,7 +5,7 @@ use Rattle.items.specs.declared.item.Item.{Item}
 use Rattle.items.specs.Entries.{steps_of}
 use Rattle.loghead.specs.Heads.{HeadId, SeatIs}
 use Rattle.loghead.specs.Legal.{Legal}
-use Rattle.mips_step.specs.Step.{Machine}
+use Rattle.machine.specs.Step.{Machine}
 use Rattle.guest.specs.Guests.{GuestIs, Intact}
 
 -- The call found this log, for which the seat was legal, and added these items, which are the seat's own. The seat has seen the log as it

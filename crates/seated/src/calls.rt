@@ -3,12 +3,12 @@ ghost use Rattle.std.specs.Prelude.{◌≡◌, ◌≢◌, ◌<◌, ◌≤◌, �
 ghost use Rattle.items.specs.Items.{is_step};
 ghost use Rattle.items.specs.Entries.{steps_of};
 ghost use Rattle.mips_tlb.specs.declared.kind.Kind.TheVariants.{Store};
-ghost use Rattle.mips_step.specs.Accesses.{accesses, first_lack};
-ghost use Rattle.mips_step.specs.Given.{step_given};
-ghost use Rattle.mips_step.specs.declared.access.Why.{Why};
-ghost use Rattle.flatvm.specs.Answers.{replied};
-ghost use Rattle.flatvm.specs.Items.{accepts, after, reply, run};
-ghost use Rattle.flatvm.specs.Replies.{bytes_at, SomePlaceIn};
+ghost use Rattle.machine.specs.Accesses.{accesses, first_lack};
+ghost use Rattle.machine.specs.Given.{step_given};
+ghost use Rattle.machine.specs.declared.access.Why.{Why};
+ghost use Rattle.machine.specs.Answers.{replied};
+ghost use Rattle.machine.specs.Items.{accepts, after, reply, run};
+ghost use Rattle.machine.specs.Replies.{bytes_at, SomePlaceIn};
 ghost use Rattle.items.specs.declared.item.What.TheVariants.{In};
 ghost use Rattle.devices.specs.Devices.{device_input_fed};
 ghost use Rattle.guest_log.specs.Logs.{HasItemRoom, IsFull};
@@ -25,7 +25,7 @@ ghost use Rattle.guest.specs.Guests.{view_of, standing, Intact, HasPaused, last_
 ghost use Rattle.guest.specs.Views.{pages_seen};
 ghost use Rattle.seated.specs.Acts.{Acts, Sees, Stays};
 
-use flatvm::Reply;
+use machine::Reply;
 use guest::{Guest, Progress, Refused, Seat, Stop};
 use items::Item;
 

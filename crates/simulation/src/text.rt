@@ -5,9 +5,9 @@ ghost use Rattle.simulation.specs.Lines as spec;
 
 use crate::{Act, PageCounts, Said};
 use dump::{push_digits, push_output_digits};
-use flatvm::Reply;
+use machine::Reply;
 use guest::{Refused, Stop};
-use mips_step::Why;
+use machine::Why;
 use paging::Scan;
 use reclaim::Level;
 use sharetab::GuestPage;

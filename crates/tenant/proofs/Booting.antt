@@ -16,11 +16,11 @@ use Rattle.elf32.specs.declared.image.Image.{Image}
 use Rattle.elf32.specs.Images.{IsWithin, FitsPages}
 use Rattle.items.specs.declared.item.Item.{Item}
 use Rattle.devices.specs.Devices.{fresh_devices}
-use Rattle.mips_step.specs.Step.{Machine}
-use Rattle.flatvm.specs.Items.{run}
+use Rattle.machine.specs.Step.{Machine}
+use Rattle.machine.specs.Items.{run}
 use Rattle.paged_bus.specs.Buses.{PagedBusIs}
-use Rattle.mips_step.proofs.Clearing.{length-zeros}
-use Rattle.flatvm.specs.Boot.{placed, boot_memory, boot_machine}
+use Rattle.machine.proofs.Clearing.{length-zeros}
+use Rattle.machine.specs.Boot.{placed, boot_memory, boot_machine}
 use Rattle.physmap.specs.declared.page.Page.{Page}
 use Rattle.physmap.specs.declared.page.Page.TheVariants as page
 use Rattle.physmap.specs.declared.page.PageKind.TheVariants as kind

@@ -5,8 +5,8 @@ use Rattle.frames.specs.Counts.{count_of}
 use Rattle.frames.specs.FreeList.{FreeList}
 use Rattle.frames.proofs.Counting.{one_same}
 use Rattle.items.specs.declared.item.Item.{Item}
-use Rattle.mips_step.specs.Processor.{Processor}
-use Rattle.mips_step.specs.Step.{Machine}
+use Rattle.machine.specs.Processor.{Processor}
+use Rattle.machine.specs.Step.{Machine}
 use Rattle.physmap.specs.declared.page.Page.{Page}
 use Rattle.physmap.specs.declared.page.Page.TheVariants as page
 use Rattle.physmap.specs.Pages.{page_at}

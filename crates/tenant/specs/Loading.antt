@@ -2,8 +2,8 @@
 use Rattle.std.specs.Prelude.{◌≡◌, ℕ, ◌+◌, ◌<◌, ◌≤◌, List, [], Option, length}
 use Rattle.frames.specs.FreeList.{FreeList}
 use Rattle.elf32.specs.declared.image.Image.{Image}
-use Rattle.mips_step.specs.World.{page_bytes}
-use Rattle.flatvm.specs.Boot.{boot_machine, boot_memory}
+use Rattle.machine.specs.World.{page_bytes}
+use Rattle.machine.specs.Boot.{boot_machine, boot_memory}
 use Rattle.physmap.specs.declared.page.Page.{Page}
 use Rattle.physmap.specs.declared.page.Page.TheVariants.{Zero}
 use Rattle.physmap.specs.declared.page.PageKind.TheVariants.{Private, Swapped}

@@ -4,7 +4,7 @@ use Rattle.std.proofs.Common.{lit<}
 use Rattle.items.specs.declared.item.Item.{Item}
 use Rattle.items.specs.Entries.{steps_of}
 use Rattle.elf32.specs.declared.image.Image.{Image}
-use Rattle.flatvm.specs.Boot.{boot_machine}
+use Rattle.machine.specs.Boot.{boot_machine}
 use Rattle.physmap.specs.declared.page.Page.{Page}
 use Rattle.physmap.specs.declared.page.Page.TheVariants.{Zero}
 use Rattle.physmap.specs.Pages.{page_at}

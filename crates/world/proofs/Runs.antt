@@ -3,7 +3,7 @@ use Rattle.std.proofs.Common.{ℕ, suc, ◌≡◌, ◌+◌, ◌<◌, if◌then�
 use Rattle.std.specs.List.{Contains}
 use Rattle.std.proofs.lemmas.List.{append-nil, length-map, replicate-append-replicate, set-get_or}
 use Rattle.world.specs.All.{Changes, End, IsFull, IsSupplied, Item, Machine, NothingHappens, OnlyPagesMove, Page, PageKind, PagedBusIs, Private, Stays, TenantIs, Why, accesses, beside_pages, boot_of, first_lack, kind_at, lack_of, lacks_in, log_at, pages_in, run, step_by, steps_for, view_of}
-use Rattle.mips_step.specs.Accesses.{Access}
+use Rattle.machine.specs.Accesses.{Access}
 use Rattle.mips_tlb.specs.declared.kind.Kind.{Kind}
 use Rattle.world.specs.declared.running.End.TheVariants as end
 use Rattle.world.specs.declared.running.RunStop.TheVariants as stop

@@ -1,8 +1,8 @@
 -- What definitions and proofs of this crate name of the crates below it.
-pub use Rattle.flatvm.specs.Answers.{replied}
-pub use Rattle.flatvm.specs.Items.{accepts, reply, run}
-pub use Rattle.flatvm.specs.Replies.{SomePlaceIn, bytes_at}
-pub use Rattle.flatvm.specs.declared.reply.Reply.{Reply}
+pub use Rattle.machine.specs.Answers.{replied}
+pub use Rattle.machine.specs.Items.{accepts, reply, run}
+pub use Rattle.machine.specs.Replies.{SomePlaceIn, bytes_at}
+pub use Rattle.machine.specs.declared.reply.Reply.{Reply}
 pub use Rattle.frames.specs.Counts.{below, count_of}
 pub use Rattle.frames.specs.FreeList.{FreeList}
 pub use Rattle.guest.specs.Guests.{GuestIs, Intact, IsSized, last_given, standing, view_of, without_pages}
@@ -14,12 +14,12 @@ pub use Rattle.items.specs.Items.{is_step}
 pub use Rattle.items.specs.declared.item.Item.{Item}
 pub use Rattle.items.specs.declared.item.What.{What}
 pub use Rattle.items.specs.declared.item.What.TheVariants.{In, Write}
-pub use Rattle.mips_step.specs.Accesses.{accesses, first_lack}
-pub use Rattle.mips_step.specs.Answer.{need_of}
-pub use Rattle.mips_step.specs.Given.{step_given}
-pub use Rattle.mips_step.specs.Step.{Machine}
-pub use Rattle.mips_step.specs.declared.access.StepOut.{StepOut}
-pub use Rattle.mips_step.specs.declared.access.Why.{Why}
+pub use Rattle.machine.specs.Accesses.{accesses, first_lack}
+pub use Rattle.machine.specs.Answer.{need_of}
+pub use Rattle.machine.specs.Given.{step_given}
+pub use Rattle.machine.specs.Step.{Machine}
+pub use Rattle.machine.specs.declared.access.StepOut.{StepOut}
+pub use Rattle.machine.specs.declared.access.Why.{Why}
 pub use Rattle.paged_bus.specs.Buses.{PagedBusIs, pages_settled}
 pub use Rattle.paged_bus.specs.Lacking.{lack_of, lacks_in}
 pub use Rattle.paged_bus.specs.Writes.{WritesTo}

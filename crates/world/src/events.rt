@@ -1,10 +1,10 @@
 //! What may happen in a world, and what is answered.
 use crate::running::{for_room, stop_of};
 use crate::{DebugError, Evicted, FaultError, Ran, RunStop, Turn};
-use flatvm::Reply;
+use machine::Reply;
 use guest::{Refused, Stop};
 use items::Item;
-use mips_step::StepOut;
+use machine::StepOut;
 use paging::{Scan, SupplyError};
 use std::alloc::AllocError;
 use tenant::EvictError;

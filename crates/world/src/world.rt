@@ -1,11 +1,11 @@
 //! A world of guests.
 ghost use Rattle.std.specs.Prelude.{◌≡◌, ◌≢◌, ◌<◌};
 
-use flatvm::Reply;
+use machine::Reply;
 use framepool::Pool;
 use guest::{Refused, Stop};
 use items::Item;
-use mips_step::StepOut;
+use machine::StepOut;
 use paging::{Pages, Scan, SupplyError};
 use physmap::PageKind;
 use reclaim::Level;

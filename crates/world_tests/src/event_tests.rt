@@ -5,7 +5,7 @@ ghost use Rattle.world.specs.Events.{IsProper};
 
 use elf32::Image;
 use items::{Item, SeatNo, What};
-use mips_step::{StepOut, Why};
+use machine::{StepOut, Why};
 use paging::{Scan, SupplyError};
 use physmap::PageKind;
 use rand_pcg::Pcg32;

@@ -1,8 +1,8 @@
 //! The program counter.
 ghost use Rattle.std.specs.Prelude.{◌≡◌, None, Some, is_some};
 ghost use Rattle.mips_instr.specs.Targets.{slot_address, branch_target};
-ghost use Rattle.mips_step.specs.Processor.{Processor, at_counter, follower, after_slot};
-ghost use Rattle.mips_step.specs.Operations.{branched};
+ghost use Rattle.machine.specs.Processor.{Processor, at_counter, follower, after_slot};
+ghost use Rattle.machine.specs.Operations.{branched};
 
 use crate::sign::extended;
 use std::marker::Model;
@@ -19,7 +19,7 @@ pub struct Counter {
 impl Model for Counter {
     ghost use Rattle.std.specs.Prelude.{◌≡◌, false, if◌then◌else◌, None, Some};
     ghost use Rattle.mips_instr.specs.Targets.{slot_address};
-    ghost use Rattle.mips_step.specs.Processor.{CounterIs};
+    ghost use Rattle.machine.specs.Processor.{CounterIs};
 
     ghost Value = { CounterIs };
 
@@ -43,7 +43,7 @@ impl Counter {
 
     /// The same counter once more.
     #[inline(always)]
-    pub(crate) fn again(&self) -> Counter
+    pub fn again(&self) -> Counter
         ensures { result ≡ self.now }
     {
         Counter {
@@ -71,7 +71,7 @@ impl Counter {
 
     /// Whether PC stands in a delay slot.
     #[inline(always)]
-    pub(crate) fn is_in_slot(&self) -> bool
+    pub fn is_in_slot(&self) -> bool
         ensures { result ≡ is_some self.now.slot }
     {
         self.in_slot
@@ -79,7 +79,7 @@ impl Counter {
 
     /// The address after the delay slot of the instruction at PC.
     #[inline(always)]
-    pub(crate) fn after_slot(&self) -> u32
+    pub fn after_slot(&self) -> u32
         ensures { result ≡ after_slot self.now.pc }
     {
         self.pc.wrapping_add(8)
@@ -87,7 +87,7 @@ impl Counter {
 
     /// Goes on to what follows.
     #[inline(always)]
-    pub(crate) fn advance(&mut self)
+    pub fn advance(&mut self)
         ensures { self.new ≡ record { pc = follower self.old.slot self.old.pc; slot = None } }
     {
         self.pc = self.next;
@@ -97,7 +97,7 @@ impl Counter {
 
     /// Goes on to the delay slot, which a target follows.
     #[inline(always)]
-    pub(crate) fn jump(&mut self, target: u32)
+    pub fn jump(&mut self, target: u32)
         ensures { self.new ≡ record { pc = slot_address self.old.pc; slot = Some target } }
     {
         self.pc = self.pc.wrapping_add(4);
@@ -118,7 +118,7 @@ impl Counter {
 
     /// Goes on as a branch does, of which only a likely one that is not taken executes no delay slot.
     #[inline(always)]
-    pub(crate) fn branch(&mut self, taken: bool, likely: bool, offset: u16)
+    pub fn branch(&mut self, taken: bool, likely: bool, offset: u16)
         ensures { (cpu : Processor) → at_counter self.new cpu ≡ branched taken likely offset (at_counter self.old cpu) }
     {
         if taken {

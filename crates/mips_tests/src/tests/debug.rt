@@ -3,7 +3,8 @@ use super::expect;
 use super::sparse::Sparse;
 use items::DebugRegister;
 use mips_isa::Reg;
-use mips_step::{Cpu, StepOut};
+use machine::StepOut;
+use mips_step::Cpu;
 use std::process::Abort;
 use std::test::Fail;
 

@@ -10,7 +10,7 @@ use super::expect;
 use super::sparse::Sparse;
 use case::Case;
 use mips_isa::Reg;
-use mips_run::{RunCache, run};
+use mips_fast::{RunCache, run};
 use mips_step::Cpu;
 use mips_tlb::ENTRIES;
 use std::process::Abort;

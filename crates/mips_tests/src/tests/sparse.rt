@@ -2,13 +2,13 @@
 ghost use Rattle.std.specs.Prelude.{◌≡◌, ◌+◌, ◌*◌, ◌≤◌, ◌<◌, ◌==◌, if◌then◌else◌, length, Some, None};
 ghost use Rattle.word32.specs.Pages.{page_number};
 ghost use Rattle.word32.specs.Zeros.{zeros};
-ghost use Rattle.mips_step.specs.World.{first_byte, bytes_of, value_in, limit_of, bytes_after, page_cleared, device_reach};
-ghost use Rattle.mips_step.specs.Bus.{ready_answer};
-ghost use Rattle.mips_step.specs.declared.access.Why.TheVariants.{First};
+ghost use Rattle.machine.specs.World.{first_byte, bytes_of, value_in, limit_of, bytes_after, page_cleared, device_reach};
+ghost use Rattle.machine.specs.Bus.{ready_answer};
+ghost use Rattle.machine.specs.declared.access.Why.TheVariants.{First};
 
 use devices::{DeviceRegister, Devices};
 use mips_alu::{store_left, store_right};
-use mips_step::{Kind, PhysBus, Ppn, Refusal, Size, Why};
+use machine::{Kind, PhysBus, Ppn, Refusal, Size, Why};
 use std::marker::Model;
 use std::test::Fail;
 use word32::{half_at, page_of, put_half, put_word, word_at};
@@ -26,7 +26,7 @@ pub struct Sparse {
 
 impl Model for Sparse {
     ghost use Rattle.std.specs.Prelude.{◌≡◌, ◌*◌, ℕ, length};
-    ghost use Rattle.mips_step.specs.World.{World};
+    ghost use Rattle.machine.specs.World.{World};
 
     ghost Value = { World × ℕ };
 

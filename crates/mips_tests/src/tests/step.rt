@@ -3,7 +3,8 @@ use super::expect;
 use super::sparse::Sparse;
 use mips_cp0::SystemRegister;
 use mips_isa::Reg;
-use mips_step::{Cpu, Ppn, StepOut, Why};
+use machine::{Ppn, StepOut, Why};
+use mips_step::Cpu;
 use std::process::Abort;
 use std::test::Fail;
 

@@ -1,7 +1,7 @@
 use Rattle.std.proofs.Common.{List, ap, length, ◌∙◌, arith}
 use Rattle.elf32.specs.declared.image.Image.{Image}
 use Rattle.swapstore.specs.Memories.{sound_are_told, StoredIs}
-use Rattle.flatvm.specs.Boot.{boot_machine}
+use Rattle.machine.specs.Boot.{boot_machine}
 use Rattle.commands.proofs.Hosting.{booted, booted_alone, booted_one}
 use Rattle.commands.proofs.hosted.boot_world.Goals as goal
 

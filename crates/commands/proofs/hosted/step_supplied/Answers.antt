@@ -1,7 +1,7 @@
 use Rattle.std.proofs.Common.{List, ◌∙◌, ap, length, arith}
 use Rattle.std.proofs.lemmas.Result.{err_from_is_err_and}
-use Rattle.mips_step.proofs.OtherPages.{step_stays}
-use Rattle.mips_step.specs.Step.{Machine, step}
+use Rattle.machine.proofs.OtherPages.{step_stays}
+use Rattle.machine.specs.Step.{Machine, step}
 use Rattle.swapstore.specs.Memories.{MemoryIs, sound_are_told}
 use Rattle.physmap.specs.Holdings.{private_pages}
 use Rattle.physmap.specs.declared.page.Page.{Page}

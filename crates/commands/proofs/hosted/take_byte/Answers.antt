@@ -1,5 +1,5 @@
 use Rattle.std.proofs.Common.{Err, refl, length, ap, ◌∙◌}
-use Rattle.mips_step.specs.Step.{Machine}
+use Rattle.machine.specs.Step.{Machine}
 use Rattle.swapstore.specs.Memories.{MemoryIs, sound_are_told}
 use Rattle.guest.specs.declared.refused.Refused.TheVariants as refused
 use Rattle.tenant.specs.Tenants.{Stays}

@@ -1,6 +1,6 @@
 use Rattle.std.proofs.Common.{ℕ, ◌≡◌, ◌+◌, ◌%◌, ◌^◌, refl, sym, ap, subst, ◌∙◌, arith}
-use Rattle.mips_step.specs.Step.{Machine, in_world}
-use Rattle.flatvm.specs.Replies.{probe}
+use Rattle.machine.specs.Step.{Machine, in_world}
+use Rattle.machine.specs.Replies.{probe}
 use Rattle.paged_bus.specs.Buses.{world_of}
 use Rattle.guest.specs.Guests.{LiesIn}
 use Rattle.guest.proofs.Placing.{none_at, more_placed}

@@ -1,6 +1,6 @@
 use Rattle.std.proofs.Common.{◌≡◌, ℕ, suc, ◌+◌, ◌%◌, ◌^◌, is_some, true}
-use Rattle.mips_step.specs.Step.{in_world}
-use Rattle.flatvm.specs.Replies.{bytes_at}
+use Rattle.machine.specs.Step.{in_world}
+use Rattle.machine.specs.Replies.{bytes_at}
 use Rattle.paged_bus.specs.Buses.{world_of}
 use Rattle.guest.specs.Guests.{LiesIn}
 use Rattle.guest.proofs.placed.first_and_last.Given as goal

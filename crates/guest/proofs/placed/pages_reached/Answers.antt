@@ -1,5 +1,5 @@
 use Rattle.std.proofs.Common.{suc, ◌≡◌, ◌+◌, ◌%◌, ◌^◌, ◌-◌, length, arith}
-use Rattle.mips_step.specs.Step.{Machine, in_world}
+use Rattle.machine.specs.Step.{Machine, in_world}
 use Rattle.paged_bus.specs.Buses.{world_of}
 use Rattle.guest.proofs.Placing.{reached_pages, turned, inside_pages, sized}
 use Rattle.guest.proofs.placed.pages_reached.Goals as goal

@@ -1,5 +1,5 @@
 use Rattle.std.proofs.Common.{subst, ◌∙◌}
-use Rattle.flatvm.specs.Items.{after}
+use Rattle.machine.specs.Items.{after}
 use Rattle.paging.specs.Faith.{Kept}
 use Rattle.paged_bus.specs.Buses.{PagedBusIs}
 use Rattle.guest.specs.Views.{pages_seen, Shows}

@@ -1,7 +1,7 @@
 use Rattle.std.proofs.Common.{ap, ◌∙◌}
-use Rattle.mips_step.specs.Bus.{Lacks}
-use Rattle.mips_step.specs.Accesses.{accesses, first_lack}
-use Rattle.mips_step.specs.Step.{in_world}
+use Rattle.machine.specs.Bus.{Lacks}
+use Rattle.machine.specs.Accesses.{accesses, first_lack}
+use Rattle.machine.specs.Step.{in_world}
 use Rattle.paged_bus.specs.Buses.{world_of}
 use Rattle.guest.proofs.Reaching.{need_inside}
 use Rattle.guest.proofs.Stepping.{same_lacks}

@@ -1,7 +1,7 @@
 use Rattle.std.proofs.Common.{length, subst, ◌∙◌}
-use Rattle.mips_step.specs.Bus.{Lacks}
-use Rattle.mips_step.specs.Step.{in_world}
-use Rattle.flatvm.specs.Replies.{EachPlace, CanLook}
+use Rattle.machine.specs.Bus.{Lacks}
+use Rattle.machine.specs.Step.{in_world}
+use Rattle.machine.specs.Replies.{EachPlace, CanLook}
 use Rattle.paged_bus.specs.Buses.{world_of}
 use Rattle.guest.proofs.Looking.{read_same, none_same, some_place_same}
 use Rattle.guest.proofs.Stepping.{same_lacks}

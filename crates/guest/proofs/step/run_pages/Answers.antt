@@ -1,9 +1,9 @@
 use Rattle.std.proofs.Common.{ℕ, ◌≡◌, ◌+◌, ◌<◌, Some, None, sym, subst, ◌∙◌, arith}
 use Rattle.items.specs.Entries.{steps_of}
-use Rattle.mips_step.specs.Processor.{Processor}
-use Rattle.mips_step.specs.Step.{Machine, in_world}
-use Rattle.flatvm.specs.Items.{run}
-use Rattle.flatvm.proofs.Given.{run_zeros}
+use Rattle.machine.specs.Processor.{Processor}
+use Rattle.machine.specs.Step.{Machine, in_world}
+use Rattle.machine.specs.Items.{run}
+use Rattle.machine.proofs.GivenPages.{run_zeros}
 use Rattle.paging.specs.Faith.{Kept}
 use Rattle.paged_bus.specs.Buses.{PagedBusIs, world_of}
 use Rattle.guest.specs.Guests.{last_given, HasPaused}

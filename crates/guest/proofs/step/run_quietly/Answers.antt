@@ -1,9 +1,9 @@
 use Rattle.std.proofs.Common.{ap, ◌∙◌, subst}
-use Rattle.mips_step.specs.Bus.{Lacks}
-use Rattle.mips_step.specs.Step.{Machine, in_world}
+use Rattle.machine.specs.Bus.{Lacks}
+use Rattle.machine.specs.Step.{Machine, in_world}
 use Rattle.paged_bus.specs.Buses.{world_of}
 use Rattle.paged_bus.proofs.Same.{same_buses}
-use Rattle.mips_run.specs.Runs.{steps, AreQuiet}
+use Rattle.mips_fast.specs.Runs.{steps, AreQuiet}
 use Rattle.guest.proofs.Quiet.{quiet_shows, quiet_kept}
 use Rattle.guest.proofs.Stepping.{same_lacks}
 use Rattle.guest.proofs.step.run_quietly.Goals as goal

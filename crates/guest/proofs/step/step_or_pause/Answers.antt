@@ -1,7 +1,7 @@
 use Rattle.std.proofs.Common.{ℕ, ◌≡◌, ◌<◌, length, Option, Some, None, sym, ap, subst, ◌∙◌}
-use Rattle.mips_step.specs.Bus.{Lacks}
-use Rattle.mips_step.specs.Accesses.{accesses, first_lack}
-use Rattle.mips_step.specs.Step.{Machine, in_world, step}
+use Rattle.machine.specs.Bus.{Lacks}
+use Rattle.machine.specs.Accesses.{accesses, first_lack}
+use Rattle.machine.specs.Step.{Machine, in_world, step}
 use Rattle.paging.specs.Faith.{Kept}
 use Rattle.paged_bus.specs.Buses.{PagedBusIs, world_of, pages_settled, page_returned}
 use Rattle.paged_bus.proofs.Same.{same_buses}

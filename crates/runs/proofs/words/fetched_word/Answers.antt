@@ -1,7 +1,7 @@
 use Rattle.std.proofs.Common.{◌≡◌, ◌%◌, ◌∙◌, sym, Ok, false, arith}
 use Rattle.mips_tlb.specs.Translation.{translation}
 use Rattle.mips_tlb.specs.declared.kind.Kind.TheVariants.{Fetch}
-use Rattle.mips_step.specs.World.{is_given_page}
+use Rattle.machine.specs.World.{is_given_page}
 use Rattle.word32.specs.Pages.{page_number}
 use Rattle.runs.proofs.Fetches.{read_fetch}
 use Rattle.runs.proofs.words.fetched_word.Goals as goal

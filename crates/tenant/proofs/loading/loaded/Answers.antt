@@ -2,7 +2,7 @@ use Rattle.std.proofs.Common.{◌≡◌, List, [], length, replicate, sym, ap, s
 use Rattle.std.proofs.lemmas.List.{length-replicate}
 use Rattle.elf32.specs.declared.image.Image.{Image}
 use Rattle.elf32.specs.Images.{FitsPages}
-use Rattle.flatvm.specs.Boot.{boot_machine}
+use Rattle.machine.specs.Boot.{boot_machine}
 use Rattle.physmap.specs.declared.page.Page.{Page}
 use Rattle.physmap.specs.declared.page.Page.TheVariants.{Zero}
 use Rattle.paging.specs.Moves.{Conserves, Reads}

@@ -1,8 +1,8 @@
 use Rattle.std.proofs.Common.{◌≡◌, ℕ, List, [], ◌∷◌, ◌++◌, Option, sym, ap, subst, ◌∙◌}
 use Rattle.items.specs.declared.item.Item.{Item}
-use Rattle.mips_step.specs.Step.{Machine}
-use Rattle.flatvm.specs.Boot.{boot_machine}
-use Rattle.flatvm.specs.Items.{after}
+use Rattle.machine.specs.Step.{Machine}
+use Rattle.machine.specs.Boot.{boot_machine}
+use Rattle.machine.specs.Items.{after}
 use Rattle.paging.specs.Faith.{Kept}
 use Rattle.guest.specs.Guests.{GuestIs, guest_of, view_of, Intact}
 use Rattle.guest.specs.Views.{pages_seen, Shows}

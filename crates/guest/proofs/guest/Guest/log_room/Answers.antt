@@ -1,5 +1,5 @@
 use Rattle.std.proofs.Common.{ℕ, List, Option, refl, subst}
-use Rattle.flatvm.specs.Boot.{boot_machine}
+use Rattle.machine.specs.Boot.{boot_machine}
 use Rattle.paging.specs.Faith.{Kept}
 use Rattle.guest.specs.Guests.{GuestIs, guest_of, view_of, LogsOnly, Intact}
 use Rattle.guest.specs.Views.{pages_seen}

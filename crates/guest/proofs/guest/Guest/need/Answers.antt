@@ -1,6 +1,6 @@
 use Rattle.std.proofs.Common.{◌≡◌, sym, subst, ◌∙◌}
-use Rattle.mips_step.specs.Accesses.{accesses, first_lack}
-use Rattle.flatvm.specs.Boot.{boot_machine}
+use Rattle.machine.specs.Accesses.{accesses, first_lack}
+use Rattle.machine.specs.Boot.{boot_machine}
 use Rattle.paged_bus.specs.Lacking.{lacks_in}
 use Rattle.guest.specs.Guests.{GuestIs, guest_of, view_of, Intact}
 use Rattle.guest.proofs.Stepping.{need_alike}

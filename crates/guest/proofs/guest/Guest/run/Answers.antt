@@ -1,12 +1,12 @@
 use Rattle.std.proofs.Common.{◌≡◌, ◌∙◌, ℕ, ◌+◌, ◌<◌, List, length, Option, Some, None, sym, ap, subst, arith}
 use Rattle.items.specs.Entries.{steps_of}
-use Rattle.mips_step.specs.Accesses.{accesses, first_lack}
-use Rattle.mips_step.specs.Given.{step_given}
-use Rattle.mips_step.specs.Step.{Machine}
-use Rattle.flatvm.specs.Boot.{boot_machine}
-use Rattle.flatvm.specs.Items.{run}
+use Rattle.machine.specs.Accesses.{accesses, first_lack}
+use Rattle.machine.specs.Given.{step_given}
+use Rattle.machine.specs.Step.{Machine}
+use Rattle.machine.specs.Boot.{boot_machine}
+use Rattle.machine.specs.Items.{run}
 use Rattle.paging.specs.Faith.{Kept}
-use Rattle.mips_step.specs.declared.access.Why.{Why}
+use Rattle.machine.specs.declared.access.Why.{Why}
 use Rattle.paged_bus.specs.Lacking.{lacks_in}
 use Rattle.guest.specs.declared.progress.Pause.TheVariants as pause
 use Rattle.guest.specs.Guests.{GuestIs, guest_of, view_of, standing, Intact, last_given, HasPaused}

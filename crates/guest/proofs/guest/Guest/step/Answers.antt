@@ -1,8 +1,8 @@
 use Rattle.std.proofs.Common.{◌≡◌, ℕ, List, Option, Some, None, refl, sym, subst, ◌∙◌}
 use Rattle.items.specs.Entries.{step_by}
-use Rattle.mips_step.specs.Accesses.{accesses, first_lack}
-use Rattle.mips_step.specs.Step.{Machine, step}
-use Rattle.flatvm.specs.Boot.{boot_machine}
+use Rattle.machine.specs.Accesses.{accesses, first_lack}
+use Rattle.machine.specs.Step.{Machine, step}
+use Rattle.machine.specs.Boot.{boot_machine}
 use Rattle.paging.specs.Faith.{Kept}
 use Rattle.paged_bus.specs.Lacking.{lacks_in}
 use Rattle.guest.specs.Guests.{GuestIs, guest_of, view_of, Intact}

@@ -1,9 +1,9 @@
 use Rattle.std.proofs.Common.{◌≡◌, ℕ, true, List, Option, sym, subst}
 use Rattle.items.specs.declared.item.Item.{Item}
 use Rattle.items.specs.declared.item.What.TheVariants.{In}
-use Rattle.mips_step.specs.Step.{Machine}
-use Rattle.flatvm.specs.Boot.{boot_machine}
-use Rattle.flatvm.specs.Items.{accepts, after}
+use Rattle.machine.specs.Step.{Machine}
+use Rattle.machine.specs.Boot.{boot_machine}
+use Rattle.machine.specs.Items.{accepts, after}
 use Rattle.paging.specs.Faith.{Kept}
 use Rattle.paged_bus.specs.Buses.{PagedBusIs}
 use Rattle.guest.specs.Guests.{GuestIs, guest_of, view_of, standing, Intact}

@@ -1,7 +1,7 @@
 use Rattle.std.proofs.Common.{Some, sym, ap, ◌∙◌}
-use Rattle.mips_step.specs.Operations.{Operation, word_operation}
-use Rattle.mips_step.specs.Step.{in_world, performed}
-use Rattle.mips_step.proofs.Operations.{performed_operation, word_reads}
+use Rattle.machine.specs.Operations.{Operation, word_operation}
+use Rattle.machine.specs.Step.{in_world, performed}
+use Rattle.machine.proofs.Operations.{performed_operation, word_reads}
 use Rattle.mips_step.proofs.cpu.Cpu.operate_word.Goals as goal
 
 -- the operation is done on the processor that has ticked, in the world that was fetched from

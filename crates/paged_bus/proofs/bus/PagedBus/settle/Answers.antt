@@ -1,6 +1,6 @@
 use Rattle.std.proofs.Common.{◌≡◌, ◌<◌, ℕ, List, Option, length, Some, None, sym, ap, subst, ◌∙◌}
 use Rattle.std.specs.Prelude.{IfSome}
-use Rattle.mips_step.specs.World.{given_away}
+use Rattle.machine.specs.World.{given_away}
 use Rattle.physmap.specs.Pages.{memory_of}
 use Rattle.paged_bus.specs.Buses.{world_of}
 use Rattle.paged_bus.proofs.Worlds.{cleared_whole}

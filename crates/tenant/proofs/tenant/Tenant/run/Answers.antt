@@ -2,11 +2,11 @@ use Rattle.std.proofs.Common.{◌≡◌, ◌++◌, ℕ, ◌+◌, ◌<◌, ◌∙
 use Rattle.std.proofs.lemmas.Bool.{cases_lt}
 use Rattle.items.specs.declared.item.Item.{Item}
 use Rattle.items.specs.Entries.{steps_of}
-use Rattle.mips_step.specs.Processor.{Processor}
-use Rattle.mips_step.specs.Step.{Machine, in_world}
-use Rattle.mips_step.specs.Accesses.{accesses, first_lack}
-use Rattle.mips_step.specs.Given.{step_given}
-use Rattle.flatvm.specs.Items.{run}
+use Rattle.machine.specs.Processor.{Processor}
+use Rattle.machine.specs.Step.{Machine, in_world}
+use Rattle.machine.specs.Accesses.{accesses, first_lack}
+use Rattle.machine.specs.Given.{step_given}
+use Rattle.machine.specs.Items.{run}
 use Rattle.paged_bus.specs.Buses.{PagedBusIs, world_of}
 use Rattle.paged_bus.specs.Lacking.{lacks_in}
 use Rattle.items.proofs.Runs.{steps_of-none}
