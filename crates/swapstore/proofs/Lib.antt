@@ -2,3 +2,4 @@ pub mod Heaps
 pub mod Pages
 pub mod Inverted
 pub mod Media
+pub mod Untouched

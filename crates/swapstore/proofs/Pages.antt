@@ -1,13 +1,9 @@
 -- Pages in lists, and in the places of a medium.
-use Rattle.std.proofs.Common.{ℕ, ◌≡◌, ◌+◌, ◌*◌, ◌<◌, ◌≤◌, List, [], ◌∷◌, ◌++◌, length, get_or, replicate, map, arith, ◌∙◌, ◌⊎◌, inl, inr}
+use Rattle.std.proofs.Common.{ℕ, ◌≡◌, ◌+◌, ◌*◌, ◌<◌, ◌≤◌, List, length, get_or, map, arith, ◌∙◌, ◌⊎◌, inl, inr}
 use Rattle.std.proofs.lemmas.Bool.{cases_lt}
-use Rattle.std.proofs.lemmas.List.{replicate-append-replicate}
 use Rattle.std.proofs.lemmas.List.FromFn.{fill_by_all, length-map-range_with_len, get_or-map-range_with_len}
 use Rattle.std.specs.List.{range_with_len}
 use Rattle.swapstore.specs.Places.{bytes_from, page_in}
-
-pub replicate_more : (n : ℕ) (page : List ℕ) → replicate n page ++ page ∷ [] ≡ replicate (n + 1) page
-replicate_more n page = replicate-append-replicate n 1 page
 
 -- bytes that were read at places are the bytes from there on
 pub bytes_read : (byte_at : ℕ → ℕ) (start count : ℕ) (bytes : List ℕ) → length bytes ≡ count → ((i : ℕ) → i < length bytes → get_or bytes i 0 ≡ byte_at (start + i)) → bytes ≡ bytes_from byte_at start count

@@ -1,7 +1,8 @@
 -- What is seen of a store in memory, and of damage.
-use Rattle.std.specs.Prelude.{◌≡◌, ℕ, ◌<◌, ◌^◌, List, [], Bool, true, false, length, slice_index, slice_index_or, slice_set}
+use Rattle.std.specs.Prelude.{◌≡◌, ℕ, ◌<◌, ◌^◌, ◌-◌, List, [], ◌++◌, replicate, Bool, true, false, length, slice_index, slice_index_or, slice_set}
 use Rattle.std.specs.Int.{w8, bit_not}
 use Rattle.sha2.specs.Sha256.{sha256}
+use Rattle.word32.specs.Zeros.{zeros}
 
 -- a page of a store in memory
 pub record StoredIs : Type 0 where
@@ -21,6 +22,10 @@ pub record MemoryIs : Type 0 where
 -- a page where these bytes were last written, and lie
 abbrev pub whole : List ℕ → StoredIs
 whole bytes = record { lies = bytes; last = bytes }
+
+-- the pages of so many slots, of which these are the first, and the rest zeros
+abbrev pub with_untouched : List StoredIs → ℕ → List StoredIs
+with_untouched pages slots = pages ++ replicate (slots - length pages) (whole (zeros 4096))
 
 -- the page of a slot
 abbrev pub stored_at : List StoredIs → ℕ → StoredIs

@@ -20,6 +20,7 @@ pub mod memory;
 pub mod slots;
 pub mod store;
 mod stored_page;
+mod stored_pages;
 #[cfg(test)]
 mod tests;
 

@@ -5,17 +5,18 @@ ghost use Rattle.word32.specs.Zeros.{zeros};
 ghost use Rattle.swapstore.specs.Holding.{AreHeld, AreHeldByDigest};
 ghost use Rattle.swapstore.specs.Memories.{MemoryIs, whole, stored_at, AreTold, sound_are_told};
 
-use crate::stored_page::StoredPage;
+use crate::stored_pages::StoredPages;
 use crate::{Damage, Failed, SwapStore};
 use std::alloc::{AllocError, Global};
 use std::marker::Model;
 
 /// A store in memory, which never fails. In clauses it is a record, `MemoryIs`.
 ///
-/// It takes some eight bytes a slot beside the pages, and the room of a page for each that is damaged.
+/// Its room is had at the start, some eight bytes a slot beside the page, but none of it is touched for a slot before that, or one of a
+/// higher number, is written to. A page that is damaged takes the room of another.
 #[derive(Drop)]
 pub struct MemStore {
-    pages: Vec<StoredPage>,
+    pages: StoredPages,
     damaged: bool,
     forged: bool,
 }
@@ -26,24 +27,19 @@ impl Model for MemStore {
 
     ghost Value = { MemoryIs };
 
-    ghost view = { λ s. record { pages = s.pages.items; damaged = s.damaged; forged = s.forged } };
+    ghost view = { λ s. record { pages = s.pages; damaged = s.damaged; forged = s.forged } };
 
-    ghost invariant = { λ s. IsMemory s.pages.items s.damaged s.forged };
+    ghost invariant = { λ s. IsMemory s.pages s.damaged s.forged };
 }
 
 impl MemStore {
     /// A store whose slots hold zeros, the last that was written to them. `AllocError` where there is no memory for them.
-    #[tactic(auto, using(crate::proofs::Pages::replicate_more))]
     pub fn new(alloc: Global, slots: u32) -> Result<MemStore, AllocError>
         ensures pages { IfOk result (λ store. store.pages ≡ replicate slots (whole (zeros 4096))) }
         ensures sound { IfOk result (λ store. store.damaged ≡ false) }
     {
-        let mut pages = Vec::with_capacity(alloc, slots as usize)?;
-        for _slot in 0..slots {
-            pages.push_reserved(StoredPage::zeroed());
-        }
         Ok(MemStore {
-            pages,
+            pages: StoredPages::new(alloc, slots)?,
             damaged: false,
             forged: false,
         })
@@ -68,7 +64,7 @@ impl SwapStore for MemStore {
     ghost known = { λ s sound slot inside. refl };
 
     fn slot_count(&self) -> u32 {
-        self.pages.len() as u32
+        self.pages.count()
     }
 
     fn failures(&self) -> u64 {
@@ -81,7 +77,7 @@ impl SwapStore for MemStore {
         ensures never_fails { IsOk result }
         ensures pages { self.new ≡ record self.old { pages = slice_set self.old.pages slot (whole bytes.now) } }
     {
-        self.pages[slot as usize].write(bytes);
+        self.pages.write(slot, bytes);
         Ok(())
     }
 
@@ -94,17 +90,14 @@ impl SwapStore for MemStore {
         ensures true_gives { AreTold self.old → AreHeldByDigest (Some (stored_at self.old.pages slot).last) bytes.new }
         ensures unchanged { self.new ≡ self.old }
     {
-        bytes.copy_from_slice(self.pages[slot as usize].bytes());
+        self.pages.read(slot, bytes);
         Ok(())
     }
 }
 
 impl Damage for MemStore {
     fn damage(&mut self, slot: u32, byte: u32) -> Result<(), AllocError> {
-        let alloc = *self.pages.allocator();
-        let page = &mut self.pages[slot as usize];
-        page.damage(alloc, byte)?;
-        let is_forged = page.is_forged();
+        let is_forged = self.pages.damage(slot, byte)?;
         self.damaged = true;
         self.forged = self.forged || is_forged;
         Ok(())
