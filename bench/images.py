@@ -2,6 +2,9 @@
 
 import struct
 
+# where an image is placed and entered, and the kind of an ELF file's segment that is loaded
+BASE, LOADED = 0x80000000, 1
+
 # general registers by their number
 ZERO, T1, T2, T3, T4, T5, T6, T7, T8, T9, T10 = range(11)
 TURNS, COUNTED_STEPS = 16, 17
@@ -186,7 +189,7 @@ TO_MAPPED = [
 ]
 TO_MAPPED += [NOP] * (1024 - len(TO_MAPPED))
 
-# what stands before a loop, and the loop
+# what stands before a loop, and the loop; `calling` makes one of a compiled program
 LOOPS = [
     ("counted loop", [], COUNTED),
     ("memory copy", [], COPY),
@@ -208,14 +211,39 @@ def repeated(before, loop, turns, stop):
     return start + loop + end + (stop or [mfc0(COUNTED_STEPS, COUNT)]) + [beq(ZERO, ZERO, -1), NOP]
 
 
+def loaded(program):
+    """The words that an ELF file has for its segments, from 80000000 on, with zeros between them, and where it is entered."""
+    entry, table = struct.unpack_from("<II", program, 24)
+    size, count = struct.unpack_from("<HH", program, 42)
+    memory = bytearray()
+    for header in range(table, table + size * count, size):
+        kind, offset, address, _, length = struct.unpack_from("<5I", program, header)
+        if kind == LOADED and length > 0:
+            start = address - BASE
+            memory.extend(bytes(max(0, start + length - len(memory))))
+            memory[start : start + length] = program[offset : offset + length]
+    memory.extend(bytes(-len(memory) % 4))
+    return list(struct.unpack("<%dI" % (len(memory) // 4), memory)), entry
+
+
+def calling(program):
+    """What stands before a loop that calls the function at which a program of examples/gnu/build is entered, and the loop. The first
+    two words, where a TLB refill would be entered, lead behind the program. Its `.bss` has no zeros at first: QEMU's board has bytes of
+    its own at 80002000, over which it lets no image be placed. The stack is at the end of 16 pages. Register 16 is kept by the function,
+    as the System V ABI has it."""
+    words, entry = loaded(program)
+    before = [beq(ZERO, ZERO, len(words) - 1), NOP] + words[2:]
+    return before, [lui(SP, 0x8001), addiu(SP, SP, -16), jal(entry), NOP]
+
+
 def raw(words):
     return b"".join((word & 0xFFFFFFFF).to_bytes(4, "little") for word in words)
 
 
 def elf(words):
     """An ELF file with one segment at 80000000, where it is entered."""
-    base, code = 0x80000000, raw(words)
+    code = raw(words)
     identification = b"\x7fELF\x01\x01\x01" + bytes(9)
-    header = struct.pack("<HHIIIIIHHHHHH", 2, 8, 1, base, 52, 0, 0x50001000, 52, 32, 1, 40, 0, 0)
-    segment = struct.pack("<IIIIIIII", 1, 84, base, base, len(code), len(code), 7, 4)
+    header = struct.pack("<HHIIIIIHHHHHH", 2, 8, 1, BASE, 52, 0, 0x50001000, 52, 32, 1, 40, 0, 0)
+    segment = struct.pack("<IIIIIIII", LOADED, 84, BASE, BASE, len(code), len(code), 7, 4)
     return identification + header + segment + code
