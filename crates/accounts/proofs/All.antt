@@ -8,11 +8,11 @@ use Rattle.frames.specs.Counts.{count_of}
 use Rattle.frames.specs.FreeList.{FreeList}
 use Rattle.frames.proofs.Counting.{one_same, count_cons, count_append, count_range}
 use Rattle.sharetab.specs.Entries.{EntriesAre, entry_count, ticket_count}
-use Rattle.physmap.specs.declared.page.Page.{Page}
-use Rattle.physmap.specs.Outline.{outline}
-use Rattle.physmap.specs.Holdings.{private_pages, shared_pages, swapped_pages}
-use Rattle.paging.specs.Books.{Books}
-use Rattle.paging.proofs.Totals as totals
+use Rattle.guest_pages.specs.declared.page.Page.{Page}
+use Rattle.guest_pages.specs.Outline.{outline}
+use Rattle.guest_pages.specs.Holdings.{private_pages, shared_pages, swapped_pages}
+use Rattle.page_moves.specs.Books.{Books}
+use Rattle.page_moves.proofs.Totals as totals
 use Rattle.ledger.specs.Shares.{LedgerId, ShareIs, AreOf, Become}
 use Rattle.accounts.specs.declared.account.Account.{Account}
 use Rattle.accounts.specs.declared.account.Account.TheVariants.{Guest, Table, Frame, Slots}

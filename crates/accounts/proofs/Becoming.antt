@@ -4,11 +4,11 @@ use Rattle.std.proofs.lemmas.List.Sums.{sum_by-cons}
 use Rattle.std.specs.List.{flat_map}
 use Rattle.frames.specs.FreeList.{FreeList}
 use Rattle.sharetab.specs.Entries.{EntriesAre}
-use Rattle.physmap.specs.declared.page.Page.{Page}
-use Rattle.physmap.specs.Outline.{outline}
-use Rattle.paging.specs.Moves.{Conserves, Reads}
-use Rattle.paging.specs.Books.{Books}
-use Rattle.paging.proofs.Booking.{books_after}
+use Rattle.guest_pages.specs.declared.page.Page.{Page}
+use Rattle.guest_pages.specs.Outline.{outline}
+use Rattle.page_moves.specs.Moves.{Conserves, Reads}
+use Rattle.page_moves.specs.Books.{Books}
+use Rattle.page_moves.proofs.Booking.{books_after}
 use Rattle.ledger.specs.Shares.{LedgerId, ShareIs, Become}
 use Rattle.accounts.specs.declared.account.Account.{Account}
 use Rattle.accounts.specs.declared.account.Account.TheVariants.{Guest, Table, Slots}

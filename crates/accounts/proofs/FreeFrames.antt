@@ -7,12 +7,12 @@ use Rattle.frames.specs.Counts.{one_at, count_of}
 use Rattle.frames.specs.FreeList.{FreeList}
 use Rattle.frames.proofs.Counting.{count_one, count_cons, count_append}
 use Rattle.sharetab.specs.Entries.{EntriesAre}
-use Rattle.physmap.specs.declared.page.Page.{Page}
-use Rattle.physmap.specs.Holdings.{private_pages}
-use Rattle.paging.specs.Moves.{Conserves, Reads}
-use Rattle.paging.specs.Books.{Books}
-use Rattle.paging.proofs.Booking.{books_after}
-use Rattle.paging.proofs.Exchanging.{same_bytes}
+use Rattle.guest_pages.specs.declared.page.Page.{Page}
+use Rattle.guest_pages.specs.Holdings.{private_pages}
+use Rattle.page_moves.specs.Moves.{Conserves, Reads}
+use Rattle.page_moves.specs.Books.{Books}
+use Rattle.page_moves.proofs.Booking.{books_after}
+use Rattle.page_moves.proofs.Exchanging.{same_bytes}
 use Rattle.ledger.specs.Shares.{LedgerId, ShareIs, Become}
 use Rattle.accounts.specs.declared.account.Account.{Account}
 use Rattle.accounts.specs.declared.account.Account.TheVariants.{Frame}

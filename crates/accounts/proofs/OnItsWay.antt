@@ -5,12 +5,12 @@ use Rattle.std.proofs.lemmas.List.Sums.{sum_by-append, sum_by-cons}
 use Rattle.std.specs.List.{sum_by}
 use Rattle.frames.specs.Counts.{one_at, count_of}
 use Rattle.sharetab.specs.Entries.{EntriesAre, entry_at, HasBytes}
-use Rattle.physmap.specs.declared.page.Page.{Page}
-use Rattle.physmap.specs.declared.page.Page.TheVariants as page
-use Rattle.physmap.specs.declared.page.PageKind.TheVariants as kind
-use Rattle.physmap.specs.Pages.{page_at, kind_of, shown, ticket_of}
-use Rattle.physmap.specs.Holdings.{frames_held, slots_held, tickets_held, private_pages, swapped_pages, frame_in, slot_in, ticket_in, one_private, one_swapped}
-use Rattle.paging.specs.Moves.{Reads}
+use Rattle.guest_pages.specs.declared.page.Page.{Page}
+use Rattle.guest_pages.specs.declared.page.Page.TheVariants as page
+use Rattle.guest_pages.specs.declared.page.PageKind.TheVariants as kind
+use Rattle.guest_pages.specs.Pages.{page_at, kind_of, shown, ticket_of}
+use Rattle.guest_pages.specs.Holdings.{frames_held, slots_held, tickets_held, private_pages, swapped_pages, frame_in, slot_in, ticket_in, one_private, one_swapped}
+use Rattle.page_moves.specs.Moves.{Reads}
 use Rattle.accounts.specs.OwnerShares.{on_its_way}
 
 way_sum : (f : Page → ℕ) (g : ℕ → ℕ) (ns : List ℕ) → ((n : ℕ) → f (page.Private (record { number = n; bytes = [] })) ≡ g n) → sum_by f (on_its_way ns) ≡ sum_by g ns

@@ -5,17 +5,17 @@ use Rattle.std.proofs.lemmas.List.Sums.{sum_by-cons}
 use Rattle.std.proofs.lemmas.List.Elements.{All-nil, All-cons, All-head, All-tail}
 use Rattle.frames.specs.FreeList.{FreeList}
 use Rattle.sharetab.specs.Entries.{EntriesAre, entry_at, HasBytes}
-use Rattle.physmap.specs.declared.page.Page.{Page}
-use Rattle.physmap.specs.declared.page.Page.TheVariants as page
-use Rattle.physmap.specs.declared.page.PageKind.TheVariants.{Shared}
-use Rattle.physmap.specs.Outline.{outlined, outline}
-use Rattle.physmap.specs.Pages.{kind_of, page_at, shown, ticket_of}
-use Rattle.physmap.specs.Holdings.{frames_held, slots_held, tickets_held, private_pages, swapped_pages}
-use Rattle.physmap.proofs.Outlines.{outline_at, outline_frames, outline_slots, outline_tickets, outline_private, outline_swapped}
-use Rattle.paging.specs.Moves.{Conserves, Reads}
-use Rattle.paging.specs.Books.{Books}
-use Rattle.paging.proofs.Booking.{books_after}
-use Rattle.paging.proofs.Exchanging.{same_bytes}
+use Rattle.guest_pages.specs.declared.page.Page.{Page}
+use Rattle.guest_pages.specs.declared.page.Page.TheVariants as page
+use Rattle.guest_pages.specs.declared.page.PageKind.TheVariants.{Shared}
+use Rattle.guest_pages.specs.Outline.{outlined, outline}
+use Rattle.guest_pages.specs.Pages.{kind_of, page_at, shown, ticket_of}
+use Rattle.guest_pages.specs.Holdings.{frames_held, slots_held, tickets_held, private_pages, swapped_pages}
+use Rattle.guest_pages.proofs.Outlines.{outline_at, outline_frames, outline_slots, outline_tickets, outline_private, outline_swapped}
+use Rattle.page_moves.specs.Moves.{Conserves, Reads}
+use Rattle.page_moves.specs.Books.{Books}
+use Rattle.page_moves.proofs.Booking.{books_after}
+use Rattle.page_moves.proofs.Exchanging.{same_bytes}
 use Rattle.accounts.specs.OwnerShares.{on_its_way}
 
 shared_same : (q r : Page) → outlined q ≡ outlined r → kind_of q ≡ Shared → q ≡ r

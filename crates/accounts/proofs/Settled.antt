@@ -10,18 +10,18 @@ use Rattle.frames.proofs.Counting.{count_one, one_same}
 use Rattle.sharetab.specs.Entries.{EntriesAre, entry_at, freed_frame}
 use Rattle.sharetab.specs.Books.{Leaves, freed_at}
 use Rattle.sharetab.proofs.Books.{leave_frames, leave_entries, leave_tickets, leave_bytes, leave_places}
-use Rattle.physmap.specs.declared.page.Page.{Page}
-use Rattle.physmap.specs.declared.page.Page.TheVariants as page
-use Rattle.physmap.specs.declared.page.Returned.{Returned}
-use Rattle.physmap.specs.declared.page.Returned.TheVariants as returned
-use Rattle.physmap.specs.Outline.{outline}
-use Rattle.physmap.specs.Pages.{page_at, handed_back}
-use Rattle.physmap.specs.Holdings.{frame_in, ticket_in, slot_in, one_private, one_swapped}
-use Rattle.paging.specs.Moves.{Takes, Gives, MovesFrames, MovesSlots, MovesTickets, Conserves, Reads, Covered}
-use Rattle.paging.specs.Returns.{slot_of, one_slot, Frees}
-use Rattle.paging.proofs.Booking.{slot_taken}
-use Rattle.paging.proofs.Exchanging.{exchanged, reads_stay, reads_by_page, same_bytes}
-use Rattle.paging.proofs.GoingBack.{hands_back}
+use Rattle.guest_pages.specs.declared.page.Page.{Page}
+use Rattle.guest_pages.specs.declared.page.Page.TheVariants as page
+use Rattle.guest_pages.specs.declared.page.Returned.{Returned}
+use Rattle.guest_pages.specs.declared.page.Returned.TheVariants as returned
+use Rattle.guest_pages.specs.Outline.{outline}
+use Rattle.guest_pages.specs.Pages.{page_at, handed_back}
+use Rattle.guest_pages.specs.Holdings.{frame_in, ticket_in, slot_in, one_private, one_swapped}
+use Rattle.page_moves.specs.Moves.{Takes, Gives, MovesFrames, MovesSlots, MovesTickets, Conserves, Reads, Covered}
+use Rattle.page_moves.specs.Returns.{slot_of, one_slot, Frees}
+use Rattle.page_moves.proofs.Booking.{slot_taken}
+use Rattle.page_moves.proofs.Exchanging.{exchanged, reads_stay, reads_by_page, same_bytes}
+use Rattle.page_moves.proofs.GoingBack.{hands_back}
 use Rattle.ledger.specs.Shares.{LedgerId, ShareIs}
 use Rattle.accounts.specs.declared.account.Account.{Account}
 use Rattle.accounts.specs.declared.account.Account.TheVariants.{Table, Slots}

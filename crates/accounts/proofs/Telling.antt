@@ -5,16 +5,16 @@ use Rattle.std.specs.List.{flat_map}
 use Rattle.frames.specs.Counts.{count_of}
 use Rattle.frames.specs.FreeList.{FreeList}
 use Rattle.sharetab.specs.Entries.{EntriesAre, count_at}
-use Rattle.physmap.specs.declared.page.Page.{Page}
-use Rattle.physmap.specs.declared.page.Page.TheVariants as page
-use Rattle.physmap.specs.declared.page.PageKind.TheVariants.{Shared, Swapped}
-use Rattle.physmap.specs.declared.page.Returned.TheVariants as returned
-use Rattle.physmap.specs.Outline.{outline}
-use Rattle.physmap.specs.Pages.{page_at, kind_of, kind_at, ticket_of, slot_of, handed_back}
-use Rattle.physmap.specs.Holdings.{slots_held}
-use Rattle.paging.specs.Moves.{Reads, Covered, OwnOnce}
-use Rattle.paging.proofs.Booking.{covered, own_once, reads_each, swapped_out, slot_inside, slot_apart, free_slot_inside}
-use Rattle.paging.proofs.Exchanging.{ticket_held}
+use Rattle.guest_pages.specs.declared.page.Page.{Page}
+use Rattle.guest_pages.specs.declared.page.Page.TheVariants as page
+use Rattle.guest_pages.specs.declared.page.PageKind.TheVariants.{Shared, Swapped}
+use Rattle.guest_pages.specs.declared.page.Returned.TheVariants as returned
+use Rattle.guest_pages.specs.Outline.{outline}
+use Rattle.guest_pages.specs.Pages.{page_at, kind_of, kind_at, ticket_of, slot_of, handed_back}
+use Rattle.guest_pages.specs.Holdings.{slots_held}
+use Rattle.page_moves.specs.Moves.{Reads, Covered, OwnOnce}
+use Rattle.page_moves.proofs.Booking.{covered, own_once, reads_each, swapped_out, slot_inside, slot_apart, free_slot_inside}
+use Rattle.page_moves.proofs.Exchanging.{ticket_held}
 use Rattle.ledger.specs.Shares.{LedgerId, ShareIs, AreOf}
 use Rattle.accounts.specs.declared.account.Account.{Account}
 use Rattle.accounts.specs.declared.account.Account.TheVariants.{Table, Slots}

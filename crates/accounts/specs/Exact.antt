@@ -3,8 +3,8 @@ use Rattle.std.specs.Prelude.{◌≡◌, ℕ, ◌+◌, List, [], ◌∷◌, ◌+
 use Rattle.std.specs.List.{flat_map, sum_by, range_with_len}
 use Rattle.frames.specs.FreeList.{FreeList}
 use Rattle.sharetab.specs.Entries.{EntriesAre}
-use Rattle.physmap.specs.declared.page.Page.{Page}
-use Rattle.paging.specs.Books.{Books}
+use Rattle.guest_pages.specs.declared.page.Page.{Page}
+use Rattle.page_moves.specs.Books.{Books}
 use Rattle.accounts.specs.declared.account.Account.{Account}
 use Rattle.accounts.specs.declared.account.Account.TheVariants.{Guest, Table, Frame, Slots}
 use Rattle.accounts.specs.declared.account.Extent.{Extent}

@@ -9,12 +9,12 @@ use Rattle.frames.specs.FreeList.{FreeList}
 use Rattle.frames.specs.Counts.{one_at, count_of}
 use Rattle.frames.proofs.Counting.{count_range}
 use Rattle.sharetab.specs.Entries.{EntriesAre}
-use Rattle.physmap.specs.declared.page.Page.{Page}
-use Rattle.physmap.specs.declared.page.PageKind.TheVariants as kind
-use Rattle.physmap.specs.Holdings.{frames_held, tickets_held, slots_held, private_pages, swapped_pages}
-use Rattle.paging.specs.Moves.{Reads}
-use Rattle.paging.specs.Books.{Books}
-use Rattle.paging.proofs.Starting.{books_of_nothing}
+use Rattle.guest_pages.specs.declared.page.Page.{Page}
+use Rattle.guest_pages.specs.declared.page.PageKind.TheVariants as kind
+use Rattle.guest_pages.specs.Holdings.{frames_held, tickets_held, slots_held, private_pages, swapped_pages}
+use Rattle.page_moves.specs.Moves.{Reads}
+use Rattle.page_moves.specs.Books.{Books}
+use Rattle.page_moves.proofs.Starting.{books_of_nothing}
 use Rattle.accounts.specs.declared.account.Account.{Account}
 use Rattle.accounts.specs.declared.account.Account.TheVariants.{Guest, Table, Frame, Slots}
 use Rattle.accounts.specs.declared.account.Extent.{Extent}

@@ -1,11 +1,11 @@
 -- The shares of the owners.
 use Rattle.std.specs.Prelude.{ℕ, List, [], ◌∷◌, ◌++◌, map}
-use Rattle.physmap.specs.declared.page.Page.{Page}
-use Rattle.physmap.specs.declared.page.Page.TheVariants.{Private}
-use Rattle.physmap.specs.Outline.{outline}
+use Rattle.guest_pages.specs.declared.page.Page.{Page}
+use Rattle.guest_pages.specs.declared.page.Page.TheVariants.{Private}
+use Rattle.guest_pages.specs.Outline.{outline}
 use Rattle.frames.specs.FreeList.{FreeList}
 use Rattle.sharetab.specs.Entries.{EntriesAre}
-use Rattle.paging.specs.Books.{Books}
+use Rattle.page_moves.specs.Books.{Books}
 use Rattle.ledger.specs.Shares.{LedgerId, ShareIs}
 use Rattle.accounts.specs.declared.account.Account.{Account}
 use Rattle.accounts.specs.declared.account.Account.TheVariants.{Guest, Frame}

@@ -3,9 +3,9 @@ use Rattle.std.specs.Prelude.{◌≡◌, ℕ, ◌+◌, List, [], length}
 use Rattle.frames.specs.Counts.{count_of}
 use Rattle.frames.specs.FreeList.{FreeList}
 use Rattle.sharetab.specs.Entries.{EntriesAre, frames_shared, entry_count}
-use Rattle.physmap.specs.declared.page.Page.{Page}
-use Rattle.physmap.specs.Holdings.{frames_held, private_pages}
-use Rattle.paging.specs.Moves.{MovesSlots, MovesTickets, Reads}
+use Rattle.guest_pages.specs.declared.page.Page.{Page}
+use Rattle.guest_pages.specs.Holdings.{frames_held, private_pages}
+use Rattle.page_moves.specs.Moves.{MovesSlots, MovesTickets, Reads}
 use Rattle.ledger.specs.Shares.{LedgerId, ShareIs}
 use Rattle.accounts.specs.declared.account.Account.{Account}
 use Rattle.accounts.specs.declared.account.Account.TheVariants.{Table, Slots}

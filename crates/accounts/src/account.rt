@@ -1,6 +1,6 @@
 //! What an owner has.
 use frames::{FrameNo, SharedFrame};
-use physmap::Page;
+use guest_pages::Page;
 use std::collections::LinkedList;
 use swapstore::SlotBook;
 

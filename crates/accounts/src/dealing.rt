@@ -1,6 +1,6 @@
 //! The accounts of owners that are there already.
 ghost use Rattle.std.specs.Prelude.{◌≡◌, [], ◌∷◌, ◌++◌, IfOk, length, map};
-ghost use Rattle.paging.specs.Books.{Books as AreExact};
+ghost use Rattle.page_moves.specs.Books.{Books as AreExact};
 ghost use Rattle.accounts.specs.declared.account.Account.TheVariants.{Table, Frame, Slots};
 ghost use Rattle.accounts.specs.Exact.{opening};
 ghost use Rattle.accounts.specs.OwnerShares.{guest_account};
@@ -9,7 +9,7 @@ use crate::account::{Account, Extent};
 use crate::rule::{BookShare, Books};
 use framepool::Pool;
 use ledger::{Ledger, NewParts};
-use paging::Pages;
+use page_moves::Pages;
 use sharetab::Shares;
 use std::alloc::{AllocError, Global};
 use std::marker::Brand;

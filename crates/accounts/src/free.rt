@@ -9,7 +9,7 @@ use crate::rule::{BookShare, Books};
 use framepool::Pool;
 use frames::FrameNo;
 use ledger::NewParts;
-use paging::Pages;
+use page_moves::Pages;
 use std::marker::Brand;
 
 fn free_frame_as<N: NewParts<Account>>(

@@ -3,7 +3,7 @@ ghost use Rattle.std.specs.Prelude.{◌≡◌, ℕ, List, [], ◌∷◌, ◌++�
 ghost use Rattle.std.specs.Option.{option_to_list};
 ghost use Rattle.frames.specs.FreeList.{FreeList};
 ghost use Rattle.sharetab.specs.Entries.{EntriesAre};
-ghost use Rattle.physmap.specs.declared.page.Page.{Page};
+ghost use Rattle.guest_pages.specs.declared.page.Page.{Page};
 ghost use Rattle.accounts.specs.OwnerShares.{guest_account, guest_share, ExactWith};
 ghost use Rattle.accounts.specs.Settling.{Moved};
 
@@ -11,7 +11,7 @@ use crate::account::Account;
 use crate::rule::{BookShare, Books};
 use frames::FrameNo;
 use ledger::NewParts;
-use paging::Pages;
+use page_moves::Pages;
 use std::marker::Brand;
 
 /// What exact books say of a guest. Each clause speaks of all pages and frames in hand whose share this is, as those before a step

@@ -3,10 +3,10 @@ ghost use Rattle.std.specs.Prelude.{◌≡◌, ℕ, ◌<◌, List, [], ◌∷◌
 ghost use Rattle.std.specs.Option.{option_to_list};
 ghost use Rattle.frames.specs.FreeList.{FreeList};
 ghost use Rattle.sharetab.specs.Entries.{count_at};
-ghost use Rattle.physmap.specs.declared.page.Page.{Page};
-ghost use Rattle.physmap.specs.declared.page.Returned.TheVariants.{Ticket};
-ghost use Rattle.physmap.specs.Pages.{page_at, handed_back};
-ghost use Rattle.paging.specs.Moves.{Reads, Covered, OwnOnce};
+ghost use Rattle.guest_pages.specs.declared.page.Page.{Page};
+ghost use Rattle.guest_pages.specs.declared.page.Returned.TheVariants.{Ticket};
+ghost use Rattle.guest_pages.specs.Pages.{page_at, handed_back};
+ghost use Rattle.page_moves.specs.Moves.{Reads, Covered, OwnOnce};
 ghost use Rattle.accounts.specs.declared.account.Account.TheVariants.{Table};
 ghost use Rattle.accounts.specs.OwnerShares.{share_of, guest_account, guest_share, ExactWith};
 ghost use Rattle.accounts.specs.Settling.{MovedWithTable};
@@ -15,11 +15,11 @@ use crate::account::Account;
 use crate::rule::{BookShare, Books};
 use frames::FrameNo;
 use ledger::NewParts;
-use paging::Pages;
+use page_moves::Pages;
 use sharetab::Shares;
 use std::marker::Brand;
 
-/// What exact books say of a guest and the entries, as `meet` does of a guest: in the words in which the moves of `paging` ask for it,
+/// What exact books say of a guest and the entries, as `meet` does of a guest: in the words in which the moves of `page_moves` ask for it,
 /// and that a ticket which a page hands back is out.
 pub fn meet_table(books: &Books, guest: &mut BookShare, table: &mut BookShare, shares: &Shares)
     requires guest { guest.old.ledger ≡ books.now.id }

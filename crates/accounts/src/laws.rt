@@ -1,4 +1,4 @@
-//! Laws of the accounts: from a move of `paging` to what settling asks, and from the accounts of all owners to exact books.
+//! Laws of the accounts: from a move of `page_moves` to what settling asks, and from the accounts of all owners to exact books.
 ghost use Rattle.std.specs.Prelude.{◌≡◌, ℕ, ◌+◌, ◌<◌, List, Option, [], ◌∷◌, ◌++◌, length, map, slice_set, sum_by};
 ghost use Rattle.std.specs.Option.{option_to_list};
 ghost use Rattle.frames.specs.Counts.{one_at, count_of};
@@ -6,14 +6,14 @@ ghost use Rattle.frames.specs.Frames.{FrameIs};
 ghost use Rattle.frames.specs.FreeList.{FreeList};
 ghost use Rattle.sharetab.specs.Books.{Leaves};
 ghost use Rattle.sharetab.specs.Entries.{EntriesAre, entry_at, freed_frame, entry_count, ticket_count};
-ghost use Rattle.physmap.specs.declared.page.Page.{Page};
-ghost use Rattle.physmap.specs.declared.page.Page.TheVariants.{Given};
-ghost use Rattle.physmap.specs.declared.page.Returned.TheVariants as returned;
-ghost use Rattle.physmap.specs.Outline.{outline};
-ghost use Rattle.physmap.specs.Pages.{page_at, handed_back};
-ghost use Rattle.physmap.specs.Holdings.{private_pages, shared_pages, swapped_pages};
-ghost use Rattle.paging.specs.Moves.{Takes, Gives, MovesFrames, MovesSlots, MovesTickets, Conserves, Reads, Covered};
-ghost use Rattle.paging.specs.Books.{Books};
+ghost use Rattle.guest_pages.specs.declared.page.Page.{Page};
+ghost use Rattle.guest_pages.specs.declared.page.Page.TheVariants.{Given};
+ghost use Rattle.guest_pages.specs.declared.page.Returned.TheVariants as returned;
+ghost use Rattle.guest_pages.specs.Outline.{outline};
+ghost use Rattle.guest_pages.specs.Pages.{page_at, handed_back};
+ghost use Rattle.guest_pages.specs.Holdings.{private_pages, shared_pages, swapped_pages};
+ghost use Rattle.page_moves.specs.Moves.{Takes, Gives, MovesFrames, MovesSlots, MovesTickets, Conserves, Reads, Covered};
+ghost use Rattle.page_moves.specs.Books.{Books};
 ghost use Rattle.ledger.specs.Shares.{LedgerId, ShareIs, AreOf};
 ghost use Rattle.accounts.specs.declared.account.Account.{Account};
 ghost use Rattle.accounts.specs.declared.account.Account.TheVariants.{Table, Frame, Slots};
@@ -22,7 +22,7 @@ ghost use Rattle.accounts.specs.Exact.{Exact, free_list};
 ghost use Rattle.accounts.specs.OwnerShares.{share_of, guest_account, guest_share};
 ghost use Rattle.accounts.specs.Settling.{Moved, MovedWithTable, MovedWithSlots, MovedWithBoth};
 
-/// A law: what `supply_first`, `supply_copy` and `supply_swapped` of `paging` ensure, with the frame of number `no` in hand before, is
+/// A law: what `supply_first`, `supply_copy` and `supply_swapped` of `page_moves` ensure, with the frame of number `no` in hand before, is
 /// what settling asks; a frame that came free is in hand after, and the slot is free again.
 pub fn supplies_settle()
     ensures first { (ledger : LedgerId) (guest : ShareIs Account) (pages pages' : List Page) (no : ℕ) → guest ≡ guest_share ledger pages (no ∷ []) →
@@ -39,7 +39,7 @@ pub fn supplies_settle()
         Gives book slot book' → ((entries : EntriesAre) → Reads entries pages → Reads entries pages') → MovedWithSlots ledger guest slots pages' [] book' }
 {}
 
-/// A law: what `scan_in` of `paging` ensures is what settling asks, with the frame that came free in hand.
+/// A law: what `scan_in` of `page_moves` ensures is what settling asks, with the frame that came free in hand.
 pub fn scans_settle()
     ensures { (ledger : LedgerId) (guest table : ShareIs Account) (pages pages' : List Page) (entries entries' : EntriesAre) (came_free : List ℕ) →
         guest ≡ guest_share ledger pages [] → table ≡ share_of ledger (Table entries) →
@@ -48,7 +48,7 @@ pub fn scans_settle()
         (Reads entries pages → Reads entries' pages') → MovedWithTable ledger guest table pages' came_free entries' }
 {}
 
-/// A law: what `evict_in` of `paging` ensures, with a slot that was taken from the book, is what settling asks, with the frame that
+/// A law: what `evict_in` of `page_moves` ensures, with a slot that was taken from the book, is what settling asks, with the frame that
 /// came free in hand; and so it is where the slot was given back and no page changed.
 pub fn evictions_settle()
     ensures evicted { (ledger : LedgerId) (guest table slots : ShareIs Account) (pages pages' : List Page) (entries entries' : EntriesAre) (slot : ℕ) (book taken : FreeList) (came_free : List ℕ) →

@@ -1,5 +1,5 @@
 //! The books of all frames, slots and tickets, kept over several locks: what each owner has is its account, a part of one ledger whose
-//! rule is the exact books of `paging` over all accounts. A guest, the table of shared frames, the slot book and each free frame have an
+//! rule is the exact books of `page_moves` over all accounts. A guest, the table of shared frames, the slot book and each free frame have an
 //! account each, which lies where its owner lies, as a share without bytes.
 //!
 //! Definitions: `specs/Exact.antt` has the rule, `specs/OwnerShares.antt` the share of each owner, `specs/Settling.antt` what a move
@@ -8,7 +8,7 @@
 //!
 //! The crates above use `deal`, which deals all accounts, `free_frame`, `take` and `give` for a free frame's, and for each set of
 //! locks a call that tells what exact books say (`meet`, `meet_table`, `meet_slots`, `meet_both`) and one that settles after a move
-//! (`settle`, `settle_table`, `settle_slots`, `settle_both`). The laws in `laws` lead from what the moves of `paging` ensure to what
+//! (`settle`, `settle_table`, `settle_slots`, `settle_both`). The laws in `laws` lead from what the moves of `page_moves` ensure to what
 //! settling asks, and from the accounts of all owners to exact books.
 #![tactic(auto)]
 

@@ -3,9 +3,9 @@
 ghost use Rattle.std.specs.Prelude.{◌≡◌, ℕ, ◌+◌, ◌<◌, ◌⊎◌, OnOk, OnErr, IfOk, IfSome, IfNone, List, [], ◌∷◌, ◌++◌, None, IsTrue, length, replicate};
 ghost use Rattle.std.specs.Option.{option_to_list};
 ghost use Rattle.frames.specs.Counts.{count_of, below};
-ghost use Rattle.physmap.specs.declared.page.Page.TheVariants.{Zero};
-ghost use Rattle.physmap.specs.Pages.{kind_at, is_resident};
-ghost use Rattle.paging.specs.Books.{Books as AreExact};
+ghost use Rattle.guest_pages.specs.declared.page.Page.TheVariants.{Zero};
+ghost use Rattle.guest_pages.specs.Pages.{kind_at, is_resident};
+ghost use Rattle.page_moves.specs.Books.{Books as AreExact};
 ghost use Rattle.accounts.specs.declared.account.Account.TheVariants.{Table, Slots};
 ghost use Rattle.accounts.specs.Exact.{free_list};
 ghost use Rattle.accounts.specs.OwnerShares.{share_of, guest_share, free_share};
@@ -16,10 +16,10 @@ use crate::{
 };
 use framepool::Pool;
 use frames::FrameNo;
-use paging::{
+use guest_pages::{GuestPages, PageKind, Returned};
+use page_moves::{
     Pages, Scan, SupplyError, evict_in, scan_in, supply_copy, supply_first, supply_swapped,
 };
-use physmap::{PageKind, PhysMap, Returned};
 use sharetab::{GuestNo, GuestPage, Shares};
 use std::alloc::Global;
 use std::fmt::Debug;
@@ -259,7 +259,7 @@ fn back<P: Pages, S: SwapStore>(
 #[tactic(auto, using(crate::proofs::Settled::given_nothing_moved, crate::proofs::Settled::given_frame_moved))]
 fn given<S: SwapStore>(
     books: &Books,
-    guest: &mut Owner<PhysMap>,
+    guest: &mut Owner<GuestPages>,
     p: Ppn,
     table: &mut Entries,
     swap: &mut Swap<S>,
@@ -359,8 +359,8 @@ fn freed<P: Pages>(books: &Books, guest: &mut Owner<P>, hand: Option<FrameNo>) -
 
 struct World {
     books: Books,
-    one: Owner<PhysMap>,
-    two: Owner<PhysMap>,
+    one: Owner<GuestPages>,
+    two: Owner<GuestPages>,
     table: Entries,
     swap: Swap<MemStore>,
     free: Free,
@@ -368,17 +368,17 @@ struct World {
 
 /// Two guests of two pages, six frames and two slots.
 struct Parts {
-    guests: [PhysMap; 2],
+    guests: [GuestPages; 2],
     shares: Shares,
     pool: Pool,
     book: SlotBook,
     store: MemStore,
 }
 
-fn new_map(rt: &impl Abort, alloc: Global) -> PhysMap
+fn new_map(rt: &impl Abort, alloc: Global) -> GuestPages
     ensures { result ≡ replicate 2 Zero }
 {
-    match PhysMap::new(alloc, 2) {
+    match GuestPages::new(alloc, 2) {
         Ok(map) => map,
         Err(_) => panic!(rt; "no memory for the pages"),
     }
@@ -490,7 +490,7 @@ fn dealt(rt: &impl Abort, alloc: Global) -> World
 }
 
 /// A page that is there.
-fn page(rt: &impl Abort, map: &PhysMap, p: u32) -> Ppn
+fn page(rt: &impl Abort, map: &GuestPages, p: u32) -> Ppn
     ensures { result < length map.now }
 {
     if p >= 2 {
@@ -503,7 +503,7 @@ fn page(rt: &impl Abort, map: &PhysMap, p: u32) -> Ppn
 }
 
 /// Page 0 is of this kind.
-fn first_page(rt: &impl Abort, map: &PhysMap, kind: PageKind) -> Ppn
+fn first_page(rt: &impl Abort, map: &GuestPages, kind: PageKind) -> Ppn
     ensures there { result < length map.now }
     ensures kind { kind_at map.now result ≡ kind }
 {
@@ -519,7 +519,7 @@ fn supplied(
     rt: &impl Abort,
     alloc: Global,
     books: &Books,
-    guest: &mut Owner<PhysMap>,
+    guest: &mut Owner<GuestPages>,
     free: &mut Free,
 )
     requires guest { guest.old.share ≡ guest_share books.now.id guest.old.pages [] }
@@ -542,7 +542,7 @@ fn unshared(
     rt: &impl Abort,
     alloc: Global,
     books: &Books,
-    guest: &mut Owner<PhysMap>,
+    guest: &mut Owner<GuestPages>,
     table: &mut Entries,
     free: &mut Free,
 ) -> bool
@@ -564,7 +564,12 @@ fn unshared(
 }
 
 /// Page 0 of a guest is scanned. What is answered, and whether a frame came free.
-fn scan(books: &Books, guest: &mut Owner<PhysMap>, number: u32, table: &mut Entries) -> (Scan, bool)
+fn scan(
+    books: &Books,
+    guest: &mut Owner<GuestPages>,
+    number: u32,
+    table: &mut Entries,
+) -> (Scan, bool)
     requires guest { guest.old.share ≡ guest_share books.now.id guest.old.pages [] }
     requires table { table.old.share ≡ share_of books.now.id (Table table.old.shares.entries) }
     ensures guest { guest.new.share ≡ guest_share books.now.id guest.new.pages [] }
@@ -578,7 +583,7 @@ fn scan(books: &Books, guest: &mut Owner<PhysMap>, number: u32, table: &mut Entr
 fn stored(
     rt: &impl Abort,
     books: &Books,
-    guest: &mut Owner<PhysMap>,
+    guest: &mut Owner<GuestPages>,
     table: &mut Entries,
     swap: &mut Swap<MemStore>,
 ) -> bool
@@ -606,7 +611,7 @@ fn restored(
     rt: &impl Abort,
     alloc: Global,
     books: &Books,
-    guest: &mut Owner<PhysMap>,
+    guest: &mut Owner<GuestPages>,
     swap: &mut Swap<MemStore>,
     free: &mut Free,
 )
@@ -633,7 +638,7 @@ fn restored(
 fn ballooned(
     rt: &impl Abort,
     books: &Books,
-    guest: &mut Owner<PhysMap>,
+    guest: &mut Owner<GuestPages>,
     table: &mut Entries,
     swap: &mut Swap<MemStore>,
 ) -> bool
@@ -652,7 +657,7 @@ fn ballooned(
 }
 
 /// How many pages are private, shared and swapped, how many entries there are, and how many slots are used.
-fn counts(guest: &Owner<PhysMap>, table: &Entries, swap: &Swap<MemStore>) -> [u32; 5] {
+fn counts(guest: &Owner<GuestPages>, table: &Entries, swap: &Swap<MemStore>) -> [u32; 5] {
     [
         guest.pages.private(),
         guest.pages.shared(),
@@ -667,7 +672,7 @@ fn expect<T: PartialEq + Debug + Drop>(rt: &impl Abort, case: &'static str, got:
     assert!(rt; got == wanted, "{case}: {got:?}, not {wanted:?}");
 }
 
-fn close_owner(owner: Owner<PhysMap>) {
+fn close_owner(owner: Owner<GuestPages>) {
     let Owner { pages, share: _ } = owner;
     pages.close();
 }

@@ -8,14 +8,14 @@ use Rattle.std.proofs.lemmas.List.Sums.{get_or-le-sum_by}
 use Rattle.frames.specs.Counts.{below, count_of}
 use Rattle.frames.specs.FreeList.{FreeList}
 use Rattle.sharetab.specs.Entries.{EntriesAre}
-use Rattle.physmap.specs.declared.page.Page.{Page}
-use Rattle.physmap.specs.declared.page.Page.TheVariants as page
-use Rattle.physmap.specs.Pages.{page_at}
-use Rattle.physmap.specs.Holdings.{slot_in, slots_held}
-use Rattle.paging.specs.Books.{Books}
-use Rattle.paging.specs.Moves.{Conserves, Reads}
-use Rattle.paging.proofs.Booking.{below_one, books_after}
-use Rattle.paging.proofs.Starting.{books_with_owner}
+use Rattle.guest_pages.specs.declared.page.Page.{Page}
+use Rattle.guest_pages.specs.declared.page.Page.TheVariants as page
+use Rattle.guest_pages.specs.Pages.{page_at}
+use Rattle.guest_pages.specs.Holdings.{slot_in, slots_held}
+use Rattle.page_moves.specs.Books.{Books}
+use Rattle.page_moves.specs.Moves.{Conserves, Reads}
+use Rattle.page_moves.proofs.Booking.{below_one, books_after}
+use Rattle.page_moves.proofs.Starting.{books_with_owner}
 use Rattle.guest.specs.Guests.{GuestIs, view_of}
 use Rattle.guest.specs.Views.{pages_seen}
 use Rattle.tenant.specs.Lent.{UsedStay}

@@ -1,8 +1,8 @@
 -- Which guests can be booted together, and what they are then.
 use Rattle.std.specs.Prelude.{◌≡◌, ℕ, ◌+◌, ◌-◌, ◌<◌, ◌≤◌, true, List, Option, All, length, sum_by, slice_index_or}
 use Rattle.elf32.specs.Images.{FitsPages}
-use Rattle.physmap.specs.declared.page.Page.{Page}
-use Rattle.paging.specs.Faith.{Kept}
+use Rattle.guest_pages.specs.declared.page.Page.{Page}
+use Rattle.page_moves.specs.Faith.{Kept}
 use Rattle.guest.specs.Guests.{GuestIs, view_of}
 use Rattle.guest.specs.Views.{pages_seen}
 use Rattle.tenant.specs.Loading.{IsAtBoot}

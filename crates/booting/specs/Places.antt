@@ -1,10 +1,10 @@
 -- Where the pages of images come, guest after guest.
 use Rattle.std.specs.Prelude.{◌≡◌, ℕ, ◌<◌, List}
 use Rattle.frames.specs.FreeList.{FreeList}
-use Rattle.physmap.specs.declared.page.Page.{Page}
-use Rattle.physmap.specs.declared.page.PageKind.TheVariants.{Private, Swapped}
-use Rattle.physmap.specs.Pages.{page_at, kind_at, slot_of}
-use Rattle.paging.specs.Books.{pages_of}
+use Rattle.guest_pages.specs.declared.page.Page.{Page}
+use Rattle.guest_pages.specs.declared.page.PageKind.TheVariants.{Private, Swapped}
+use Rattle.guest_pages.specs.Pages.{page_at, kind_at, slot_of}
+use Rattle.page_moves.specs.Books.{pages_of}
 use Rattle.tenant.specs.Loading.{FramesFirst, SlotsRise}
 
 -- Frames come first, guests and pages rising: where a page of a guest is in a slot, no frame is free, no page of it above that one is in a

@@ -5,7 +5,7 @@ ghost use Rattle.sharetab.specs.Entries.{EntriesAre};
 ghost use Rattle.sharetab.specs.Maps.{at_page};
 ghost use Rattle.sharetab.specs.declared.guest_page.GuestPage.{GuestPage};
 ghost use Rattle.swapstore.specs.Failures.{one_more};
-ghost use Rattle.paging.specs.Books.{Books as AreExact};
+ghost use Rattle.page_moves.specs.Books.{Books as AreExact};
 ghost use Rattle.guest.specs.Guests.{Intact};
 ghost use Rattle.tenant.specs.Loading.{WhyNotLoaded};
 ghost use Rattle.booting.specs.Boots.{AreAdmitted, AreAtBoot, AreWithinLimits, HoldsImage, IsWithinLimits, KeepsPages, WhyNotBooted, pages_in};
@@ -42,7 +42,7 @@ pub struct Booted<S> {
 impl<S: SwapStore> Booted<S> {
     ghost use Rattle.std.specs.Prelude.{◌≡◌, ◌≤◌, ℕ, None, [], IfOk, IfErr, length, replicate, vec_capacity};
     ghost use Rattle.frames.specs.Counts.{count_of, below};
-    ghost use Rattle.paging.specs.Books.{Books as AreExact};
+    ghost use Rattle.page_moves.specs.Books.{Books as AreExact};
     ghost use Rattle.sharetab.specs.Maps.{at_page};
     ghost use Rattle.sharetab.specs.declared.guest_page.GuestPage.{GuestPage};
 

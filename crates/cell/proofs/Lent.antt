@@ -3,22 +3,22 @@ use Rattle.std.proofs.Common.{◌≡◌, ◌≢◌, ℕ, ◌<◌, Bool, true, fa
 use Rattle.std.proofs.lemmas.Bool.Decides.{Decides-eqb}
 use Rattle.std.proofs.lemmas.Slice.Eq.{slice_eq-Decides}
 use lib.Pointwise.{pointwise}
-use Rattle.mips_step.specs.Step.{Machine}
-use Rattle.physmap.specs.declared.page.Page.{Page}
-use Rattle.physmap.specs.declared.page.Returned.{Returned}
-use Rattle.physmap.specs.declared.page.PageKind.{PageKind}
-use Rattle.physmap.specs.declared.page.PageKind.TheVariants as kind
-use Rattle.physmap.specs.Pages.{kind_of, kind_at, page_at, shown}
-use Rattle.physmap.proofs.Outlines.{outline_length}
-use Rattle.physmap.specs.declared.page.Page.TheVariants as p
-use Rattle.paging.specs.Faith.{IsFaithful, Faithful, Kept}
+use Rattle.machine.specs.Step.{Machine}
+use Rattle.guest_pages.specs.declared.page.Page.{Page}
+use Rattle.guest_pages.specs.declared.page.Returned.{Returned}
+use Rattle.guest_pages.specs.declared.page.PageKind.{PageKind}
+use Rattle.guest_pages.specs.declared.page.PageKind.TheVariants as kind
+use Rattle.guest_pages.specs.Pages.{kind_of, kind_at, page_at, shown}
+use Rattle.guest_pages.proofs.Outlines.{outline_length}
+use Rattle.guest_pages.specs.declared.page.Page.TheVariants as p
+use Rattle.page_moves.specs.Faith.{IsFaithful, Faithful, Kept}
 use Rattle.lent_pages.specs.Contents.{its_slots}
 use Rattle.cell.specs.Sitting.{RunIsWritten}
 use Rattle.guest.specs.Guests.{GuestIs, view_of, Intact, without_pages, HasPaused}
 use Rattle.guest.specs.Views.{pages_seen}
 use Rattle.guest.specs.declared.progress.Pause.{Pause}
 use Rattle.guest.specs.declared.progress.Pause.TheVariants as pause
-use Rattle.mips_step.specs.declared.access.Why.{Why}
+use Rattle.machine.specs.declared.access.Why.{Why}
 use Rattle.guest.proofs.Keeping.{still_intact, same_view}
 use Rattle.machine_memory.specs.declared.stake.Stake.{Stake}
 use Rattle.machine_memory.proofs.Stakes.{level_by_outline, level_lags}
@@ -29,9 +29,9 @@ use Rattle.std.proofs.lemmas.List.{length-set}
 use Rattle.cell.specs.Narrowing.{is_away, comes_right}
 use Rattle.cell.specs.Pausing.{LevelBefore}
 use Rattle.lent_pages.specs.Scans.{WasScanned}
-use Rattle.paging.specs.Scans.{Answered}
-use Rattle.paging.specs.declared.scan.Scan.{Scan}
-use Rattle.paging.specs.declared.scan.Scan.TheVariants as scan
+use Rattle.page_moves.specs.Scans.{Answered}
+use Rattle.page_moves.specs.declared.scan.Scan.{Scan}
+use Rattle.page_moves.specs.declared.scan.Scan.TheVariants as scan
 use Rattle.sha2.specs.Sha256.{sha256}
 use Rattle.sharetab.specs.Shares.{Answers}
 use Rattle.sharetab.specs.declared.shares.Offer.TheVariants as offer

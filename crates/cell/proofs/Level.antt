@@ -1,7 +1,7 @@
 -- A machine memory that is the one at first.
 use Rattle.std.proofs.Common.{◌≡◌, List, [], ap, sym, subst}
-use Rattle.physmap.specs.declared.page.Page.{Page}
-use Rattle.physmap.specs.Outline.{outline}
+use Rattle.guest_pages.specs.declared.page.Page.{Page}
+use Rattle.guest_pages.specs.Outline.{outline}
 use Rattle.machine_memory.specs.declared.stake.Stake.{Stake}
 use Rattle.machine_memory.specs.Memories.{MemoryIs, IsLevel}
 use Rattle.machine_memory.proofs.Stakes.{level_by_outline}

@@ -1,6 +1,6 @@
 -- A guest under its lock, of which a page has come.
 use Rattle.std.proofs.Common.{◌≡◌, ℕ, true, false, Bool, ◌&&◌, ap, sym, ◌∙◌}
-use Rattle.loghead.specs.Heads.{SeatIs}
+use Rattle.log_seats.specs.Heads.{SeatIs}
 use Rattle.guest.specs.Guests.{GuestIs, Intact, without_pages}
 use Rattle.console_queue.specs.Queues.{TakeIs}
 use Rattle.lasting_truth.specs.Truths.{KeeperIs}

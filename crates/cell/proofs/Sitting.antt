@@ -4,7 +4,7 @@ use Rattle.std.proofs.lemmas.Grind.{flat_map-append}
 use Rattle.items.specs.declared.item.Item.{Item}
 use Rattle.items.specs.declared.item.What.TheVariants as what
 use Rattle.items.specs.Entries.{steps_of}
-use Rattle.loghead.specs.Heads.{SeatIs}
+use Rattle.log_seats.specs.Heads.{SeatIs}
 use Rattle.guest.specs.Guests.{GuestIs, view_of, Intact}
 use Rattle.console_queue.specs.Queues.{TakeIs}
 use Rattle.lasting_truth.specs.Truths.{KeeperIs, WitnessIs}
@@ -12,14 +12,14 @@ use Rattle.seated.specs.Acts.{Acts, Stays}
 use Rattle.cell.specs.declared.cell.Front.{Front}
 use Rattle.cell.specs.declared.cell.Locked.{Locked}
 use Rattle.cell.specs.Inputs.{byte_in, bytes_in}
-use Rattle.paging.specs.Faith.{Kept}
+use Rattle.page_moves.specs.Faith.{Kept}
 use Rattle.lent_pages.specs.Contents.{its_slots}
 use Rattle.guest.specs.Views.{pages_seen}
 use Rattle.machine_memory.specs.declared.stake.Stake.{Stake}
 use Rattle.machine_memory.specs.Memories.{IsLevel}
 use Rattle.cell.specs.Sitting.{Sits, RunIsWritten}
 use Rattle.cell.proofs.Level.{level_on}
-use Rattle.physmap.specs.Outline.{outline}
+use Rattle.guest_pages.specs.Outline.{outline}
 use Rattle.cell.proofs.Slicing.{no_byte_in_steps}
 
 pub sits_on : {S : Type 0} (is_true : S → Type 0) (front : Front S) (l l' : Locked) → Sits is_true front l → Stays l.guest.value l'.guest.value → (Intact l.guest.value → Intact l'.guest.value) → l'.keeper ≡ l.keeper

@@ -4,8 +4,8 @@ use mathlib.Core.List.{IsPrefix}
 use Rattle.items.specs.declared.item.Item.{Item}
 use Rattle.items.specs.declared.item.What.TheVariants as what
 use Rattle.items.specs.Entries.{steps_of, step_by}
-use Rattle.loghead.specs.Heads.{SeatIs}
-use Rattle.loghead.specs.Legal.{Legal}
+use Rattle.log_seats.specs.Heads.{SeatIs}
+use Rattle.log_seats.specs.Legal.{Legal}
 use Rattle.seated.specs.Acts.{Acts, Sees}
 use Rattle.cell.specs.Inputs.{bytes_in}
 use Rattle.cell.specs.Slices.{Slice, steps_in, AreOfSlice}

@@ -4,11 +4,11 @@ use Rattle.std.proofs.lemmas.Bool.{cases_lt, cases_eq}
 use Rattle.std.proofs.lemmas.List.{get_or_past, get_or-set_same, get_or-set_other, ext_get_or, length-set}
 use Rattle.std.proofs.lemmas.List.Sums.{sum_by-set}
 use Rattle.items.specs.declared.item.Item.{Item}
-use Rattle.physmap.specs.declared.page.Page.{Page}
-use Rattle.physmap.specs.declared.page.Page.TheVariants as p
-use Rattle.physmap.specs.declared.page.PageKind.TheVariants as kind
-use Rattle.physmap.specs.Holdings.{one_swapped, swapped_pages}
-use Rattle.physmap.specs.Pages.{kind_of, kind_at, page_at}
+use Rattle.guest_pages.specs.declared.page.Page.{Page}
+use Rattle.guest_pages.specs.declared.page.Page.TheVariants as p
+use Rattle.guest_pages.specs.declared.page.PageKind.TheVariants as kind
+use Rattle.guest_pages.specs.Holdings.{one_swapped, swapped_pages}
+use Rattle.guest_pages.specs.Pages.{kind_of, kind_at, page_at}
 
 -- a page that is in a slot is one of the guest's
 pub away_is_there : (pages : List Page) (page : ℕ) → kind_at pages page ≡ kind.Swapped → page < length pages

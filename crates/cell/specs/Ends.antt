@@ -1,8 +1,8 @@
 -- The seats of a guest, at first and at the end.
 use Rattle.std.specs.Prelude.{◌≡◌, ℕ, Bool, true, List, []}
 use Rattle.items.specs.declared.item.Item.{Item}
-use Rattle.loghead.specs.Heads.{HeadId, SeatIs}
-use Rattle.loghead.specs.Legal.{Legal}
+use Rattle.log_seats.specs.Heads.{HeadId, SeatIs}
+use Rattle.log_seats.specs.Legal.{Legal}
 use Rattle.cell.specs.declared.cell.Front.{Front}
 use Rattle.cell.specs.declared.seat.Seat.{Seat}
 use Rattle.cell.specs.declared.seat.Seats.{Seats}

@@ -1,9 +1,9 @@
 -- Whether a page that came is the one of the guest's run.
 use Rattle.std.specs.Prelude.{ℕ, Bool, true, false, ◌||◌, nat_eq}
 use lib.Pointwise.{pointwise}
-use Rattle.physmap.specs.declared.page.PageKind.{PageKind}
-use Rattle.physmap.specs.declared.page.PageKind.TheVariants.{Zero, Given, Private, Shared, Swapped}
-use Rattle.physmap.specs.Pages.{kind_at, page_at, shown}
+use Rattle.guest_pages.specs.declared.page.PageKind.{PageKind}
+use Rattle.guest_pages.specs.declared.page.PageKind.TheVariants.{Zero, Given, Private, Shared, Swapped}
+use Rattle.guest_pages.specs.Pages.{kind_at, page_at, shown}
 use Rattle.guest.specs.Guests.{GuestIs, view_of}
 use Rattle.guest.specs.Views.{pages_seen}
 

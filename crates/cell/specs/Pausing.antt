@@ -1,6 +1,6 @@
 -- A stake that was level before a run of steps paused.
 use Rattle.std.specs.Prelude.{ℕ, List, Option}
-use Rattle.physmap.specs.declared.page.Page.{Page}
+use Rattle.guest_pages.specs.declared.page.Page.{Page}
 use Rattle.guest.specs.declared.progress.Pause.{Pause}
 use Rattle.guest.specs.Guests.{HasPaused}
 use Rattle.machine_memory.specs.declared.stake.Stake.{Stake}

@@ -2,9 +2,9 @@
 use Rattle.std.specs.Prelude.{ℕ, ◌==◌, nat_lt, if◌then◌else◌}
 use Rattle.mips_cp0.specs.Access.{register_value}
 use Rattle.mips_cp0.specs.declared.register.SystemRegister.TheVariants.{Status, Cause, BadVAddr}
-use Rattle.mips_step.specs.Processor.{Processor, reg}
-use Rattle.mips_step.specs.World.{lines_of}
-use Rattle.mips_step.specs.Step.{Machine}
+use Rattle.machine.specs.Processor.{Processor, reg}
+use Rattle.machine.specs.Board.{lines_of}
+use Rattle.machine.specs.Step.{Machine}
 
 -- by the register's number, while these interrupt lines are raised: 0 to 31 are the general registers; then Status, LO, HI, BadVAddr,
 -- Cause, and PC
@@ -19,4 +19,4 @@ register_of number lines cpu =
     else cpu.pc
 
 abbrev pub register_shown : ℕ → Machine → ℕ
-register_shown number m = register_of number (lines_of m.world) m.cpu
+register_shown number m = register_of number (lines_of m.board) m.cpu

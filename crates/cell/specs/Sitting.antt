@@ -3,10 +3,10 @@ use Rattle.std.specs.Prelude.{◌≡◌, ℕ, true, List, Option, [], ◌∷◌}
 use Rattle.items.specs.declared.item.Item.{Item}
 use Rattle.items.specs.declared.item.What.{What}
 use Rattle.items.specs.declared.item.What.TheVariants as what
-use Rattle.loghead.specs.Heads.{HeadId}
-use Rattle.mips_step.specs.Step.{Machine}
-use Rattle.flatvm.specs.Boot.{boot_machine}
-use Rattle.flatvm.specs.Items.{accepts, reply, run}
+use Rattle.log_seats.specs.Heads.{HeadId}
+use Rattle.machine.specs.Step.{Machine}
+use Rattle.machine.specs.Boot.{boot_machine}
+use Rattle.machine.specs.Items.{accepts, reply, run}
 use Rattle.guest_log.specs.Logs.{IsFull}
 use Rattle.guest.specs.Guests.{GuestIs, view_of, Intact}
 use Rattle.guest.specs.Views.{pages_seen}
@@ -16,7 +16,7 @@ use Rattle.cell.specs.declared.cell.Locked.{Locked}
 use Rattle.cell.specs.declared.cell.Cell.{Cell}
 use Rattle.cell.specs.declared.seat.Seat.{Seat}
 use Rattle.cell.specs.Inputs.{bytes_in}
-use Rattle.paging.specs.Faith.{Kept}
+use Rattle.page_moves.specs.Faith.{Kept}
 use Rattle.lent_pages.specs.Contents.{its_slots}
 use Rattle.machine_memory.specs.declared.stake.Stake.{Stake}
 use Rattle.machine_memory.specs.Memories.{IsLevel}

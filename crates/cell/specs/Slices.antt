@@ -4,8 +4,8 @@ use mathlib.Core.List.{IsPrefix}
 use Rattle.items.specs.declared.item.Item.{Item}
 use Rattle.items.specs.declared.item.What.{What}
 use Rattle.items.specs.declared.item.What.TheVariants as what
-use Rattle.loghead.specs.Heads.{SeatIs}
-use Rattle.loghead.specs.Legal.{Legal}
+use Rattle.log_seats.specs.Heads.{SeatIs}
+use Rattle.log_seats.specs.Legal.{Legal}
 
 -- how many of the items are steps of the processor
 abbrev pub one_step : What → ℕ

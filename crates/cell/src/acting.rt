@@ -1,23 +1,23 @@
 //! What is done with a guest under its lock by whoever has a seat of it, and the truth of it.
 ghost use Rattle.std.specs.Prelude.{◌≡◌, ◌↔◌, ◌∷◌, ℕ, List, Option, [], true, false, None, Some, OnOk, OnErr, IfOk, IsErrOf, length};
 ghost use Rattle.items.specs.Items.{is_step};
-ghost use Rattle.flatvm.specs.Answers.{replied};
-ghost use Rattle.flatvm.specs.Items.{accepts, reply};
-ghost use Rattle.flatvm.specs.Replies.{bytes_at};
+ghost use Rattle.machine.specs.Answers.{replied};
+ghost use Rattle.machine.specs.Items.{accepts, reply};
+ghost use Rattle.machine.specs.Replies.{bytes_at};
 ghost use Rattle.guest_log.specs.Logs.{IsFull};
 ghost use Rattle.guest_log.specs.declared.stop.Stop.{Stop};
-ghost use Rattle.physmap.specs.Outline.{outline};
-ghost use Rattle.paged_bus.specs.Writes.{WritesTo};
-ghost use Rattle.paging.specs.Faith.{Kept};
+ghost use Rattle.guest_pages.specs.Outline.{outline};
+ghost use Rattle.guest_bus.specs.Writes.{WritesTo};
+ghost use Rattle.page_moves.specs.Faith.{Kept};
 ghost use Rattle.guest.specs.Guests.{view_of, standing, Intact};
 ghost use Rattle.guest.specs.Views.{pages_seen};
 ghost use Rattle.seated.specs.Acts.{Acts, Sees, Stays};
 
 use crate::Seat;
-use flatvm::Reply;
 use guest::{Guest, Refused, Stop};
 use items::Item;
 use lasting_truth::{Keeper, Truth};
+use machine::Reply;
 
 // What happens to the guest by an item of the seat that is no step, and whether the guest's truth holds. Where it is refused, the seat has
 // seen the log for which it is.

@@ -3,11 +3,11 @@ ghost use Rattle.std.specs.Prelude.{◌≡◌, ◌≢◌, ◌↔◌, ◌<◌, �
 ghost use Rattle.items.specs.declared.item.Item.{Item};
 ghost use Rattle.items.specs.declared.item.What.{What};
 ghost use Rattle.items.specs.Items.{is_step};
-ghost use Rattle.flatvm.specs.Answers.{replied};
-ghost use Rattle.flatvm.specs.Items.{accepts, reply, run};
-ghost use Rattle.flatvm.specs.Replies.{bytes_at};
+ghost use Rattle.machine.specs.Answers.{replied};
+ghost use Rattle.machine.specs.Items.{accepts, reply, run};
+ghost use Rattle.machine.specs.Replies.{bytes_at};
 ghost use Rattle.guest_log.specs.declared.stop.Stop.{Stop};
-ghost use Rattle.mips_step.specs.Step.{Machine};
+ghost use Rattle.machine.specs.Step.{Machine};
 ghost use Rattle.console_queue.specs.Queues.{WasFull};
 ghost use Rattle.seated.specs.Acts.{Sees};
 ghost use Rattle.cell.specs.Inputs.{byte_in};
@@ -15,9 +15,9 @@ ghost use Rattle.cell.specs.Registers.{register_shown};
 
 use crate::{Cell, Registers, Seat, inside};
 use console_queue::FeedPass;
-use flatvm::Reply;
 use guest::{Refused, Stop};
 use items::{DebugRegister, Item, What};
+use machine::Reply;
 use std::sync::Wait;
 use swapstore::SwapStore;
 

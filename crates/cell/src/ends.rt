@@ -1,6 +1,6 @@
 //! How a guest comes under its lock, and how it leaves it.
 ghost use Rattle.std.specs.Prelude.{◌≡◌, ◌≤◌, ◌++◌, [], true, IfOk, IfErr, vec_capacity};
-ghost use Rattle.flatvm.specs.Boot.{boot_machine};
+ghost use Rattle.machine.specs.Boot.{boot_machine};
 ghost use Rattle.guest.specs.Guests.{Intact};
 ghost use Rattle.cell.specs.Inputs.{bytes_in};
 ghost use Rattle.machine_memory.specs.Memories.{IsLevel};
@@ -231,7 +231,7 @@ fn take_apart<S: SwapStore + Drop, R: Wait>(
 
 impl<S: SwapStore + Drop> Cell<S> {
     ghost use Rattle.std.specs.Prelude.{◌≡◌, ◌++◌, [], true, IfOk, IfErr};
-    ghost use Rattle.flatvm.specs.Boot.{boot_machine};
+    ghost use Rattle.machine.specs.Boot.{boot_machine};
     ghost use Rattle.guest.specs.Guests.{Intact};
     ghost use Rattle.cell.specs.Inputs.{bytes_in};
     ghost use Rattle.machine_memory.specs.Memories.{IsLevel};

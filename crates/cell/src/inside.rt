@@ -2,12 +2,12 @@
 ghost use Rattle.std.specs.Prelude.{◌≡◌, ◌↔◌, ◌∷◌, ℕ, [], true, false, None, Some, OnOk, OnErr, IfOk, IsErrOf, length, slice_index, ◌<◌};
 ghost use Rattle.items.specs.declared.item.Item.{Item};
 ghost use Rattle.items.specs.Items.{is_step};
-ghost use Rattle.flatvm.specs.Answers.{replied};
-ghost use Rattle.flatvm.specs.Items.{accepts, reply, run};
-ghost use Rattle.flatvm.specs.Replies.{bytes_at};
+ghost use Rattle.machine.specs.Answers.{replied};
+ghost use Rattle.machine.specs.Items.{accepts, reply, run};
+ghost use Rattle.machine.specs.Replies.{bytes_at};
 ghost use Rattle.guest_log.specs.declared.stop.Stop.{Stop};
-ghost use Rattle.mips_step.specs.Step.{Machine};
-ghost use Rattle.physmap.specs.Outline.{outline};
+ghost use Rattle.machine.specs.Step.{Machine};
+ghost use Rattle.guest_pages.specs.Outline.{outline};
 ghost use Rattle.seated.specs.Acts.{Sees};
 ghost use Rattle.cell.specs.Inputs.{byte_in};
 ghost use Rattle.cell.specs.Registers.{register_shown};
@@ -15,9 +15,9 @@ ghost use Rattle.cell.specs.Sitting.{IsOf, Lasts, IsTrusted, Answers, Sits, IsFu
 
 use crate::registers::registers_of;
 use crate::{Front, Locked, Registers, Seat, acting};
-use flatvm::Reply;
 use guest::{Refused, Stop};
 use items::{Item, What};
+use machine::Reply;
 use swapstore::SwapStore;
 
 // What happens to the guest by an item of the seat that is neither a step nor a byte of input.

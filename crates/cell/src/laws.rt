@@ -3,7 +3,7 @@ ghost use Rattle.std.specs.Prelude.{◌≡◌, ℕ, ◌+◌, List, [], ◌∷◌
 ghost use Rattle.items.specs.declared.item.Item.{Item};
 ghost use Rattle.items.specs.declared.item.What.TheVariants as what;
 ghost use Rattle.items.specs.Entries.{steps_of};
-ghost use Rattle.loghead.specs.Heads.{SeatIs};
+ghost use Rattle.log_seats.specs.Heads.{SeatIs};
 ghost use Rattle.seated.specs.Acts.{Acts, Sees};
 ghost use Rattle.cell.specs.Inputs.{byte_in, bytes_in};
 ghost use Rattle.cell.specs.Slices.{Slice};

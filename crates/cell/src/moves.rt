@@ -1,14 +1,14 @@
 //! Moves of a guest's pages for those who look after the memory.
 ghost use Rattle.std.specs.Prelude.{◌≡◌, ◌≢◌, ◌<◌, ◌≤◌, true, IsTrue, length};
 ghost use Rattle.sharetab.specs.declared.guest_page.GuestPage.{GuestPage};
-ghost use Rattle.physmap.specs.Pages.{kind_at, is_resident};
+ghost use Rattle.guest_pages.specs.Pages.{kind_at, is_resident};
 ghost use Rattle.cell.specs.Level.{IsMemoryOf};
 ghost use Rattle.cell.specs.Sitting.{Sits};
 
 use crate::lending::{evict_over, scan_over};
 use crate::{Cell, Front, Locked};
 use machine_memory::{EvictError, MachineMemory};
-use paging::Scan;
+use page_moves::Scan;
 use sharetab::GuestNo;
 use std::sync::Wait;
 use swapstore::SwapStore;

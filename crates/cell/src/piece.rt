@@ -1,7 +1,7 @@
 //! Pieces of slices.
 ghost use Rattle.std.specs.Prelude.{◌≡◌, ◌≢◌, ◌<◌, ◌≤◌, true, List, Some, IfSome, IfNone};
 ghost use Rattle.guest_log.specs.Logs.{IsFull};
-ghost use Rattle.loghead.specs.Legal.{Legal};
+ghost use Rattle.log_seats.specs.Legal.{Legal};
 ghost use Rattle.cell.specs.Level.{IsMemoryOf};
 ghost use Rattle.cell.specs.Slices.{Slice};
 ghost use Rattle.cell.specs.Sitting.{Sits, Narrows, IsOf, Lasts, IsTrusted, IsFullOf};
@@ -12,7 +12,7 @@ use crate::turning::turn;
 use crate::{Cell, Front, Gate, Locked, Seat};
 use guest::Stop;
 use machine_memory::MachineMemory;
-use paging::SupplyError;
+use page_moves::SupplyError;
 use std::alloc::Global;
 use std::sync::Wait;
 use swapstore::SwapStore;

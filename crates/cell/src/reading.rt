@@ -1,7 +1,7 @@
 //! A debugger's read, for which the pages that are in slots are supplied.
 ghost use Rattle.std.specs.Prelude.{◌≡◌, ◌↔◌, ℕ, true, None, Some, OnOk, OnErr, IfSome, IfNone, IsErrOf, length};
-ghost use Rattle.flatvm.specs.Items.{run};
-ghost use Rattle.flatvm.specs.Replies.{bytes_at};
+ghost use Rattle.machine.specs.Items.{run};
+ghost use Rattle.machine.specs.Replies.{bytes_at};
 ghost use Rattle.guest_log.specs.declared.stop.Stop.{Stop};
 ghost use Rattle.seated.specs.Acts.{Sees};
 ghost use Rattle.cell.specs.Level.{IsMemoryOf};
@@ -12,7 +12,7 @@ use crate::turning::supply_in;
 use crate::{Cell, Front, Locked, Seat};
 use guest::Refused;
 use machine_memory::MachineMemory;
-use paging::SupplyError;
+use page_moves::SupplyError;
 use std::alloc::Global;
 use std::sync::Wait;
 use swapstore::SwapStore;
@@ -108,8 +108,8 @@ fn read_and_see<S: SwapStore + Drop, R: Wait>(
 
 impl<S: SwapStore + Drop> Cell<S> {
     ghost use Rattle.std.specs.Prelude.{◌≡◌, ◌↔◌, true, None, Some, OnOk, OnErr, IsErrOf, length};
-    ghost use Rattle.flatvm.specs.Items.{run};
-    ghost use Rattle.flatvm.specs.Replies.{bytes_at};
+    ghost use Rattle.machine.specs.Items.{run};
+    ghost use Rattle.machine.specs.Replies.{bytes_at};
     ghost use Rattle.seated.specs.Acts.{Sees};
     ghost use Rattle.cell.specs.Level.{IsMemoryOf};
     ghost use Rattle.cell.specs.Sitting.{IsOf, Lasts, IsTrusted, front_boot};

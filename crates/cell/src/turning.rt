@@ -1,11 +1,11 @@
 //! Turns of a slice, with what lies under the guest's lock as a whole: each finds it fit for the front, and leaves it so.
 ghost use Rattle.std.specs.Prelude.{◌≡◌, ◌≢◌, ◌+◌, ◌<◌, ◌≤◌, ℕ, List, true, Some, IfSome, OnOk, OnErr, IfOk, IsErrOf, length};
-ghost use Rattle.physmap.specs.declared.page.PageKind.{PageKind};
-ghost use Rattle.physmap.specs.Holdings.{swapped_pages};
-ghost use Rattle.physmap.specs.Pages.{kind_at};
+ghost use Rattle.guest_pages.specs.declared.page.PageKind.{PageKind};
+ghost use Rattle.guest_pages.specs.Holdings.{swapped_pages};
+ghost use Rattle.guest_pages.specs.Pages.{kind_at};
 ghost use Rattle.guest_log.specs.Logs.{IsFull};
 ghost use Rattle.guest_log.specs.declared.stop.Stop.{Stop};
-ghost use Rattle.loghead.specs.Legal.{Legal};
+ghost use Rattle.log_seats.specs.Legal.{Legal};
 ghost use Rattle.cell.specs.Level.{IsMemoryOf};
 ghost use Rattle.cell.specs.Slices.{Slice};
 ghost use Rattle.cell.specs.Sitting.{Sits, Narrows};
@@ -15,7 +15,7 @@ use crate::turns::take_bytes;
 use crate::{End, Front, Locked};
 use guest::{Seat, Stop};
 use machine_memory::MachineMemory;
-use paging::SupplyError;
+use page_moves::SupplyError;
 use std::alloc::Global;
 use std::sync::Wait;
 use swapstore::SwapStore;

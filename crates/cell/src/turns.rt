@@ -2,11 +2,11 @@
 ghost use Rattle.std.specs.Prelude.{◌≡◌, ◌<◌, ◌≤◌, ◌∷◌, ℕ, List, [], true, Option, Some, OnErr, IfOk, IsErrOf, length};
 ghost use Rattle.guest_log.specs.Logs.{IsFull};
 ghost use Rattle.guest_log.specs.declared.stop.Stop.{Stop};
-ghost use Rattle.loghead.specs.Legal.{Legal};
-ghost use Rattle.mips_step.specs.declared.access.Why.{Why};
-ghost use Rattle.physmap.specs.Outline.{outline};
+ghost use Rattle.log_seats.specs.Legal.{Legal};
+ghost use Rattle.machine.specs.declared.access.Why.{Why};
+ghost use Rattle.guest_pages.specs.Outline.{outline};
 ghost use Rattle.guest.specs.declared.progress.Pause.{Pause};
-ghost use Rattle.paging.specs.Faith.{Kept};
+ghost use Rattle.page_moves.specs.Faith.{Kept};
 ghost use Rattle.guest.specs.Guests.{view_of, Intact, HasPaused};
 ghost use Rattle.guest.specs.Views.{pages_seen};
 ghost use Rattle.seated.specs.Acts.{Stays};

@@ -2,7 +2,7 @@
 ghost use Rattle.std.specs.Prelude.{◌≡◌, ◌∷◌, ◌<◌, ◌≤◌, true, false, OnOk, OnErr, IfErr, IsErrOf, length};
 ghost use Rattle.items.specs.declared.item.Item.{Item};
 ghost use Rattle.items.specs.declared.item.What.{What};
-ghost use Rattle.flatvm.specs.Items.{accepts, run};
+ghost use Rattle.machine.specs.Items.{accepts, run};
 ghost use Rattle.guest_log.specs.declared.stop.Stop.{Stop};
 ghost use Rattle.seated.specs.Acts.{Sees};
 ghost use Rattle.cell.specs.Level.{IsMemoryOf};
@@ -14,7 +14,7 @@ use crate::{Cell, Front, Locked, Seat};
 use guest::Refused;
 use items::{Item, What, WriteBytes};
 use machine_memory::MachineMemory;
-use paging::SupplyError;
+use page_moves::SupplyError;
 use std::alloc::Global;
 use std::sync::Wait;
 use swapstore::SwapStore;
@@ -99,7 +99,7 @@ fn write_in<S: SwapStore + Drop, R: Wait>(
 impl<S: SwapStore + Drop> Cell<S> {
     ghost use Rattle.std.specs.Prelude.{◌≡◌, true, false, OnOk, OnErr, IsErrOf};
     ghost use Rattle.items.specs.declared.item.What.{What};
-    ghost use Rattle.flatvm.specs.Items.{accepts, run};
+    ghost use Rattle.machine.specs.Items.{accepts, run};
     ghost use Rattle.guest_log.specs.declared.stop.Stop.{Stop};
     ghost use Rattle.seated.specs.Acts.{Sees};
     ghost use Rattle.cell.specs.Level.{IsMemoryOf};

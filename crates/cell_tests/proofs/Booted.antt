@@ -5,14 +5,14 @@ use Rattle.elf32.specs.declared.image.Segment.{Segment}
 use Rattle.elf32.specs.declared.image.Image.{Image}
 use Rattle.elf32.specs.Images.{IsWithin, FitsPages}
 use Rattle.devices.specs.Devices.{fresh_devices}
-use Rattle.mips_step.specs.Step.{Machine}
-use Rattle.mips_step.proofs.Clearing.{length-zeros}
-use Rattle.flatvm.specs.Boot.{placed, boot_memory, boot_machine}
-use Rattle.physmap.specs.declared.page.Page.{Page}
-use Rattle.physmap.specs.declared.page.Page.TheVariants as page
-use Rattle.physmap.specs.Pages.{page_at}
-use Rattle.paging.specs.Faith.{IsFaithful, Faithful, IsHeld}
-use Rattle.paged_bus.specs.Buses.{PagedBusIs}
+use Rattle.machine.specs.Step.{Machine}
+use Rattle.machine.proofs.Clearing.{length-zeros}
+use Rattle.machine.specs.Boot.{placed, boot_memory, boot_machine}
+use Rattle.guest_pages.specs.declared.page.Page.{Page}
+use Rattle.guest_pages.specs.declared.page.Page.TheVariants as page
+use Rattle.guest_pages.specs.Pages.{page_at}
+use Rattle.page_moves.specs.Faith.{IsFaithful, Faithful, IsHeld}
+use Rattle.guest_bus.specs.Buses.{GuestBusIs}
 use Rattle.guest.specs.Guests.{GuestIs, view_of, Intact}
 use Rattle.guest.specs.Loading.{segment_reaches, IsBeside}
 use Rattle.guest.specs.Views.{pages_seen}
@@ -43,15 +43,15 @@ empty_size image count none = ap (λ (l : List Segment). length (fold placed (ze
 pub empty_intact : (image : Image) (count : ℕ) (g : GuestIs) → image.segments.items ≡ [] → g.cpu ≡ g.boot.cpu
     → g.bus ≡ record { pages = replicate count page.Zero; devices = fresh_devices count; waiting = None } → g.boot ≡ boot_machine image count → g.log.items ≡ [] → Intact g
 empty_intact image count g none cpu bus boot items =
-    let pages : g.bus.pages ≡ replicate count page.Zero = ap (λ (b : PagedBusIs). b.pages) bus in
+    let pages : g.bus.pages ≡ replicate count page.Zero = ap (λ (b : GuestBusIs). b.pages) bus in
     let size : length g.bus.pages ≡ count = ap length pages ∙ length-replicate count page.Zero in
     let faithful : Faithful (pages_seen (boot_machine image count)) g.bus.pages = λ p inside. zeros_faithful (pages_seen (boot_machine image count) p) (page_at g.bus.pages p)
     (ap (λ (l : List Page). page_at l p) pages ∙ same_at count p page.Zero)
     (sym (beside_is_zeros image count p (omega (arith, inside, size)) (of_none (IsWithin (count * 4096)) image.segments.items none)
     (of_none (λ (s : Segment). segment_reaches p s ≡ false) image.segments.items none))) in
     booted_intact g items cpu
-    (ap (λ (b : PagedBusIs). b.devices) bus ∙ sym (ap (λ (m : Machine). m.world.devices) boot))
-    (ap (λ (m : Machine). length m.world.memory) boot ∙ empty_size image count none ∙ sym (ap (λ (n : ℕ). n * 4096) size))
+    (ap (λ (b : GuestBusIs). b.devices) bus ∙ sym (ap (λ (m : Machine). m.board.devices) boot))
+    (ap (λ (m : Machine). length m.board.memory) boot ∙ empty_size image count none ∙ sym (ap (λ (n : ℕ). n * 4096) size))
     (subst (λ (m : Machine). Faithful (pages_seen m) g.bus.pages) (sym boot) faithful)
 
 pub seat_intact : (g g' : GuestIs) → g' ≡ record g { seats = suc g.seats } → Intact g → Intact g'

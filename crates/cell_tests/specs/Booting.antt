@@ -1,7 +1,7 @@
 -- Guests to which nothing has happened.
 use Rattle.std.specs.Prelude.{List, replicate}
-use Rattle.physmap.specs.declared.page.Page.{Page}
-use Rattle.physmap.specs.declared.page.Page.TheVariants as page
+use Rattle.guest_pages.specs.declared.page.Page.{Page}
+use Rattle.guest_pages.specs.declared.page.Page.TheVariants as page
 
 -- 16 pages that were never touched
 abbrev pub untouched : List Page

@@ -7,7 +7,7 @@ use cell::{Cell, End, Kept, Open, ReadError, Registers, WriteError};
 use guest::Stop;
 use items::{DebugRegister, WriteBytes};
 use machine_memory::MachineMemory;
-use paging::Scan;
+use page_moves::Scan;
 use sharetab::GuestNo;
 use std::alloc::Global;
 use std::fmt::Debug;

@@ -4,7 +4,7 @@ ghost use Rattle.frames.specs.Counts.{count_of, below};
 ghost use Rattle.machine_memory.specs.Memories.{IsLevel, AreLevel};
 ghost use Rattle.cell.specs.Level.{IsMemoryOf};
 ghost use Rattle.swapstore.specs.Faults.{store_of};
-ghost use Rattle.flatvm.specs.Boot.{boot_machine};
+ghost use Rattle.machine.specs.Boot.{boot_machine};
 ghost use Rattle.guest.specs.Guests.{Intact};
 ghost use Rattle.cell_tests.specs.Booting.{untouched};
 
@@ -15,9 +15,9 @@ use cell::{Cell, Made, Parts};
 use elf32::Image;
 use framepool::Pool;
 use guest::{Guest, Seat};
+use guest_pages::GuestPages;
 use machine_memory::laws::each_guest_has_its_stake;
 use machine_memory::{Around, Booted, MachineMemory, Stake};
-use physmap::PhysMap;
 use sharetab::Shares;
 use std::alloc::Global;
 use std::process::Abort;
@@ -102,17 +102,17 @@ fn new_store(rt: &impl Abort, alloc: Global, wanted: &Wanted) -> Store
     FaultStore::new(store, wanted.op, wanted.failing.max(1))
 }
 
-fn new_map(rt: &impl Abort, alloc: Global) -> PhysMap
+fn new_map(rt: &impl Abort, alloc: Global) -> GuestPages
     ensures { result ≡ untouched }
 {
-    match PhysMap::new(alloc, 16) {
+    match GuestPages::new(alloc, 16) {
         Ok(map) => map,
         Err(_) => panic!(rt; "no memory for the pages"),
     }
 }
 
 // The pages of two guests, none of which was ever touched.
-fn two_maps(rt: &impl Abort, alloc: Global) -> Vec<PhysMap>
+fn two_maps(rt: &impl Abort, alloc: Global) -> Vec<GuestPages>
     ensures { result.items ≡ untouched ∷ untouched ∷ [] }
 {
     let mut maps = match Vec::with_capacity(alloc, 2) {
@@ -124,7 +124,7 @@ fn two_maps(rt: &impl Abort, alloc: Global) -> Vec<PhysMap>
     maps
 }
 
-fn closed(mut maps: Vec<PhysMap>) {
+fn closed(mut maps: Vec<GuestPages>) {
     while let Some(map) = maps.pop() {
         map.close();
     }
@@ -136,7 +136,7 @@ fn started<R: Abort + Wait>(
     rt: &R,
     alloc: Global,
     wanted: &Wanted,
-    maps: &[PhysMap],
+    maps: &[GuestPages],
 ) -> Booted<Store>
     requires { maps.now ≡ untouched ∷ untouched ∷ [] }
     ensures { AreLevel result.memory result.stakes.items (untouched ∷ untouched ∷ []) }

@@ -5,7 +5,7 @@ use crate::bench::{Bench, PLAIN, Wanted, Which, Who, expect};
 use crate::boot::booted;
 use crate::slice_tests::{LOOPING, expect_left, expect_piece, expect_written, left, running};
 use cell::{End, Kept, PageStat, WriteError};
-use paging::{Scan, SupplyError};
+use page_moves::{Scan, SupplyError};
 use sharetab::{GuestNo, GuestPage};
 use std::alloc::Global;
 use std::process::Abort;

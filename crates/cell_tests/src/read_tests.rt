@@ -4,7 +4,7 @@ use crate::boot::booted;
 use crate::memory_tests::{fill, stat};
 use crate::slice_tests::{expect_left, expect_written, left};
 use cell::ReadError;
-use paging::SupplyError;
+use page_moves::SupplyError;
 use std::alloc::Global;
 use std::process::Abort;
 use std::sync::Wait;

@@ -42,7 +42,7 @@ N, of what is booted:
   7  admit, and fewer slots than the guests have pages beside their minimums
 
 N, of a log:
-  0  the table machine keeps none      1  shorter than a header
+  0  the reference machine keeps none  1  shorter than a header
   2  no log, or a wrong number of pages
   3  of another image                  4  an item that is cut off or wrong
   5  an item that the machine does not accept where it stands

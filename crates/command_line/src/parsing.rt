@@ -380,7 +380,7 @@ fn exec_command<'a>(alloc: Global) -> Result<Command<'a>, AllocError> {
 
 fn replay_command<'a>(alloc: Global) -> Result<Command<'a>, AllocError> {
     Command::new(alloc, REPLAY)
-        .about("Replays a log on the table machine and prints the state that it ends in")
+        .about("Replays a log on the reference machine and prints the state that it ends in")
         .after_help(DUMP)
         .arg(raw_flag(alloc))?
         .arg(file(alloc, "image", "IMAGE").help("The file of the image that the log is of"))?
@@ -455,7 +455,7 @@ fn with_flags<'a>(alloc: Global, command: Command<'a>) -> Result<Command<'a>, Al
     command
         .arg(raw_flag(alloc))?
         .arg(flag(alloc, "flat").help(
-            "Use the table machine, which keeps no log, in place of a guest",
+            "Use the reference machine, which keeps no log, in place of a guest",
         ))?
         .arg(flag(alloc, ALL).help(
             "Print the other system registers, HI, LO and the TLB behind the dump",

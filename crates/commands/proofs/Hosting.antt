@@ -14,27 +14,27 @@ use Rattle.guest_log.specs.Runs.{run_count}
 use Rattle.guest_log.specs.declared.stop.Stop.{Stop}
 use Rattle.guest_log.specs.declared.stop.Stop.TheVariants as halt
 use Rattle.mips_tlb.specs.declared.kind.Kind.{Kind}
-use Rattle.mips_step.specs.Accesses.{Access, accesses, first_lack}
-use Rattle.mips_step.specs.Step.{Machine, step}
-use Rattle.mips_step.specs.Answer.{need_of}
-use Rattle.mips_step.specs.declared.access.StepOut.{StepOut}
-use Rattle.mips_step.specs.declared.access.StepOut.TheVariants as out
-use Rattle.mips_step.specs.declared.access.Why.{Why}
-use Rattle.mips_step.proofs.OtherPages.{step_stays}
+use Rattle.machine.specs.Accesses.{Access, accesses, first_lack}
+use Rattle.machine.specs.Step.{Machine, step}
+use Rattle.machine.specs.Answer.{need_of}
+use Rattle.machine.specs.declared.access.StepOut.{StepOut}
+use Rattle.machine.specs.declared.access.StepOut.TheVariants as out
+use Rattle.machine.specs.declared.access.Why.{Why}
+use Rattle.machine.proofs.OtherPages.{step_stays}
 use Rattle.elf32.specs.declared.image.Image.{Image}
-use Rattle.flatvm.specs.Boot.{boot_machine}
-use Rattle.flatvm.specs.Items.{accepts, after, run}
-use Rattle.flatvm.proofs.Runs.{run_append}
+use Rattle.machine.specs.Boot.{boot_machine}
+use Rattle.machine.specs.Items.{accepts, after, run}
+use Rattle.machine.proofs.Runs.{run_append}
 use Rattle.sharetab.specs.Entries.{EntriesAre, entry_at, one_entry, tickets_of, entry_count, ticket_count, Fits, AllFit}
 use Rattle.frames.specs.Frames.{SharedIs}
-use Rattle.physmap.specs.declared.page.Page.{Page}
-use Rattle.physmap.specs.declared.page.Page.TheVariants as page
-use Rattle.physmap.specs.declared.page.PageKind.{PageKind}
-use Rattle.physmap.specs.declared.page.PageKind.TheVariants.{Private, Swapped}
-use Rattle.physmap.specs.Pages.{page_at, kind_of, kind_at}
-use Rattle.physmap.specs.Holdings.{one_private, one_shared, one_swapped, private_pages, shared_pages, swapped_pages}
-use Rattle.paging.proofs.Totals.{frames_add_up, slots_out_add_up, tickets_add_up}
-use Rattle.paged_bus.specs.Lacking.{lack_of, lacks_in}
+use Rattle.guest_pages.specs.declared.page.Page.{Page}
+use Rattle.guest_pages.specs.declared.page.Page.TheVariants as page
+use Rattle.guest_pages.specs.declared.page.PageKind.{PageKind}
+use Rattle.guest_pages.specs.declared.page.PageKind.TheVariants.{Private, Swapped}
+use Rattle.guest_pages.specs.Pages.{page_at, kind_of, kind_at}
+use Rattle.guest_pages.specs.Holdings.{one_private, one_shared, one_swapped, private_pages, shared_pages, swapped_pages}
+use Rattle.page_moves.proofs.Totals.{frames_add_up, slots_out_add_up, tickets_add_up}
+use Rattle.guest_bus.specs.Lacking.{lack_of, lacks_in}
 use Rattle.guest.specs.Guests.{Intact, view_of}
 use Rattle.guest.proofs.Reaching.{accesses_inside}
 use Rattle.swapstore.specs.Memories.{MemoryIs}
@@ -63,7 +63,7 @@ run_steps : (k : ℕ) (m : Machine) → run (replicate k (step_by 0)) m ≡ afte
 run_steps zero m = refl
 run_steps (suc k) m = run_steps k (step m) ∙ step_first k m
 
-pub steps_size : (k : ℕ) (m : Machine) → length (after_steps k m).world.memory ≡ length m.world.memory
+pub steps_size : (k : ℕ) (m : Machine) → length (after_steps k m).board.memory ≡ length m.board.memory
 steps_size zero m = refl
 steps_size (suc k) m = (step_stays (after_steps k m) 0).size ∙ steps_size k m
 
@@ -215,12 +215,12 @@ each_named (e ∷ es) each = omega (arith, sum_by-cons one_entry e es, sum_by-co
 
 -- the pages of a guest that is its run are its memory
 memory_size : (trusted : Type 0) (held : ℕ → Option (List ℕ)) (frames slots : ℕ) (pool book : FreeList) (es : EntriesAre) (ts : List TenantIs) → length ts ≡ 1 → trusted
-    → Sound frames slots trusted held ts pool book es → length (hosted_of ts).machine.world.memory ≡ length (first_pages ts) * 4096
+    → Sound frames slots trusted held ts pool book es → length (hosted_of ts).machine.board.memory ≡ length (first_pages ts) * 4096
 memory_size trusted held frames slots pool book es [] one trust s = absurd (omega (arith, one))
 memory_size trusted held frames slots pool book es (t ∷ ts) one trust s = (All-head (IsKept held) t ts (s.kept trust)).intact.shows.size
 
 pub frame_free : (trusted : Type 0) (held : ℕ → Option (List ℕ)) (frames slots : ℕ) (pool book : FreeList) (es : EntriesAre) (ts : List TenantIs) → length ts ≡ 1 → trusted
-    → length (hosted_of ts).machine.world.memory < frames * 4096 → Sound frames slots trusted held ts pool book es → AllFit es → pool.free ≡ [] → ⊥
+    → length (hosted_of ts).machine.board.memory < frames * 4096 → Sound frames slots trusted held ts pool book es → AllFit es → pool.free ≡ [] → ⊥
 frame_free trusted held frames slots pool book es [] one trust room s fit none = absurd (omega (arith, one))
 frame_free trusted held frames slots pool book es (t ∷ []) one trust room s fit none =
     let all : List (List Page) = pages_in t ∷ [] in
@@ -287,7 +287,7 @@ lacking trusted held frames slots pool book es (t ∷ ts) p why one trust s need
 -- ---- a world of one guest stays one
 
 pub alone_after : (w w' : WorldIs MemoryIs) → IsAlone w → length w'.tenants ≡ 1
-    → length (hosted_of w'.tenants).machine.world.memory ≡ length (hosted_of w.tenants).machine.world.memory → w'.frames ≡ w.frames → length w'.store.pages ≡ length w.store.pages
+    → length (hosted_of w'.tenants).machine.board.memory ≡ length (hosted_of w.tenants).machine.board.memory → w'.frames ≡ w.frames → length w'.store.pages ≡ length w.store.pages
     → w'.store.damaged ≡ false → IsAlone w'
 alone_after w w' alone one size frames slots sound = record { one = one; room = omega (arith, alone.room, size, frames); slots = slots ∙ alone.slots; sound = sound }
 
@@ -295,7 +295,7 @@ pub alone_stepped : (w w' : WorldIs MemoryIs) (k : ℕ) → IsAlone w → log_at
     → w'.store ≡ w.store → w'.frames ≡ w.frames → IsAlone w'
 alone_stepped w w' k alone logs boots store frames =
     alone_after w w' alone (still_one w.tenants w'.tenants alone.one boots)
-    (ap (λ (m : Machine). length m.world.memory) (stepped w.tenants w'.tenants k alone.one logs boots) ∙ steps_size k (hosted_of w.tenants).machine) frames
+    (ap (λ (m : Machine). length m.board.memory) (stepped w.tenants w'.tenants k alone.one logs boots) ∙ steps_size k (hosted_of w.tenants).machine) frames
     (ap (λ (s : MemoryIs). length s.pages) store) (ap (λ (s : MemoryIs). s.damaged) store ∙ alone.sound)
 
 pub lacking_still : (ts ts' : List TenantIs) (p : ℕ) → length ts ≡ 1 → Changes NothingHappens 0 ts ts' → IsLacking ts p → IsLacking ts' p
@@ -390,10 +390,10 @@ full_error r log why is full = (λ e. full.0 (ap (error_or why) (sym is ∙ e)),
 not_below : (a b : ℕ) → nat_lt a b ≡ false → a < b → ⊥
 not_below a b e h = grind (arith, nat_tests)
 
-pub accepted : (ts : List TenantIs) (byte : ℕ) → length ts ≡ 1 → length (hosted_of ts).machine.world.devices.console.input < 256
+pub accepted : (ts : List TenantIs) (byte : ℕ) → length ts ≡ 1 → length (hosted_of ts).machine.board.devices.console.input < 256
     → ((t : TenantIs) → accepts (In byte) (view_of (get_or ts 0 t).guest) ≡ false) → ⊥
 accepted [] byte one room refused = absurd (omega (arith, one))
-accepted (t ∷ ts) byte one room refused = not_below (length (view_of t.guest).world.devices.console.input) 256 (refused t) room
+accepted (t ∷ ts) byte one room refused = not_below (length (view_of t.guest).board.devices.console.input) 256 (refused t) room
 
 pub first_tenant : (ts : List TenantIs) → length ts ≡ 1 → TenantIs
 first_tenant [] one = absurd (omega (arith, one))

@@ -4,9 +4,9 @@ use Rattle.items.specs.declared.item.Item.{Item}
 use Rattle.items.specs.declared.entry.Entry.{Entry}
 use Rattle.items.specs.Entries.{step_by, steps_of, items_in, items_of}
 use Rattle.items.proofs.Runs.{steps_of-one, steps_of-join}
-use Rattle.mips_step.specs.Step.{Machine, step}
-use Rattle.flatvm.specs.Items.{run, AllAccepted}
-use Rattle.flatvm.proofs.Runs.{run_append, accepted_append}
+use Rattle.machine.specs.Step.{Machine, step}
+use Rattle.machine.specs.Items.{run, AllAccepted}
+use Rattle.machine.proofs.Runs.{run_append, accepted_append}
 use Rattle.dump.proofs.Counting.{items_from}
 
 -- one step more

@@ -4,9 +4,9 @@ use Rattle.sha2.specs.Sha256.{sha256}
 use Rattle.elf32.specs.declared.image.Image.{Image}
 use Rattle.items.specs.declared.entry.Entry.{Entry}
 use Rattle.items.specs.Entries.{items_of}
-use Rattle.mips_step.specs.Step.{Machine}
-use Rattle.flatvm.specs.Boot.{boot_machine}
-use Rattle.flatvm.specs.Items.{run, AllAccepted}
+use Rattle.machine.specs.Step.{Machine}
+use Rattle.machine.specs.Boot.{boot_machine}
+use Rattle.machine.specs.Items.{run, AllAccepted}
 use Rattle.logfile.specs.Files.{HasHeader, HasEntries}
 use Rattle.commands.specs.declared.exec.Report.{Report}
 use Rattle.commands.specs.declared.order.Exec.{Exec}

@@ -1,13 +1,13 @@
 -- A guest that has a world of its own.
 use Rattle.std.specs.Prelude.{◌≡◌, ◌≢◌, ℕ, ◌*◌, ◌<◌, false, List, [], ◌∷◌, length}
 use Rattle.devices.specs.Devices.{fresh_devices}
-use Rattle.mips_step.specs.Processor.{boot_processor}
-use Rattle.mips_step.specs.Step.{Machine, in_world}
+use Rattle.machine.specs.Processor.{boot_processor}
+use Rattle.machine.specs.Step.{Machine, machine_with}
 use Rattle.guest_log.specs.Logs.{LogIs}
 use Rattle.swapstore.specs.Memories.{MemoryIs}
-use Rattle.physmap.specs.declared.page.Page.{Page}
-use Rattle.physmap.specs.declared.page.PageKind.TheVariants.{Private}
-use Rattle.physmap.specs.Pages.{kind_at}
+use Rattle.guest_pages.specs.declared.page.Page.{Page}
+use Rattle.guest_pages.specs.declared.page.PageKind.TheVariants.{Private}
+use Rattle.guest_pages.specs.Pages.{kind_at}
 use Rattle.guest.specs.Guests.{view_of}
 use Rattle.tenant.specs.Tenants.{TenantIs, pages_in}
 use Rattle.world.specs.Worlds.{WorldIs}
@@ -20,7 +20,7 @@ pub record HostedIs : Type 0 where
 -- what is seen of the first of a world's guests; where there is none, of a machine without memory to which nothing has happened
 abbrev pub hosted_of : List TenantIs → HostedIs
 hosted_of [] = record {
-  machine = in_world (boot_processor 0) (record { memory = []; devices = fresh_devices 0 });
+  machine = machine_with (boot_processor 0) (record { memory = []; devices = fresh_devices 0 });
   log = record { items = []; room = 0; limit = 0 };
 }
 hosted_of (t ∷ ts) = record { machine = view_of t.guest; log = t.guest.log }
@@ -33,7 +33,7 @@ first_pages (t ∷ ts) = pages_in t
 -- a world has one guest, whose memory is less than the frames are, and a store without slots, which none can have damaged
 pub record IsAlone (w : WorldIs MemoryIs) : Type 0 where
   pub one : length w.tenants ≡ 1
-  pub room : length (hosted_of w.tenants).machine.world.memory < w.frames * 4096
+  pub room : length (hosted_of w.tenants).machine.board.memory < w.frames * 4096
   pub slots : length w.store.pages ≡ 0
   pub sound : w.store.damaged ≡ false
 

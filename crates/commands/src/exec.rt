@@ -4,7 +4,7 @@ ghost use Rattle.sha2.specs.Sha256.{sha256};
 ghost use Rattle.elf32.specs.declared.image.Image.{Image};
 ghost use Rattle.elf32.specs.Files.{StandsFor};
 ghost use Rattle.elf32.specs.Images.{FitsPages};
-ghost use Rattle.flatvm.specs.Boot.{boot_machine};
+ghost use Rattle.machine.specs.Boot.{boot_machine};
 ghost use Rattle.commands.specs.Faults.{IsElfRunFault, IsExecFault, IsImageFault, IsRunFault, IsWant};
 ghost use Rattle.commands.specs.Raw.{IsPageCount};
 ghost use Rattle.commands.specs.Runs.{IsImageOf, IsReport, IsReportOf, report_text};
@@ -39,17 +39,17 @@ pub struct Report {
 pub struct Done {
     /// What it prints, and how it went.
     pub report: Report,
-    /// The guest, which has the log; none where the table machine ran.
+    /// The guest, which has the log; none where the reference machine ran.
     pub runner: Option<HostedGuest>,
     /// The SHA-256 digest of the file's bytes, by which a log names the image.
     pub digest: [u8; 32],
 }
 
 /// Runs the image of a file, which begins with this console input, up to the first state that it is to end at, if it comes to one. A fault of the file comes before one of the boot; where
-/// a log is asked of the table machine, or is to be written over the image, that comes before any file is read. The log is
+/// a log is asked of the reference machine, or is to be written over the image, that comes before any file is read. The log is
 /// written after the run. `watch` is told how far the run is.
 ///
-/// An error is `Log` where the table machine is asked for a log; `File` where the image's file can't be read or the log's
+/// An error is `Log` where the reference machine is asked for a log; `File` where the image's file can't be read or the log's
 /// written, and where both are one; `Elf` with the first fault of a file that is no executable for so many pages; `Raw`
 /// where a raw image is empty or longer than the pages; `Boot` where the number of pages is outside its limits, or the
 /// boot was refused memory; `Memory` where another request for memory was refused.
@@ -154,7 +154,7 @@ fn run_guest<'a, W: Watch>(
     })
 }
 
-/// Boots the table machine with the image, and runs it. The errors are those of `run_guest`.
+/// Boots the reference machine with the image, and runs it. The errors are those of `run_guest`.
 fn run_flat<'a, W: Watch>(
     alloc: Global,
     loaded: Loaded,
@@ -212,8 +212,12 @@ fn write_order<'a, R: Files + AllocGlobal>(
     }
 }
 
-/// The image that a file holds, which the pages hold too.
-fn load<'a, F: Read + Drop>(alloc: Global, file: F, order: Exec<'a>) -> Result<Loaded, Fault<'a>>
+/// The image that a file holds, which the pages hold too, and the file's digest.
+///
+/// An error is `File` where the file can't be read; `Elf` with the first fault of a file that is no executable for so many pages; `Raw` where a
+/// raw image is empty or longer than the pages; then `Boot` where the number of pages is outside its limits; `Memory` where a request for memory
+/// was refused.
+pub fn load<'a, F: Read + Drop>(alloc: Global, file: F, order: Exec<'a>) -> Result<Loaded, Fault<'a>>
     ensures stands { IfSome (F.remaining file) (λ all. IfOk result (λ loaded. IsImageOf order.entry.format order.entry.pages all loaded.image)) }
     ensures digest { IfSome (F.remaining file) (λ all. IfOk result (λ loaded. loaded.digest ≡ sha256 all)) }
     ensures fits { IfOk result (λ loaded. FitsPages loaded.image order.entry.pages) }

@@ -45,7 +45,7 @@ pub enum Fault<'a> {
 /// Why a log can't be written or replayed.
 #[derive(Clone, Copy, Debug, PartialEq, Eq)]
 pub enum LogRefusal {
-    /// The table machine keeps no log.
+    /// The reference machine keeps no log.
     Flat,
     /// The file is refused for this fault.
     File(LogFault),

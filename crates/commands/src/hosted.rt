@@ -2,26 +2,26 @@
 ghost use Rattle.std.specs.Prelude.{◌≡◌, ◌+◌, ◌≤◌, ◌<◌, ◌↔◌, [], None, Some, length, IfErr, IfOk, IfSome, OnErr, OnOk, IsErrOf};
 ghost use Rattle.elf32.specs.Images.{FitsPages};
 ghost use Rattle.items.specs.declared.item.What.TheVariants.{In};
-ghost use Rattle.mips_step.specs.Step.{step};
-ghost use Rattle.flatvm.specs.Boot.{boot_machine};
-ghost use Rattle.flatvm.specs.Items.{after};
+ghost use Rattle.machine.specs.Step.{step};
+ghost use Rattle.machine.specs.Boot.{boot_machine};
+ghost use Rattle.machine.specs.Items.{after};
 ghost use Rattle.guest_log.specs.Logs.{IsFull};
 ghost use Rattle.guest_log.specs.declared.stop.Stop.{Stop};
-ghost use Rattle.physmap.specs.Holdings.{private_pages};
+ghost use Rattle.guest_pages.specs.Holdings.{private_pages};
 ghost use Rattle.world.specs.Events.{IsForRoom};
 ghost use Rattle.world.specs.declared.running.RunStop.TheVariants as why;
 ghost use Rattle.commands.specs.Hosted.{first_pages, hosted_of, IsAlone, IsLacking};
 ghost use Rattle.commands.specs.Raw.{IsPageCount};
 ghost use Rattle.commands.specs.Runs.{MayStop};
-ghost use Rattle.flatvm.specs.Replies.{bytes_at};
+ghost use Rattle.machine.specs.Replies.{bytes_at};
 ghost use Rattle.runs.specs.Runs.{after_steps};
 
 use elf32::Image;
-use flatvm::View;
 use guest::{Log, Refused, Stop};
 use items::{Item, SeatNo, What};
-use mips_step::{Ppn, StepOut};
-use paging::SupplyError;
+use machine::{Ppn, StepOut};
+use mips_step::View;
+use page_moves::SupplyError;
 use runs::{NoPlace, Runnable};
 use std::alloc::{AllocError, Global};
 use std::marker::Model;
@@ -67,6 +67,23 @@ impl HostedGuest {
         ensures log { IfOk result (λ r. r.log.items ≡ []) }
         ensures limit { IfOk result (λ r. r.log.limit ≡ 1048576) }
     {
+        let image = Arc::new(alloc, image)?;
+        HostedGuest::boot_shared(alloc, image, pages)
+    }
+
+    /// A guest as an image boots that others boot from too, with a memory of `pages` pages, which hold the image: nothing of it is copied but
+    /// what these pages take. An error says that a request for memory was refused.
+    pub fn boot_shared(
+        alloc: Global,
+        image: Arc<Image, Global>,
+        pages: u32,
+    ) -> Result<HostedGuest, AllocError>
+        requires fits { FitsPages image.value pages }
+        requires legal { IsPageCount pages }
+        ensures machine { IfOk result (λ r. r.machine ≡ boot_machine image.value pages) }
+        ensures log { IfOk result (λ r. r.log.items ≡ []) }
+        ensures limit { IfOk result (λ r. r.log.limit ≡ 1048576) }
+    {
         let world = boot_world(alloc, image, pages)?;
         Ok(HostedGuest { world, alloc })
     }
@@ -99,7 +116,7 @@ impl Runnable for HostedGuest {
     }
 
     fn feed(&mut self, byte: u8) -> Result<(), Stop>
-        requires { length self.old.machine.world.devices.console.input < 256 }
+        requires { length self.old.machine.board.devices.console.input < 256 }
         ensures fed { OnOk result (self.new.machine ≡ after (In byte) self.old.machine) }
         ensures stopped { OnErr result (self.new.machine ≡ self.old.machine) }
         ensures reason { IfErr result (MayStop self.new.log) }
@@ -119,15 +136,18 @@ impl Runnable for HostedGuest {
 }
 
 /// A world of one guest as its image boots.
-fn boot_world(alloc: Global, image: Image, pages: u32) -> Result<World<MemStore>, AllocError>
-    requires fits { FitsPages image pages }
+fn boot_world(
+    alloc: Global,
+    image: Arc<Image, Global>,
+    pages: u32,
+) -> Result<World<MemStore>, AllocError>
+    requires fits { FitsPages image.value pages }
     requires legal { IsPageCount pages }
     ensures alone { IfOk result IsAlone }
-    ensures machine { IfOk result (λ w. (hosted_of w.tenants).machine ≡ boot_machine image pages) }
+    ensures machine { IfOk result (λ w. (hosted_of w.tenants).machine ≡ boot_machine image.value pages) }
     ensures log { IfOk result (λ w. (hosted_of w.tenants).log.items ≡ []) }
     ensures limit { IfOk result (λ w. (hosted_of w.tenants).log.limit ≡ 1048576) }
 {
-    let image = Arc::new(alloc, image)?;
     let guest = NewGuest {
         image,
         pages,
@@ -259,7 +279,7 @@ fn make_steps(alloc: Global, world: &mut World<MemStore>, count: u32) -> (u32, O
 /// The console takes a byte of input, for which it has room, or the guest says why it stops.
 fn take_byte(world: &mut World<MemStore>, byte: u8) -> Result<(), Stop>
     requires alone { IsAlone world.old }
-    requires room { length (hosted_of world.old.tenants).machine.world.devices.console.input < 256 }
+    requires room { length (hosted_of world.old.tenants).machine.board.devices.console.input < 256 }
     ensures alone { IsAlone world.new }
     ensures fed { OnOk result ((hosted_of world.new.tenants).machine ≡ after (In byte) (hosted_of world.old.tenants).machine) }
     ensures stopped { OnErr result ((hosted_of world.new.tenants).machine ≡ (hosted_of world.old.tenants).machine) }

@@ -32,7 +32,7 @@ pub struct Exec<'a> {
     pub pages: u32,
     /// How many steps are to be made.
     pub steps: u32,
-    /// The name of the file that the guest's log is written to after the run, if it is; the table machine has none.
+    /// The name of the file that the guest's log is written to after the run, if it is; the reference machine has none.
     pub log: Option<&'a str>,
 }
 
@@ -106,6 +106,6 @@ pub enum Format {
 pub enum MachineKind {
     /// A guest, which keeps a log.
     Guest,
-    /// The table machine, on one plain memory.
+    /// The reference machine, on one plain memory.
     Flat,
 }

@@ -4,7 +4,7 @@ ghost use Rattle.sha2.specs.Sha256.{sha256};
 ghost use Rattle.elf32.specs.Images.{FitsPages};
 ghost use Rattle.items.specs.Items.{is_step};
 ghost use Rattle.items.specs.Entries.{steps_of, items_in, items_of};
-ghost use Rattle.flatvm.specs.Items.{run, AllAccepted};
+ghost use Rattle.machine.specs.Items.{run, AllAccepted};
 ghost use Rattle.logfile.specs.Files.{HasHeader};
 ghost use Rattle.commands.specs.Faults.{IsReplayFault};
 ghost use Rattle.commands.specs.Raw.{IsPageCount};
@@ -17,9 +17,10 @@ use crate::image_file::{image_in, raw_image_in, whole_file};
 use crate::order::{Format, Replay};
 use dump::dump;
 use elf32::Image;
-use flatvm::{Flat, Rejection};
+use flatvm::Flat;
 use items::{Entry, SeatNo, What};
 use logfile::{check_header, image_digest, read_entries};
+use machine::Rejection;
 use std::alloc::Global;
 use std::fs::File;
 use std::rt::Files;
@@ -33,7 +34,7 @@ pub enum Halt {
     Memory,
 }
 
-/// Replays a log on the table machine that boots its image, and gives the dump of the machine after the log's last item;
+/// Replays a log on the reference machine that boots its image, and gives the dump of the machine after the log's last item;
 /// its steps are those of the log.
 ///
 /// An error is `File` where a file can't be read, the image's before the log's; `Log` with the first fault of the log's

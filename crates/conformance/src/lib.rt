@@ -1,4 +1,4 @@
-//! Programs of the architecture on both machines: the table machine and a guest of a world.
+//! Programs of the architecture on both machines: the reference machine and a guest of a world.
 //!
 //! The crate has tests alone. Each of its programs is a few instructions, with the steps to make and the state that the
 //! machine has to be in after them, worked out from the architecture manual: the general registers, HI and LO, PC, and the

@@ -2,8 +2,8 @@
 use Rattle.std.specs.Prelude.{◌≡◌, List, ◌++◌}
 use mathlib.Core.List.{IsPrefix}
 use Rattle.items.specs.declared.item.Item.{Item}
-use Rattle.loghead.specs.Heads.{SeatIs}
-use Rattle.loghead.specs.Legal.{Legal}
+use Rattle.log_seats.specs.Heads.{SeatIs}
+use Rattle.log_seats.specs.Legal.{Legal}
 
 -- The seat has made items, none perhaps, and has seen a log that begins with what it had seen; if it was legal for what it had seen, it is for
 -- what it has seen now.

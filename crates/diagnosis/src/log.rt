@@ -6,7 +6,7 @@ use word32::word_at;
 
 /// Why a log can't be written or replayed, by the number of the refusal, 0 to 5.
 static REASONS: [&str; 6] = [
-    "the table machine keeps no log: leave out --flat or --log",
+    "the reference machine keeps no log: leave out --flat or --log",
     "the log has fewer than the 40 bytes of a log's header",
     "no log of this program, which begins with MVL1, or its pages are not 2 to 16384",
     "the log is of another image: it has the SHA-256 digest of another file",

@@ -3,9 +3,9 @@ use Rattle.std.specs.Prelude.{ℕ, ◌+◌, List, [], ◌∷◌, ◌++◌, codes
 use Rattle.mips_instr.specs.Operands.{hex_byte}
 use Rattle.mips_cp0.specs.Access.{register_value}
 use Rattle.mips_cp0.specs.declared.register.SystemRegister.TheVariants.{Cause}
-use Rattle.mips_step.specs.Processor.{Processor, reg}
-use Rattle.mips_step.specs.Step.{Machine}
-use Rattle.mips_step.specs.World.{lines_of}
+use Rattle.machine.specs.Processor.{Processor, reg}
+use Rattle.machine.specs.Step.{Machine}
+use Rattle.machine.specs.Board.{lines_of}
 use Rattle.masm.specs.Disassembly.{hex_word}
 use Rattle.guest_log.specs.declared.stop.Stop.{Stop}
 use Rattle.guest_log.specs.Stops.{stop_number}
@@ -66,5 +66,5 @@ steps_text steps = codes "steps " ++ decimal steps ++ codes "\n"
 -- output has, and why it made no more
 abbrev pub dump_text : Machine → ℕ → Option Stop → List ℕ
 dump_text m steps stop =
-    steps_text steps ++ control_text m.cpu ++ lower_registers_text m.cpu ++ upper_registers_text m.cpu ++ system_text (lines_of m.world) m.cpu
-    ++ output_text m.world.devices.console.output ++ stop_text stop
+    steps_text steps ++ control_text m.cpu ++ lower_registers_text m.cpu ++ upper_registers_text m.cpu ++ system_text (lines_of m.board) m.cpu
+    ++ output_text m.board.devices.console.output ++ stop_text stop

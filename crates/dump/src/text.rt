@@ -1,14 +1,13 @@
 //! The dump of a machine.
 ghost use Rattle.std.specs.Prelude.{◌≡◌, ◌+◌, ◌<◌, ◌++◌, IfOk, OnOk, string_bytes};
-ghost use Rattle.mips_step.specs.Step.{Machine};
+ghost use Rattle.machine.specs.Step.{Machine};
 ghost use Rattle.dump.specs.Dumps as spec;
 
-use flatvm::View;
 use guest_log::Stop;
 use masm::{HexByte, HexWord};
 use mips_cp0::SystemRegister;
 use mips_instr::Reg;
-use mips_step::Cpu;
+use mips_step::{Cpu, View};
 use std::alloc::{AllocError, Global};
 
 /// The text of the state that a machine is in after so many steps: a line for each part of it, and last why no more were
@@ -19,7 +18,7 @@ pub fn dump(
     steps: u64,
     stop: Option<Stop>,
 ) -> Result<String, AllocError>
-    ensures { (m : Machine) → view.entry.cpu.now ≡ m.cpu → view.entry.devices.now ≡ m.world.devices
+    ensures { (m : Machine) → view.entry.cpu.now ≡ m.cpu → view.entry.devices.now ≡ m.board.devices
         → IfOk result (λ text. string_bytes text ≡ spec.dump_text m steps stop) }
 {
     let mut out = String::new(alloc);

@@ -6,23 +6,22 @@ ghost use Rattle.dev_console.specs.Console.{input_room};
 ghost use Rattle.devices.specs.Registers.{device_register_at};
 ghost use Rattle.devices.specs.Devices.{device_input_fed, device_output_drained, device_target_set};
 ghost use Rattle.elf32.specs.Images.{IsWithin, FitsPages};
-ghost use Rattle.mips_step.specs.World.{World, first_byte, bytes_of, value_in, limit_of, bytes_after, page_cleared};
-ghost use Rattle.mips_step.specs.World.{register_reach, device_reach, reached_value, world_loaded, world_stored};
-ghost use Rattle.mips_step.specs.Bus.{ready_answer};
-ghost use Rattle.flatvm.specs.Answers.{replied};
-ghost use Rattle.flatvm.specs.Boot.{placed, boot_memory, boot_world};
+ghost use Rattle.machine.specs.Board.{Board, first_byte, bytes_of, value_in, limit_of, bytes_after, page_cleared};
+ghost use Rattle.machine.specs.Board.{register_reach, device_reach, reached_value, board_loaded, board_stored};
+ghost use Rattle.machine.specs.Bus.{ready_answer};
+ghost use Rattle.machine.specs.Answers.{replied};
+ghost use Rattle.machine.specs.Boot.{placed, boot_memory, boot_board};
 
-use crate::{Rejection, Reply};
 use devices::{DeviceRegister, Devices};
 use elf32::{Image, SEGMENT_BASE, Segment};
+use machine::{Kind, PhysBus, Refusal, Rejection, Reply, Size};
 use mips_alu::{store_left, store_right};
-use mips_step::{Kind, PhysBus, Refusal, Size};
 use std::alloc::{AllocError, Global};
 use std::marker::Model;
 use word32::{Ppn, half_at, page_of, put_half, put_word, word_at};
 
 /// A memory of some pages from physical address 0 on, all of which are there, with the devices. In clauses it is a
-/// `World`.
+/// `Board`.
 #[derive(Drop)]
 pub struct FlatBus {
     bytes: Vec<u8>,
@@ -31,9 +30,9 @@ pub struct FlatBus {
 
 impl Model for FlatBus {
     ghost use Rattle.std.specs.Prelude.{◌≡◌, ◌*◌, length};
-    ghost use Rattle.mips_step.specs.World.{World};
+    ghost use Rattle.machine.specs.Board.{Board};
 
-    ghost Value = { World };
+    ghost Value = { Board };
 
     ghost view = { λ b. record { memory = b.bytes.items; devices = b.devices } };
 
@@ -46,7 +45,7 @@ impl FlatBus {
     pub fn boot(alloc: Global, image: &Image, pages: u32) -> Result<FlatBus, AllocError>
         requires fits { FitsPages image.now pages }
         requires few { pages ≤ 2 ^ 20 }
-        ensures { IfOk result (λ bus. bus ≡ boot_world image.now pages) }
+        ensures { IfOk result (λ bus. bus ≡ boot_board image.now pages) }
     {
         let mut bytes = zeroed(alloc, pages as usize * 4096)?;
         place_all(&mut bytes, &image.segments);
@@ -104,7 +103,7 @@ impl FlatBus {
     fn load_register(&mut self, at: u32) -> u32
         ensures value { result ≡ reached_value (register_reach (device_register_at at)) Size.Word at self.old }
         ensures small { result < 2 ^ 32 }
-        ensures after { self.new ≡ world_loaded (register_reach (device_register_at at)) at self.old }
+        ensures after { self.new ≡ board_loaded (register_reach (device_register_at at)) at self.old }
     {
         match DeviceRegister::at(at) {
             Some(register) => self.devices.load(register),
@@ -116,7 +115,7 @@ impl FlatBus {
     #[cold]
     #[inline(never)]
     fn store_register(&mut self, at: u32, value: u32)
-        ensures { self.new ≡ world_stored (register_reach (device_register_at at)) Size.Word value at self.old }
+        ensures { self.new ≡ board_stored (register_reach (device_register_at at)) Size.Word value at self.old }
     {
         if let Some(register) = DeviceRegister::at(at) {
             if let Some(page) = self.devices.store(register, value) {
@@ -235,7 +234,7 @@ fn clear_page(memory: &mut [u8], page: Ppn)
 impl PhysBus for FlatBus {
     type Kept = ();
 
-    ghost world = { λ b. b };
+    ghost board = { λ b. b };
 
     ghost kept = { λ b. tt };
 
@@ -289,7 +288,7 @@ impl PhysBus for FlatBus {
     }
 
     #[inline(always)]
-    #[tactic(auto, using(mips_step::proofs::Shown::plain_memory_stored))]
+    #[tactic(auto, using(machine::proofs::Plain::plain_memory_stored))]
     fn store_plain(&mut self, at: u32, size: Size, value: u32) {
         put_value(&mut self.bytes, size, at, value);
     }

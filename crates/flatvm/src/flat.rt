@@ -1,31 +1,23 @@
-//! The table machine.
+//! The reference machine.
 ghost use Rattle.std.specs.Prelude.{◌≡◌, ◌≤◌, ◌^◌, ◌↔◌, ℕ, true, false, IfOk, OnOk, OnErr, IsErrOf};
 ghost use Rattle.elf32.specs.Images.{FitsPages};
-ghost use Rattle.mips_step.specs.Step.{Machine, in_world, step};
+ghost use Rattle.machine.specs.Step.{Machine, machine_with, step};
 ghost use Rattle.items.specs.declared.item.What.TheVariants.{Drain};
-ghost use Rattle.flatvm.specs.Answers.{replied};
-ghost use Rattle.flatvm.specs.Boot.{boot_machine};
-ghost use Rattle.flatvm.specs.Items.{accepts, after, reply};
-ghost use Rattle.flatvm.specs.Replies.{probe};
+ghost use Rattle.machine.specs.Answers.{replied};
+ghost use Rattle.machine.specs.Boot.{boot_machine};
+ghost use Rattle.machine.specs.Items.{accepts, after, reply};
+ghost use Rattle.machine.specs.Replies.{probe};
 
-use crate::{FlatBus, Rejection, Reply, debug};
+use crate::FlatBus;
 use devices::Devices;
 use elf32::Image;
 use items::What;
-use mips_step::{Cpu, StepOut};
+use machine::{Rejection, Reply, StepOut};
+use mips_step::{Cpu, View, debug};
 use std::alloc::{AllocError, Global};
 use std::marker::Model;
 
-/// What is seen of a machine beside its memory.
-#[derive(Clone, Copy)]
-pub struct View<'a> {
-    /// The processor.
-    pub cpu: &'a Cpu,
-    /// The console, and the balloon with the pages that were given to it.
-    pub devices: &'a Devices,
-}
-
-/// The table machine: a processor over one plain memory with its devices. In clauses it is a `Machine`.
+/// The reference machine: a processor over one plain memory with its devices. In clauses it is a `Machine`.
 #[derive(Drop)]
 pub struct Flat {
     cpu: Cpu,
@@ -33,11 +25,11 @@ pub struct Flat {
 }
 
 impl Model for Flat {
-    ghost use Rattle.mips_step.specs.Step.{Machine, in_world};
+    ghost use Rattle.machine.specs.Step.{Machine, machine_with};
 
     ghost Value = { Machine };
 
-    ghost view = { λ f. in_world f.cpu f.bus };
+    ghost view = { λ f. machine_with f.cpu f.bus };
 }
 
 impl Flat {
@@ -89,7 +81,7 @@ impl Flat {
     /// What is seen of the machine beside its memory.
     pub fn view(&self) -> View<'_>
         ensures cpu { result.cpu.now ≡ self.now.cpu }
-        ensures devices { result.devices.now ≡ self.now.world.devices }
+        ensures devices { result.devices.now ≡ self.now.board.devices }
     {
         View {
             cpu: &self.cpu,

@@ -2,11 +2,12 @@
 //! the manual encodes it to, with its text beside; what it leads to is worked out by hand.
 ghost use Rattle.std.specs.Prelude.{◌<◌};
 
-use crate::{Flat, FlatBus, Rejection, Reply, debug};
+use crate::{Flat, FlatBus};
 use elf32::Image;
 use items::{DebugRegister, What, WriteBytes};
+use machine::{Rejection, Reply, StepOut};
 use mips_instr::Reg;
-use mips_step::{Cpu, StepOut};
+use mips_step::{Cpu, debug};
 use std::fmt::Debug;
 use std::process::Abort;
 use std::test::Fail;

@@ -5,23 +5,23 @@ use Rattle.word32.specs.Zeros.{zeros}
 use Rattle.elf32.specs.declared.image.Segment.{Segment}
 use Rattle.elf32.specs.declared.image.Image.{Image}
 use Rattle.elf32.specs.Images.{IsWithin, FitsPages}
-use Rattle.mips_step.specs.World.{page_bytes}
-use Rattle.mips_step.proofs.Clearing.{length-zeros}
-use Rattle.mips_step.proofs.Pages.{patched_stored}
-use Rattle.flatvm.specs.Boot.{placed, boot_memory}
+use Rattle.machine.specs.Board.{page_bytes}
+use Rattle.machine.proofs.Clearing.{length-zeros}
+use Rattle.machine.proofs.Pages.{patched_stored}
+use Rattle.machine.specs.Boot.{placed, boot_memory}
 use Rattle.word32.specs.Words.{patched}
 use Rattle.frames.specs.Frames.{FrameIs}
-use Rattle.mips_step.specs.World.{World}
-use Rattle.physmap.specs.declared.page.Page.{Page}
-use Rattle.physmap.specs.declared.page.Page.TheVariants as page
-use Rattle.physmap.specs.declared.page.PageKind.TheVariants.{Private}
-use Rattle.physmap.specs.Pages.{page_at, kind_at, own_frame, memory_of, AreWhole}
-use Rattle.physmap.specs.Outline.{outlined, outline}
-use Rattle.physmap.proofs.Outlines.{outline_same}
-use Rattle.physmap.proofs.Replacing.{memory_patched, whole_set}
-use Rattle.physmap.proofs.Same.{same_pages}
-use Rattle.paging.proofs.Exchanging.{private_is}
-use Rattle.paged_bus.specs.Buses.{PagedBusIs, IsSettled, world_of, with_page}
+use Rattle.machine.specs.Board.{Board}
+use Rattle.guest_pages.specs.declared.page.Page.{Page}
+use Rattle.guest_pages.specs.declared.page.Page.TheVariants as page
+use Rattle.guest_pages.specs.declared.page.PageKind.TheVariants.{Private}
+use Rattle.guest_pages.specs.Pages.{page_at, kind_at, own_frame, memory_of, AreWhole}
+use Rattle.guest_pages.specs.Outline.{outlined, outline}
+use Rattle.guest_pages.proofs.Outlines.{outline_same}
+use Rattle.guest_pages.proofs.Replacing.{memory_patched, whole_set}
+use Rattle.guest_pages.proofs.Same.{same_pages}
+use Rattle.page_moves.proofs.Exchanging.{private_is}
+use Rattle.guest_bus.specs.Buses.{GuestBusIs, IsSettled, board_of, with_page}
 use Rattle.guest.specs.Loading.{segment_reaches, IsBeside, IsBootPage}
 use Rattle.guest.proofs.PartOfPage.{beside_page}
 use Rattle.guest.proofs.Showing.{settled_memory}
@@ -102,21 +102,21 @@ beside_is_zeros image pages p there fits beside =
 
 -- ---- a page whose frame gets those bytes
 
-module _ (b new : PagedBusIs) (p at : ℕ) (bytes boot : List ℕ) (whole : AreWhole b.pages) (whole_new : AreWhole new.pages) (settled : IsSettled b) (settled_new : IsSettled new) where
+module _ (b new : GuestBusIs) (p at : ℕ) (bytes boot : List ℕ) (whole : AreWhole b.pages) (whole_new : AreWhole new.pages) (settled : IsSettled b) (settled_new : IsSettled new) where
   pub page_loaded : p < length b.pages → kind_at b.pages p ≡ Private → outline new.pages ≡ outline b.pages → at ≡ p * 4096
-      → world_of new ≡ record (world_of b) { memory = patched (world_of b).memory at bytes (length bytes) } → length bytes ≡ 4096 → bytes ≡ boot
+      → board_of new ≡ record (board_of b) { memory = patched (board_of b).memory at bytes (length bytes) } → length bytes ≡ 4096 → bytes ≡ boot
       → new ≡ with_page p (page.Private (record { number = (own_frame (page_at b.pages p)).number; bytes = boot })) b
-  page_loaded there private out place world long is =
+  page_loaded there private out place board long is =
       let frame : FrameIs = record { number = (own_frame (page_at b.pages p)).number; bytes = bytes } in
       let loaded : Page = page.Private frame in
       let same_out : outlined loaded ≡ outlined (page_at b.pages p) = sym (ap outlined (private_is (page_at b.pages p) private)) in
       let memory : memory_of new.pages ≡ memory_of (set b.pages p loaded) =
-      sym (settled_memory new settled_new) ∙ ap (λ (w : World). w.memory) world
+      sym (settled_memory new settled_new) ∙ ap (λ (w : Board). w.memory) board
       ∙ (λ i. patched (settled_memory b settled i) (place i) bytes (long i))
       ∙ sym (memory_patched b.pages p loaded whole there) in
       let pages : new.pages ≡ set b.pages p loaded =
       same_pages new.pages (set b.pages p loaded) whole_new (whole_set b.pages p loaded whole long) (out ∙ sym (outline_same b.pages p loaded same_out)) memory in
-      let devices : new.devices ≡ b.devices = ap (λ (w : World). w.devices) world in
+      let devices : new.devices ≡ b.devices = ap (λ (w : Board). w.devices) board in
       let waiting : new.waiting ≡ b.waiting = settled_new ∙ sym settled in
       (λ i. record { pages = pages i; devices = devices i; waiting = waiting i })
       ∙ ap (λ (xs : List ℕ). with_page p (page.Private (record { number = (own_frame (page_at b.pages p)).number; bytes = xs })) b) is

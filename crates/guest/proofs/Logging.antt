@@ -2,12 +2,12 @@
 use Rattle.std.proofs.Common.{◌≡◌, true, List, [], ◌∷◌, ◌++◌, ℕ, sym, ap, subst, ◌∙◌}
 use Rattle.items.specs.declared.item.Item.{Item}
 use Rattle.elf32.specs.declared.image.Image.{Image}
-use Rattle.mips_step.specs.Agreeing.{GivenAreZeros}
-use Rattle.mips_step.specs.Step.{Machine}
-use Rattle.flatvm.specs.Boot.{boot_machine}
-use Rattle.flatvm.specs.Items.{accepts, after, run, AllAccepted}
-use Rattle.flatvm.proofs.Runs.{run_append, accepted_append}
-use Rattle.flatvm.proofs.Given.{boot_zeros, run_zeros}
+use Rattle.machine.specs.Agreeing.{GivenAreZeros}
+use Rattle.machine.specs.Step.{Machine}
+use Rattle.machine.specs.Boot.{boot_machine}
+use Rattle.machine.specs.Items.{accepts, after, run, AllAccepted}
+use Rattle.machine.proofs.Runs.{run_append, accepted_append}
+use Rattle.machine.proofs.GivenPages.{boot_zeros, run_zeros}
 
 -- the view after one more item
 pub run_more : (items now : List Item) (i : Item) (boot : Machine) → now ≡ items ++ i ∷ [] → run now boot ≡ after i.what (run items boot)
@@ -22,5 +22,5 @@ pub run_on : (items now more : List Item) (boot : Machine) → now ≡ items ++ 
 run_on items now more boot e = ap (λ (xs : List Item). run xs boot) e ∙ run_append items more boot
 
 -- in a view each page that is given is zeros
-pub view_zeros : (items : List Item) (image : Image) (pages : ℕ) → GivenAreZeros (run items (boot_machine image pages)).world
+pub view_zeros : (items : List Item) (image : Image) (pages : ℕ) → GivenAreZeros (run items (boot_machine image pages)).board
 view_zeros items image pages = run_zeros items (boot_machine image pages) (boot_zeros image pages)

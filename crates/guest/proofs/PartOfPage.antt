@@ -5,9 +5,9 @@ use Rattle.std.proofs.lemmas.Bool.{cases_lt}
 use Rattle.word32.specs.Words.{patched}
 use Rattle.elf32.specs.declared.image.Segment.{Segment}
 use Rattle.elf32.specs.Images.{IsWithin}
-use Rattle.flatvm.specs.Boot.{placed}
-use Rattle.mips_step.specs.World.{page_bytes}
-use Rattle.mips_step.proofs.Pages.{Stored, length-page, page_place, same_page, patched_stored}
+use Rattle.machine.specs.Boot.{placed}
+use Rattle.machine.specs.Board.{page_bytes}
+use Rattle.machine.proofs.Pages.{Stored, length-page, page_place, same_page, patched_stored}
 
 module _ (p at n : ℕ) (memory bytes : List ℕ) (long : length bytes ≡ n) (fits : at + n ≤ length memory) (inside : p * 4096 + 4096 ≤ length memory) where
   abbrev start : ℕ

@@ -14,19 +14,19 @@ use Rattle.mips_tlb.specs.declared.kind.Kind.TheVariants.{Load}
 use Rattle.mips_tlb.specs.Entries.{matches}
 use Rattle.mips_tlb.specs.Segments.{is_mapped, unmapped_address}
 use Rattle.mips_tlb.specs.Translation.{half_of, through_half, through_entry, answer_of, probed}
-use Rattle.mips_step.specs.Processor.{Processor}
-use Rattle.mips_step.specs.World.{World}
-use Rattle.mips_step.specs.Step.{Machine, in_world}
-use Rattle.flatvm.specs.Replies.{in_memory, probe, byte_in, byte_at, with_next, bytes_at, SomePlaceIn}
-use Rattle.flatvm.proofs.Replies.{moved, one_more}
-use Rattle.flatvm.proofs.Bytes.{not_readable}
-use Rattle.flatvm.proofs.Writing.{place_same}
+use Rattle.machine.specs.Processor.{Processor}
+use Rattle.machine.specs.Board.{Board}
+use Rattle.machine.specs.Step.{Machine, machine_with}
+use Rattle.machine.specs.Replies.{in_memory, probe, byte_in, byte_at, with_next, bytes_at, SomePlaceIn}
+use Rattle.machine.proofs.Replies.{moved, one_more}
+use Rattle.machine.proofs.Bytes.{not_readable}
+use Rattle.machine.proofs.Writing.{place_same}
 use Rattle.guest.specs.Guests.{GuestIs, view_of, standing, without_pages, Intact, IsSized, LiesIn}
 use Rattle.guest.proofs.Happening.{inside, placed_same}
 use Rattle.guest.proofs.Showing.{settled_memory}
-use Rattle.physmap.specs.Pages.{AreWhole}
-use Rattle.physmap.proofs.Memory.{length_of_memory}
-use Rattle.paged_bus.specs.Buses.{PagedBusIs, IsSettled, world_of}
+use Rattle.guest_pages.specs.Pages.{AreWhole}
+use Rattle.guest_pages.proofs.Memory.{length_of_memory}
+use Rattle.guest_bus.specs.Buses.{GuestBusIs, IsSettled, board_of}
 
 -- ---- addresses of one page lead to one page
 
@@ -107,7 +107,7 @@ found_before memory (Some place) at e = by_test (nat_lt place (length memory)) e
 
 one_page : (m : Machine) (a b page page' : ℕ) → a / 4096 ≡ b / 4096 → LiesIn m a page → LiesIn m b page' → page ≡ page'
 one_page m a b page page' same (at, found, is) (at', found', is') =
-    let places = probed_same a b same m.cpu.tlb m.cpu.cp0 at at' (found_before m.world.memory (probed m.cpu.tlb m.cpu.cp0 a) at found) (found_before m.world.memory (probed m.cpu.tlb m.cpu.cp0 b) at' found') in
+    let places = probed_same a b same m.cpu.tlb m.cpu.cp0 at at' (found_before m.board.memory (probed m.cpu.tlb m.cpu.cp0 a) at found) (found_before m.board.memory (probed m.cpu.tlb m.cpu.cp0 b) at' found') in
     sym is ∙ places ∙ is'
 
 -- ---- the pages of the first byte and of the last
@@ -153,22 +153,22 @@ turned m address count first last reached page = (
         ]
 
 -- a place in memory lies in one of its pages
-pub inside_pages : (m : Machine) (address page count : ℕ) → length m.world.memory ≡ count * 4096 → LiesIn m address page → page < count
+pub inside_pages : (m : Machine) (address page count : ℕ) → length m.board.memory ≡ count * 4096 → LiesIn m address page → page < count
 inside_pages m address page count size (at, found, is) =
-    let below = inside m.world.memory (probed m.cpu.tlb m.cpu.cp0 address) at found in
+    let below = inside m.board.memory (probed m.cpu.tlb m.cpu.cp0 address) at found in
     omega (arith, below, size, is)
 
-pub sized : (b : PagedBusIs) → AreWhole b.pages → IsSettled b → length (world_of b).memory ≡ length b.pages * 4096
+pub sized : (b : GuestBusIs) → AreWhole b.pages → IsSettled b → length (board_of b).memory ≡ length b.pages * 4096
 sized b whole settled = ap length (settled_memory b settled) ∙ length_of_memory b.pages whole
 
 -- ---- guests of which only pages move, and their views
 
-pub standing_sized : (g : GuestIs) → Intact g → IsSized g → length (view_of g).world.memory ≡ length (standing g).world.memory
+pub standing_sized : (g : GuestIs) → Intact g → IsSized g → length (view_of g).board.memory ≡ length (standing g).board.memory
 standing_sized g intact sized = intact.shows.size ∙ sym sized
 
 -- ---- machines of one processor whose memories have one size
 
-pub places_alike : (cpu : Processor) (a b : World) → length b.memory ≡ length a.memory → (address count page : ℕ) → SomePlaceIn (in_world cpu a) address count page → SomePlaceIn (in_world cpu b) address count page
+pub places_alike : (cpu : Processor) (a b : Board) → length b.memory ≡ length a.memory → (address count page : ℕ) → SomePlaceIn (machine_with cpu a) address count page → SomePlaceIn (machine_with cpu b) address count page
 places_alike cpu a b size address count page (k, at, below, found, is) = (k, at, below, place_same cpu a b (moved address k) size ∙ found, is)
 
 none_by : (x y : Option (List ℕ)) → is_some x ≡ is_some y → x ≡ None → y ≡ None
@@ -178,9 +178,9 @@ none_by x (Some bytes) same none = absurd (no_true (sym same ∙ ap is_some none
     no_true : true ≡ false → ⊥
     no_true e = cc
 
-pub none_alike : (cpu : Processor) (a b : World) → length b.memory ≡ length a.memory → (address count : ℕ) → bytes_at (in_world cpu a) address count ≡ None → bytes_at (in_world cpu b) address count ≡ None
+pub none_alike : (cpu : Processor) (a b : Board) → length b.memory ≡ length a.memory → (address count : ℕ) → bytes_at (machine_with cpu a) address count ≡ None → bytes_at (machine_with cpu b) address count ≡ None
 none_alike cpu a b size address count none =
-    none_by (bytes_at (in_world cpu a) address count) (bytes_at (in_world cpu b) address count) (sym (placed_same cpu a b address count size)) none
+    none_by (bytes_at (machine_with cpu a) address count) (bytes_at (machine_with cpu b) address count) (sym (placed_same cpu a b address count size)) none
 
 -- ---- one byte more
 
@@ -190,7 +190,7 @@ no_bytes (Some bytes) e = absurd (cc)
 
 pub none_at : (m : Machine) (address k count : ℕ) → k < count → probe m (moved address k) ≡ None → bytes_at m address count ≡ None
 none_at m address k count below none =
-    no_bytes (bytes_at m address count) (not_readable m address k count below (ap (λ (place : Option ℕ). is_some (byte_in m.world.memory place)) none))
+    no_bytes (bytes_at m address count) (not_readable m address k count below (ap (λ (place : Option ℕ). is_some (byte_in m.board.memory place)) none))
 
 next_placed : (before : Option (List ℕ)) (byte : Option ℕ) → is_some before ≡ true → is_some byte ≡ true → is_some (with_next before byte) ≡ true
 next_placed None byte e f = absurd (cc)
@@ -200,7 +200,7 @@ next_placed (Some bytes) (Some byte) e f = refl
 pub more_placed : (m : Machine) (address k page : ℕ) → is_some (bytes_at m address k) ≡ true → LiesIn m (moved address k) page → is_some (bytes_at m address (k + 1)) ≡ true
 more_placed m address k page before (at, found, is) =
     ap is_some (one_more m address k)
-    ∙ next_placed (bytes_at m address k) (byte_at m (moved address k)) before (ap (λ (place : Option ℕ). is_some (byte_in m.world.memory place)) found)
+    ∙ next_placed (bytes_at m address k) (byte_at m (moved address k)) before (ap (λ (place : Option ℕ). is_some (byte_in m.board.memory place)) found)
 
 pub first_placed : (m : Machine) (address page : ℕ) → LiesIn m (moved address 0) page → is_some (bytes_at m address 1) ≡ true
 first_placed m address page lies = more_placed m address 0 page refl lies
@@ -209,37 +209,37 @@ first_placed m address page lies = more_placed m address 0 page refl lies
 pub at_address : (m : Machine) (address page : ℕ) → address < 2 ^ 32 → LiesIn m address page → LiesIn m (moved address 0) page
 at_address m address page small lies = let same : moved address 0 ≡ address = omega (arith, small) in subst (λ (a : ℕ). LiesIn m a page) (sym same) lies
 
-same_processor : (P : Machine → Type 0) (cpu cpu' : Processor) (w : World) → cpu ≡ cpu' → P (in_world cpu w) → P (in_world cpu' w)
-same_processor P cpu cpu' w same p = subst (λ (c : Processor). P (in_world c w)) same p
+same_processor : (P : Machine → Type 0) (cpu cpu' : Processor) (w : Board) → cpu ≡ cpu' → P (machine_with cpu w) → P (machine_with cpu' w)
+same_processor P cpu cpu' w same p = subst (λ (c : Processor). P (machine_with c w)) same p
 
 -- the places of an intact guest are those of its view
 pub view_none : (g : GuestIs) (address count : ℕ) → Intact g → IsSized g → (bytes_at (standing g) address count ≡ None) ↔ (bytes_at (view_of g) address count ≡ None)
 view_none g address count intact sized =
     let v = view_of g in
     let size = standing_sized g intact sized in (
-      λ none. same_processor (λ (m : Machine). bytes_at m address count ≡ None) g.cpu v.cpu v.world intact.shows.cpu (none_alike g.cpu (world_of g.bus) v.world size address count none),
-      λ none. none_alike g.cpu v.world (world_of g.bus) (sym size) address count (same_processor (λ (m : Machine). bytes_at m address count ≡ None) v.cpu g.cpu v.world (sym intact.shows.cpu) none),
+      λ none. same_processor (λ (m : Machine). bytes_at m address count ≡ None) g.cpu v.cpu v.board intact.shows.cpu (none_alike g.cpu (board_of g.bus) v.board size address count none),
+      λ none. none_alike g.cpu v.board (board_of g.bus) (sym size) address count (same_processor (λ (m : Machine). bytes_at m address count ≡ None) v.cpu g.cpu v.board (sym intact.shows.cpu) none),
     )
 
 pub view_places : (g : GuestIs) (address count page : ℕ) → Intact g → IsSized g → SomePlaceIn (standing g) address count page ↔ SomePlaceIn (view_of g) address count page
 view_places g address count page intact sized =
     let v = view_of g in
     let size = standing_sized g intact sized in (
-      λ some. same_processor (λ (m : Machine). SomePlaceIn m address count page) g.cpu v.cpu v.world intact.shows.cpu (places_alike g.cpu (world_of g.bus) v.world size address count page some),
-      λ some. places_alike g.cpu v.world (world_of g.bus) (sym size) address count page (same_processor (λ (m : Machine). SomePlaceIn m address count page) v.cpu g.cpu v.world (sym intact.shows.cpu) some),
+      λ some. same_processor (λ (m : Machine). SomePlaceIn m address count page) g.cpu v.cpu v.board intact.shows.cpu (places_alike g.cpu (board_of g.bus) v.board size address count page some),
+      λ some. places_alike g.cpu v.board (board_of g.bus) (sym size) address count page (same_processor (λ (m : Machine). SomePlaceIn m address count page) v.cpu g.cpu v.board (sym intact.shows.cpu) some),
     )
 
 -- and they stay where only pages move
 pub moved_none : (g g' : GuestIs) (address count : ℕ) → without_pages g' ≡ without_pages g → length g'.bus.pages ≡ length g.bus.pages → IsSized g → IsSized g'
     → bytes_at (standing g') address count ≡ None → bytes_at (standing g) address count ≡ None
 moved_none g g' address count rest pages sized sized' none =
-    let size : length (standing g').world.memory ≡ length (standing g).world.memory = omega (arith, pages, sized, sized') in
-    none_alike g.cpu (world_of g'.bus) (world_of g.bus) (sym size) address count
-    (same_processor (λ (m : Machine). bytes_at m address count ≡ None) g'.cpu g.cpu (world_of g'.bus) (ap (λ (x : GuestIs). x.cpu) rest) none)
+    let size : length (standing g').board.memory ≡ length (standing g).board.memory = omega (arith, pages, sized, sized') in
+    none_alike g.cpu (board_of g'.bus) (board_of g.bus) (sym size) address count
+    (same_processor (λ (m : Machine). bytes_at m address count ≡ None) g'.cpu g.cpu (board_of g'.bus) (ap (λ (x : GuestIs). x.cpu) rest) none)
 
 pub moved_places : (g g' : GuestIs) (address count page : ℕ) → without_pages g' ≡ without_pages g → length g'.bus.pages ≡ length g.bus.pages → IsSized g → IsSized g'
     → SomePlaceIn (standing g') address count page → SomePlaceIn (standing g) address count page
 moved_places g g' address count page rest pages sized sized' some =
-    let size : length (standing g').world.memory ≡ length (standing g).world.memory = omega (arith, pages, sized, sized') in
-    places_alike g.cpu (world_of g'.bus) (world_of g.bus) (sym size) address count page
-    (same_processor (λ (m : Machine). SomePlaceIn m address count page) g'.cpu g.cpu (world_of g'.bus) (ap (λ (x : GuestIs). x.cpu) rest) some)
+    let size : length (standing g').board.memory ≡ length (standing g).board.memory = omega (arith, pages, sized, sized') in
+    places_alike g.cpu (board_of g'.bus) (board_of g.bus) (sym size) address count page
+    (same_processor (λ (m : Machine). SomePlaceIn m address count page) g'.cpu g.cpu (board_of g'.bus) (ap (λ (x : GuestIs). x.cpu) rest) some)

@@ -7,29 +7,29 @@ use Rattle.items.specs.Entries.{steps_of}
 use Rattle.items.proofs.Runs.{steps_of-join}
 use Rattle.devices.specs.Devices.{DevicesAre}
 use Rattle.dev_balloon.specs.Balloon.{is_given}
-use Rattle.mips_step.specs.Bus.{Lacks}
-use Rattle.mips_step.specs.Processor.{Processor}
-use Rattle.mips_step.specs.World.{World, is_given_page}
-use Rattle.mips_step.specs.Step.{Machine, in_world, step}
-use Rattle.mips_step.specs.Accesses.{Access, accesses, first_lack}
-use Rattle.mips_step.specs.Agreeing.{Agree, Within, StoresTo, GivenAreZeros}
-use Rattle.mips_step.specs.Given.{step_given}
-use Rattle.mips_step.proofs.Agreeing.{step_alike}
-use Rattle.mips_step.proofs.Alike.{Alike}
-use Rattle.mips_step.proofs.OtherPages.{step_stays, zeros_stay}
-use Rattle.mips_step.proofs.Pages.{length-page}
-use Rattle.mips_step.proofs.StepGiven.{newly_given}
-use Rattle.mips_run.specs.Runs.{steps, IsQuiet, AreQuiet}
-use Rattle.flatvm.specs.Items.{run}
-use Rattle.flatvm.proofs.Runs.{run_append}
-use Rattle.flatvm.proofs.Given.{run_zeros}
-use Rattle.physmap.specs.declared.page.Page.{Page}
-use Rattle.physmap.specs.declared.page.PageKind.TheVariants.{Swapped}
-use Rattle.physmap.specs.Pages.{kind_at, AreWhole}
-use Rattle.physmap.specs.Outline.{outline}
-use Rattle.paging.specs.Faith.{Kept}
-use Rattle.paged_bus.specs.Buses.{PagedBusIs, IsSettled, world_of}
-use Rattle.paged_bus.specs.Lacking.{lacks_in}
+use Rattle.machine.specs.Bus.{Lacks}
+use Rattle.machine.specs.Processor.{Processor}
+use Rattle.machine.specs.Board.{Board, is_given_page}
+use Rattle.machine.specs.Step.{Machine, machine_with, step}
+use Rattle.machine.specs.Accesses.{Access, accesses, first_lack}
+use Rattle.machine.specs.Agreeing.{Agree, Within, StoresTo, GivenAreZeros}
+use Rattle.machine.specs.Given.{step_given}
+use Rattle.machine.proofs.Agreeing.{step_alike}
+use Rattle.machine.proofs.Alike.{Alike}
+use Rattle.machine.proofs.OtherPages.{step_stays, zeros_stay}
+use Rattle.machine.proofs.Pages.{length-page}
+use Rattle.machine.proofs.StepGiven.{newly_given}
+use Rattle.mips_fast.specs.Runs.{steps, IsQuiet, AreQuiet}
+use Rattle.machine.specs.Items.{run}
+use Rattle.machine.proofs.Runs.{run_append}
+use Rattle.machine.proofs.GivenPages.{run_zeros}
+use Rattle.guest_pages.specs.declared.page.Page.{Page}
+use Rattle.guest_pages.specs.declared.page.PageKind.TheVariants.{Swapped}
+use Rattle.guest_pages.specs.Pages.{kind_at, AreWhole}
+use Rattle.guest_pages.specs.Outline.{outline}
+use Rattle.page_moves.specs.Faith.{Kept}
+use Rattle.guest_bus.specs.Buses.{GuestBusIs, IsSettled, board_of}
+use Rattle.guest_bus.specs.Lacking.{lacks_in}
 use Rattle.guest.specs.declared.progress.Pause.{Pause}
 use Rattle.guest.specs.declared.progress.Pause.TheVariants as pause
 use Rattle.guest.specs.Guests.{IsMade, steps_by}
@@ -42,9 +42,9 @@ use Rattle.guest.proofs.Running.{no_step, one_more}
 -- What is so of a processor over pages and of the machine whose they are, after as many steps of both: `first` is the machine before them.
 pub record Together (pages : List Page) (first a m : Machine) : Type 0 where
   pub cpu : a.cpu ≡ m.cpu
-  pub agree : Agree (here pages) a.world m.world
-  pub zeros_given : GivenAreZeros m.world
-  pub size : length m.world.memory ≡ length first.world.memory
+  pub agree : Agree (here pages) a.board m.board
+  pub zeros_given : GivenAreZeros m.board
+  pub size : length m.board.memory ≡ length first.board.memory
   pub away : (p : ℕ) → kind_at pages p ≡ Swapped → pages_seen m p ≡ pages_seen first p
 
 -- one step more
@@ -52,17 +52,17 @@ module _ (pages : List Page) (first a m : Machine) (before : Together pages firs
   within : Within (here pages) (accesses a)
   within = within_here pages (accesses a) quiet.lacking
 
-  same_machine : in_world a.cpu m.world ≡ m
-  same_machine = ap (λ (c : Processor). in_world c m.world) before.cpu
+  same_machine : machine_with a.cpu m.board ≡ m
+  same_machine = ap (λ (c : Processor). machine_with c m.board) before.cpu
 
   alike : Alike (here pages) (accesses a) (accesses m) (step a) (step m)
-  alike = subst (λ (n : Machine). Alike (here pages) (accesses a) (accesses n) (step a) (step n)) same_machine (step_alike (here pages) a.cpu a.world m.world before.agree within)
+  alike = subst (λ (n : Machine). Alike (here pages) (accesses a) (accesses n) (step a) (step n)) same_machine (step_alike (here pages) a.cpu a.board m.board before.agree within)
 
-  given_before : (p : ℕ) → is_given_page p a.world ≡ is_given_page p m.world
+  given_before : (p : ℕ) → is_given_page p a.board ≡ is_given_page p m.board
   given_before p = ap (λ (d : DevicesAre). is_given p d.balloon) (sym before.agree.devices)
 
-  given_after : (p : ℕ) → is_given_page p (step a).world ≡ is_given_page p (step m).world
-  given_after p = ap (λ (d : DevicesAre). is_given p d.balloon) (sym alike.world.devices)
+  given_after : (p : ℕ) → is_given_page p (step a).board ≡ is_given_page p (step m).board
+  given_after p = ap (λ (d : DevicesAre). is_given p d.balloon) (sym alike.board.devices)
 
   avoided : (p : ℕ) → kind_at pages p ≡ Swapped → All (λ (x : Access). StoresTo p x → ⊥) (accesses m)
   avoided p swapped = subst (λ (xs : List Access). All (λ (x : Access). StoresTo p x → ⊥) xs) (sym alike.accesses) not_there
@@ -71,19 +71,19 @@ module _ (pages : List Page) (first a m : Machine) (before : Together pages firs
       not_there k d h stores =
           here_not_swapped pages p (subst (λ (q : ℕ). IsTrue (here pages q)) stores.its_page (within k d h)) swapped
 
-  memory_size : length (step m).world.memory ≡ length m.world.memory
+  memory_size : length (step m).board.memory ≡ length m.board.memory
   memory_size = (step_stays m 0).size
 
   page_size : (p : ℕ) → length (pages_seen (step m) p) ≡ length (pages_seen m p)
   page_size p =
-      length-page p (step m).world.memory ∙ ap (λ (n : ℕ). min 4096 (n - p * 4096)) memory_size ∙ sym (length-page p m.world.memory)
+      length-page p (step m).board.memory ∙ ap (λ (n : ℕ). min 4096 (n - p * 4096)) memory_size ∙ sym (length-page p m.board.memory)
 
   none_is_some : (p : ℕ) → step_given a ≡ Some p → ⊥
   none_is_some p e =
       let not : None ≡ Some p = sym quiet.given ∙ e in
       absurd (cc)
 
-  stays_by : (p : ℕ) → kind_at pages p ≡ Swapped → (was is : Bool) → is_given_page p m.world ≡ was → is_given_page p (step m).world ≡ is
+  stays_by : (p : ℕ) → kind_at pages p ≡ Swapped → (was is : Bool) → is_given_page p m.board ≡ was → is_given_page p (step m).board ≡ is
       → pages_seen (step m) p ≡ pages_seen m p
   stays_by p swapped was false e f = (step_stays m p).bytes (avoided p swapped) f
   stays_by p swapped false true e f = absurd (none_is_some p (newly_given a p (given_before p ∙ e, given_after p ∙ f)))
@@ -93,10 +93,10 @@ module _ (pages : List Page) (first a m : Machine) (before : Together pages firs
   together_on : Together pages first (step a) (step m)
   together_on = record {
     cpu = sym alike.cpu;
-    agree = alike.world;
+    agree = alike.board;
     zeros_given = zeros_stay m before.zeros_given;
     size = memory_size ∙ before.size;
-    away = λ p swapped. stays_by p swapped (is_given_page p m.world) (is_given_page p (step m).world) refl refl ∙ before.away p swapped;
+    away = λ p swapped. stays_by p swapped (is_given_page p m.board) (is_given_page p (step m).board) refl refl ∙ before.away p swapped;
   }
 
 -- after so many
@@ -112,15 +112,15 @@ module _ (pages : List Page) (first a m : Machine) (together : Together pages fi
   within_these : Within (here pages) (accesses a)
   within_these = within_here pages (accesses a) none
 
-  with_memory : in_world a.cpu m.world ≡ m
-  with_memory = ap (λ (c : Processor). in_world c m.world) together.cpu
+  with_memory : machine_with a.cpu m.board ≡ m
+  with_memory = ap (λ (c : Processor). machine_with c m.board) together.cpu
 
   pub same_accesses : accesses m ≡ accesses a
   same_accesses =
-      ap accesses (sym with_memory) ∙ (step_alike (here pages) a.cpu a.world m.world together.agree within_these).accesses
+      ap accesses (sym with_memory) ∙ (step_alike (here pages) a.cpu a.board m.board together.agree within_these).accesses
 
   pub same_given : step_given m ≡ step_given a
-  same_given = ap step_given (sym with_memory) ∙ given_alike (here pages) a.cpu a.world m.world together.agree within_these
+  same_given = ap step_given (sym with_memory) ∙ given_alike (here pages) a.cpu a.board m.board together.agree within_these
 
 -- the steps of a seat's items are steps
 pub steps_are_run : (seat k : ℕ) (m : Machine) → steps k m ≡ run (steps_of seat k) m
@@ -134,11 +134,11 @@ pub run_join : (seat j k : ℕ) (m : Machine) → run (steps_of seat (j + k)) m 
 run_join seat j k m =
     ap (λ (xs : List Item). run xs m) (steps_of-join seat j k) ∙ run_append (steps_of seat j) (steps_of seat k) m
 
-module _ (k : ℕ) (m : Machine) (cpu cpu' : Processor) (b after : PagedBusIs) (whole : AreWhole b.pages) (whole_after : AreWhole after.pages)
-    (settled : IsSettled b) (settled_after : IsSettled after) (s : Shows m cpu b) (zeros_given : GivenAreZeros m.world)
-    (moves : in_world cpu' (world_of after) ≡ steps k (in_world cpu (world_of b)))
-    (quiet : AreQuiet (lacks_in (outline b.pages)) k (in_world cpu (world_of b))) (same : outline after.pages ≡ outline b.pages) where
-  at_first : Together b.pages m (in_world cpu (world_of b)) m
+module _ (k : ℕ) (m : Machine) (cpu cpu' : Processor) (b after : GuestBusIs) (whole : AreWhole b.pages) (whole_after : AreWhole after.pages)
+    (settled : IsSettled b) (settled_after : IsSettled after) (s : Shows m cpu b) (zeros_given : GivenAreZeros m.board)
+    (moves : machine_with cpu' (board_of after) ≡ steps k (machine_with cpu (board_of b)))
+    (quiet : AreQuiet (lacks_in (outline b.pages)) k (machine_with cpu (board_of b))) (same : outline after.pages ≡ outline b.pages) where
+  at_first : Together b.pages m (machine_with cpu (board_of b)) m
   at_first = record {
     cpu = s.cpu;
     agree = shows_agree m cpu b whole settled s;
@@ -147,15 +147,15 @@ module _ (k : ℕ) (m : Machine) (cpu cpu' : Processor) (b after : PagedBusIs) (
     away = λ p swapped. refl;
   }
 
-  at_last : Together b.pages m (steps k (in_world cpu (world_of b))) (steps k m)
-  at_last = together_after b.pages k (in_world cpu (world_of b)) m at_first
-      (subst (λ (lacks : Lacks). AreQuiet lacks k (in_world cpu (world_of b))) (same_lacks b.pages) quiet)
+  at_last : Together b.pages m (steps k (machine_with cpu (board_of b))) (steps k m)
+  at_last = together_after b.pages k (machine_with cpu (board_of b)) m at_first
+      (subst (λ (lacks : Lacks). AreQuiet lacks k (machine_with cpu (board_of b))) (same_lacks b.pages) quiet)
 
   happened : Happened b after m (steps k m)
   happened = record {
     whole = whole_after;
     same = same;
-    agree = subst (λ (w : World). Agree (here b.pages) w (steps k m).world) (sym (ap (λ (n : Machine). n.world) moves)) at_last.agree;
+    agree = subst (λ (w : Board). Agree (here b.pages) w (steps k m).board) (sym (ap (λ (n : Machine). n.board) moves)) at_last.agree;
     away = λ p inside swapped. inr (at_last.away p swapped);
     given = λ p is inside. absurd (not_waiting p is);
   }
@@ -168,29 +168,29 @@ module _ (k : ℕ) (m : Machine) (cpu cpu' : Processor) (b after : PagedBusIs) (
   pub quiet_shows : (seat : ℕ) → Shows (run (steps_of seat k) m) cpu' after
   quiet_shows seat =
       subst (λ (n : Machine). Shows n cpu' after) (steps_are_run seat k m)
-      (subst (λ (bus : PagedBusIs). Shows (steps k m) cpu' bus) (settled_already after settled_after)
+      (subst (λ (bus : GuestBusIs). Shows (steps k m) cpu' bus) (settled_already after settled_after)
       (shows_after b after m (steps k m) happened cpu cpu' (ap (λ (n : Machine). n.cpu) moves ∙ at_last.cpu) s))
 
   pub quiet_kept : (seat : ℕ) (held : ℕ → Option (List ℕ)) → Kept held (pages_seen m) b.pages → Kept held (pages_seen (run (steps_of seat k) m)) after.pages
   quiet_kept seat held k' =
       subst (λ (n : Machine). Kept held (pages_seen n) after.pages) (steps_are_run seat k m)
-      (subst (λ (bus : PagedBusIs). Kept held (pages_seen (steps k m)) bus.pages) (settled_already after settled_after)
+      (subst (λ (bus : GuestBusIs). Kept held (pages_seen (steps k m)) bus.pages) (settled_already after settled_after)
       (kept_after b after m (steps k m) happened held k'))
 
 -- ---- steps that gave no page
 
 -- So many steps lead from a processor over pages to another, and no page was given.
-pub record GoneOn (cpu cpu' : Processor) (b b' : PagedBusIs) (k : ℕ) : Type 0 where
-  pub shows : (seat : ℕ) (m : Machine) → GivenAreZeros m.world → Shows m cpu b → Shows (run (steps_of seat k) m) cpu' b'
-  pub kept : (seat : ℕ) (m : Machine) → GivenAreZeros m.world → Shows m cpu b → (held : ℕ → Option (List ℕ)) → Kept held (pages_seen m) b.pages
+pub record GoneOn (cpu cpu' : Processor) (b b' : GuestBusIs) (k : ℕ) : Type 0 where
+  pub shows : (seat : ℕ) (m : Machine) → GivenAreZeros m.board → Shows m cpu b → Shows (run (steps_of seat k) m) cpu' b'
+  pub kept : (seat : ℕ) (m : Machine) → GivenAreZeros m.board → Shows m cpu b → (held : ℕ → Option (List ℕ)) → Kept held (pages_seen m) b.pages
       → Kept held (pages_seen (run (steps_of seat k) m)) b'.pages
-  pub moves : in_world cpu' (world_of b') ≡ steps k (in_world cpu (world_of b))
-  pub quiet : AreQuiet (lacks_in b.pages) k (in_world cpu (world_of b))
+  pub moves : machine_with cpu' (board_of b') ≡ steps k (machine_with cpu (board_of b))
+  pub quiet : AreQuiet (lacks_in b.pages) k (machine_with cpu (board_of b))
   pub same : outline b'.pages ≡ outline b.pages
   pub settled : IsSettled b'
   pub at_first : k ≡ 0 → (cpu' ≡ cpu) × (b' ≡ b)
 
-pub not_gone : (cpu : Processor) (b : PagedBusIs) → IsSettled b → GoneOn cpu cpu b b 0
+pub not_gone : (cpu : Processor) (b : GuestBusIs) → IsSettled b → GoneOn cpu cpu b b 0
 not_gone cpu b settled = record {
   shows = λ seat m zeros s. subst (λ (n : Machine). Shows n cpu b) (sym (no_step seat m)) s;
   kept = λ seat m zeros s held k. subst (λ (n : Machine). Kept held (pages_seen n) b.pages) (sym (no_step seat m)) k;
@@ -204,9 +204,9 @@ not_gone cpu b settled = record {
 one_step : (seat : ℕ) (m : Machine) → run (steps_of seat 1) m ≡ step m
 one_step seat m = one_more seat 0 m ∙ ap step (no_step seat m)
 
-pub gone_one : (cpu cpu' : Processor) (b b' : PagedBusIs) → ((m : Machine) → GivenAreZeros m.world → Shows m cpu b → Shows (step m) cpu' b')
-    → ((m : Machine) → GivenAreZeros m.world → Shows m cpu b → (held : ℕ → Option (List ℕ)) → Kept held (pages_seen m) b.pages → Kept held (pages_seen (step m)) b'.pages)
-    → in_world cpu' (world_of b') ≡ step (in_world cpu (world_of b)) → IsQuiet (lacks_in b.pages) (in_world cpu (world_of b))
+pub gone_one : (cpu cpu' : Processor) (b b' : GuestBusIs) → ((m : Machine) → GivenAreZeros m.board → Shows m cpu b → Shows (step m) cpu' b')
+    → ((m : Machine) → GivenAreZeros m.board → Shows m cpu b → (held : ℕ → Option (List ℕ)) → Kept held (pages_seen m) b.pages → Kept held (pages_seen (step m)) b'.pages)
+    → machine_with cpu' (board_of b') ≡ step (machine_with cpu (board_of b)) → IsQuiet (lacks_in b.pages) (machine_with cpu (board_of b))
     → outline b'.pages ≡ outline b.pages → IsSettled b' → GoneOn cpu cpu' b b' 1
 gone_one cpu cpu' b b' shows kept moves quiet same settled = record {
   shows = λ seat m zeros s. subst (λ (n : Machine). Shows n cpu' b') (sym (one_step seat m)) (shows m zeros s);
@@ -214,7 +214,7 @@ gone_one cpu cpu' b b' shows kept moves quiet same settled = record {
   moves = moves;
   quiet = λ j below.
       let first : 0 ≡ j = omega (arith, below) in
-      subst (λ (n : ℕ). IsQuiet (lacks_in b.pages) (steps n (in_world cpu (world_of b)))) first quiet;
+      subst (λ (n : ℕ). IsQuiet (lacks_in b.pages) (steps n (machine_with cpu (board_of b)))) first quiet;
   same = same;
   settled = settled;
   at_first = λ first. absurd (omega (arith, first));
@@ -242,14 +242,14 @@ quiet_further lacks lacks' j k m m' same moves one two i below = elim (cases_lt 
       (subst (λ (l : Lacks). IsQuiet l (steps (i - j) m')) same (two (i - j) (omega (arith, below, after))))
 ]
 
-pub gone_further : (cpu cpu' cpu'' : Processor) (b b' b'' : PagedBusIs) (j k : ℕ) → GoneOn cpu cpu' b b' j → GoneOn cpu' cpu'' b' b'' k → GoneOn cpu cpu'' b b'' (j + k)
+pub gone_further : (cpu cpu' cpu'' : Processor) (b b' b'' : GuestBusIs) (j k : ℕ) → GoneOn cpu cpu' b b' j → GoneOn cpu' cpu'' b' b'' k → GoneOn cpu cpu'' b b'' (j + k)
 gone_further cpu cpu' cpu'' b b' b'' j k one two = record {
   shows = λ seat m zeros s. subst (λ (n : Machine). Shows n cpu'' b'') (sym (run_join seat j k m))
       (two.shows seat (run (steps_of seat j) m) (run_zeros (steps_of seat j) m zeros) (one.shows seat m zeros s));
   kept = λ seat m zeros s held h. subst (λ (n : Machine). Kept held (pages_seen n) b''.pages) (sym (run_join seat j k m))
       (two.kept seat (run (steps_of seat j) m) (run_zeros (steps_of seat j) m zeros) (one.shows seat m zeros s) held (one.kept seat m zeros s held h));
-  moves = two.moves ∙ ap (steps k) one.moves ∙ steps_join j k (in_world cpu (world_of b));
-  quiet = quiet_further (lacks_in b.pages) (lacks_in b'.pages) j k (in_world cpu (world_of b)) (in_world cpu' (world_of b'))
+  moves = two.moves ∙ ap (steps k) one.moves ∙ steps_join j k (machine_with cpu (board_of b));
+  quiet = quiet_further (lacks_in b.pages) (lacks_in b'.pages) j k (machine_with cpu (board_of b)) (machine_with cpu' (board_of b'))
       (lacks_alike b.pages b'.pages one.same) one.moves one.quiet two.quiet;
   same = two.same ∙ one.same;
   settled = two.settled;

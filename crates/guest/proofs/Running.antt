@@ -4,19 +4,19 @@ use Rattle.items.specs.declared.item.Item.{Item}
 use Rattle.items.specs.Entries.{step_by, steps_of}
 use Rattle.items.proofs.Runs.{steps_of-none, steps_of-one, steps_of-join, length-steps_of}
 use Rattle.std.proofs.lemmas.Bool.{cases_eq}
-use Rattle.mips_step.specs.Processor.{Processor}
-use Rattle.mips_step.specs.Step.{Machine, step}
-use Rattle.mips_step.specs.Given.{step_given}
-use Rattle.flatvm.specs.Items.{run, AllAccepted}
-use Rattle.flatvm.proofs.Runs.{run_append, accepted_append}
+use Rattle.machine.specs.Processor.{Processor}
+use Rattle.machine.specs.Step.{Machine, step}
+use Rattle.machine.specs.Given.{step_given}
+use Rattle.machine.specs.Items.{run, AllAccepted}
+use Rattle.machine.proofs.Runs.{run_append, accepted_append}
 use Rattle.guest_log.specs.Logs.{LogIs, HasRoomFor, IsFull}
 use Rattle.guest_log.specs.Runs.{run_count}
 use Rattle.guest_log.proofs.Counting.{run_count-run}
-use Rattle.physmap.specs.declared.page.Page.{Page}
-use Rattle.physmap.specs.Outline.{outline}
+use Rattle.guest_pages.specs.declared.page.Page.{Page}
+use Rattle.guest_pages.specs.Outline.{outline}
 use Rattle.guest.specs.declared.progress.Pause.{Pause}
 use Rattle.guest.specs.declared.progress.Pause.TheVariants as pause
-use Rattle.paged_bus.specs.Buses.{PagedBusIs}
+use Rattle.guest_bus.specs.Buses.{GuestBusIs}
 use Rattle.guest.specs.Guests.{last_given, HasPaused, IsMade, steps_by}
 
 -- a machine after no step, and after one more
@@ -90,7 +90,7 @@ last_of_more seat count m =
 
 -- What is so of a machine after some steps, with a processor and a bus, is so after the step at which a run pauses: that step is made, or
 -- nothing has changed.
-module _ (So : Machine → Processor → PagedBusIs → Type 0) (seat count : ℕ) (m : Machine) (cpu cpu' : Processor) (b b' : PagedBusIs) where
+module _ (So : Machine → Processor → GuestBusIs → Type 0) (seat count : ℕ) (m : Machine) (cpu cpu' : Processor) (b b' : GuestBusIs) where
   abbrev now : Machine
   now = run (steps_of seat count) m
 
@@ -101,4 +101,4 @@ module _ (So : Machine → Processor → PagedBusIs → Type 0) (seat count : �
       let same = unchanged (λ never. never) in
       let none : count + 0 ≡ count = omega arith in
       subst (λ (n : ℕ). So (run (steps_of seat n) m) cpu' b') (sym none)
-      (subst (λ (c : Processor). So now c b') (sym same.0) (subst (λ (bus : PagedBusIs). So now cpu bus) (sym same.1) so))
+      (subst (λ (c : Processor). So now c b') (sym same.0) (subst (λ (bus : GuestBusIs). So now cpu bus) (sym same.1) so))

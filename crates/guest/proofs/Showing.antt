@@ -1,28 +1,28 @@
--- Pages that are those of a machine, and the world that they show.
+-- Pages that are those of a machine, and the board that they show.
 use Rattle.std.proofs.Common.{ℕ, ◌≡◌, ◌≢◌, ◌*◌, ◌<◌, ◌≤◌, ◌⊎◌, inl, inr, Bool, true, false, ◌&&◌, IsTrue, nat_lt, List, length, set, Option, Some, None, refl, sym, ap, subst, ◌∙◌, arith, ltb-true, length-set}
 use Rattle.std.proofs.lemmas.Bool.{cases_eq, cases_lt}
 use Rattle.std.proofs.Math.ListN.{get_or-eq_default}
 use Rattle.word32.specs.Zeros.{zeros}
 use Rattle.mips_tlb.specs.declared.kind.Kind.{Kind}
-use Rattle.mips_step.specs.Processor.{Processor}
-use Rattle.mips_step.specs.World.{page_bytes, given_away}
-use Rattle.mips_step.specs.Step.{Machine}
-use Rattle.mips_step.specs.Agreeing.{Agree}
-use Rattle.mips_step.proofs.Clearing.{other_page_cleared}
-use Rattle.mips_step.proofs.Worlds.{given_away_size}
-use Rattle.physmap.specs.declared.page.Page.{Page}
-use Rattle.physmap.specs.declared.page.Page.TheVariants as page
-use Rattle.physmap.specs.declared.page.PageKind.{PageKind}
-use Rattle.physmap.specs.declared.page.PageKind.TheVariants.{Zero, Given, Private, Shared, Swapped}
-use Rattle.physmap.specs.Pages.{page_at, kind_of, kind_at, shown, memory_of, AreWhole}
-use Rattle.physmap.specs.Outline.{outlined, outline}
-use Rattle.physmap.proofs.Memory.{length_of_memory}
-use Rattle.physmap.proofs.Outlines.{outline_at, outline_length, outline_kind}
-use Rattle.physmap.proofs.Replacing.{page_of_memory, new_page, other_page}
-use Rattle.paging.specs.Faith.{IsFaithful, Faithful, IsHeld, Kept}
-use Rattle.paging.proofs.Supplying.{faithful_shown}
-use Rattle.paged_bus.specs.Buses.{PagedBusIs, IsSettled, world_of, pages_settled, after_settling}
-use Rattle.paged_bus.specs.Lacking.{lack_of, lacks_in}
+use Rattle.machine.specs.Processor.{Processor}
+use Rattle.machine.specs.Board.{page_bytes, given_away}
+use Rattle.machine.specs.Step.{Machine}
+use Rattle.machine.specs.Agreeing.{Agree}
+use Rattle.machine.proofs.Clearing.{other_page_cleared}
+use Rattle.machine.proofs.Boards.{given_away_size}
+use Rattle.guest_pages.specs.declared.page.Page.{Page}
+use Rattle.guest_pages.specs.declared.page.Page.TheVariants as page
+use Rattle.guest_pages.specs.declared.page.PageKind.{PageKind}
+use Rattle.guest_pages.specs.declared.page.PageKind.TheVariants.{Zero, Given, Private, Shared, Swapped}
+use Rattle.guest_pages.specs.Pages.{page_at, kind_of, kind_at, shown, memory_of, AreWhole}
+use Rattle.guest_pages.specs.Outline.{outlined, outline}
+use Rattle.guest_pages.proofs.Memory.{length_of_memory}
+use Rattle.guest_pages.proofs.Outlines.{outline_at, outline_length, outline_kind}
+use Rattle.guest_pages.proofs.Replacing.{page_of_memory, new_page, other_page}
+use Rattle.page_moves.specs.Faith.{IsFaithful, Faithful, IsHeld, Kept}
+use Rattle.page_moves.proofs.Supplying.{faithful_shown}
+use Rattle.guest_bus.specs.Buses.{GuestBusIs, IsSettled, board_of, pages_settled, after_settling}
+use Rattle.guest_bus.specs.Lacking.{lack_of, lacks_in}
 use Rattle.guest.specs.Views.{pages_seen, Shows, is_here, here}
 
 -- ---- pages that are in no slot
@@ -84,19 +84,19 @@ apart_here Swapped apart = absurd (apart refl)
 pub is_page_here : (pages : List Page) (p : ℕ) → p < length pages → kind_at pages p ≢ Swapped → IsTrue (here pages p)
 is_page_here pages p inside apart = both (nat_lt p (length pages)) (is_here (kind_at pages p)) (grind arith) (apart_here (kind_at pages p) apart)
 
--- ---- the world that pages show
+-- ---- the board that pages show
 
-pub settled_memory : (b : PagedBusIs) → IsSettled b → (world_of b).memory ≡ memory_of b.pages
+pub settled_memory : (b : GuestBusIs) → IsSettled b → (board_of b).memory ≡ memory_of b.pages
 settled_memory b settled = ap (λ (waiting : Option ℕ). given_away waiting (memory_of b.pages)) settled
 
 -- a bus on which no page waits is settled already
-pub settled_already : (b : PagedBusIs) → IsSettled b → after_settling b ≡ b
+pub settled_already : (b : GuestBusIs) → IsSettled b → after_settling b ≡ b
 settled_already b settled =
     ap (λ (waiting : Option ℕ). record { pages = pages_settled waiting b.pages; devices = b.devices; waiting = None }) settled
     ∙ ap (λ (waiting : Option ℕ). record b { waiting = waiting }) (sym settled)
 
--- pages that are those of a machine show its world, but for those in slots
-pub shows_agree : (m : Machine) (cpu : Processor) (b : PagedBusIs) → AreWhole b.pages → IsSettled b → Shows m cpu b → Agree (here b.pages) (world_of b) m.world
+-- pages that are those of a machine show its board, but for those in slots
+pub shows_agree : (m : Machine) (cpu : Processor) (b : GuestBusIs) → AreWhole b.pages → IsSettled b → Shows m cpu b → Agree (here b.pages) (board_of b) m.board
 shows_agree m cpu b whole settled s = record {
   size = s.size ∙ sym (length_of_memory b.pages whole) ∙ sym (ap length (settled_memory b settled));
   bytes = λ p h.
@@ -132,14 +132,14 @@ same_length pages before same = sym (outline_length before) ∙ ap length same �
 
 -- What happened to a machine and to pages that were its: the pages that are in no slot show what became of the machine, and those in
 -- a slot are as they were, but for the page that was given, which is zeros.
-pub record Happened (b before : PagedBusIs) (m m' : Machine) : Type 0 where
+pub record Happened (b before : GuestBusIs) (m m' : Machine) : Type 0 where
   pub whole : AreWhole before.pages
   pub same : outline before.pages ≡ outline b.pages
-  pub agree : Agree (here b.pages) (world_of before) m'.world
+  pub agree : Agree (here b.pages) (board_of before) m'.board
   pub away : (p : ℕ) → p < length b.pages → kind_at b.pages p ≡ Swapped → (before.waiting ≡ Some p) ⊎ (pages_seen m' p ≡ pages_seen m p)
   pub given : (p : ℕ) → before.waiting ≡ Some p → p < length b.pages → pages_seen m' p ≡ zeros 4096
 
-module _ (b before : PagedBusIs) (m m' : Machine) (h : Happened b before m m') where
+module _ (b before : GuestBusIs) (m m' : Machine) (h : Happened b before m m') where
   -- the bytes of a page that was not given
   not_given : (waiting : Option ℕ) (p : ℕ) → (waiting ≡ Some p → ⊥) → page_bytes p (given_away waiting (memory_of before.pages)) ≡ page_bytes p (memory_of before.pages)
   not_given None p apart = refl
@@ -222,7 +222,7 @@ module _ (b before : PagedBusIs) (m m' : Machine) (h : Happened b before m m') w
     pages = faithful_after s.pages;
   }
     where
-      before_size : length (world_of before).memory ≡ length before.pages * 4096
+      before_size : length (board_of before).memory ≡ length before.pages * 4096
       before_size = given_away_size before.waiting (memory_of before.pages) ∙ length_of_memory before.pages h.whole
 
   pub kept_after : (held : ℕ → Option (List ℕ)) → Kept held (pages_seen m) b.pages → Kept held (pages_seen m') (pages_settled before.waiting before.pages)

@@ -3,19 +3,19 @@ use Rattle.std.specs.Prelude.{◌≡◌, ◌≢◌, ℕ, zero, suc, ◌*◌, Opt
 use Rattle.word32.specs.Pages.{page_number}
 use Rattle.items.specs.declared.item.Item.{Item}
 use Rattle.items.specs.Entries.{steps_of}
-use Rattle.mips_step.specs.Processor.{Processor}
-use Rattle.mips_step.specs.Step.{Machine, in_world}
-use Rattle.mips_step.specs.Given.{step_given}
-use Rattle.flatvm.specs.Items.{run, AllAccepted}
-use Rattle.flatvm.specs.Replies.{probe}
+use Rattle.machine.specs.Processor.{Processor}
+use Rattle.machine.specs.Step.{Machine, machine_with}
+use Rattle.machine.specs.Given.{step_given}
+use Rattle.machine.specs.Items.{run, AllAccepted}
+use Rattle.machine.specs.Replies.{probe}
 use Rattle.guest_log.specs.Logs.{LogIs}
-use Rattle.loghead.specs.Heads.{HeadId, SeatIs}
-use Rattle.journal.specs.Journals.{JournalIs, Adds, AddsSteps}
-use Rattle.mips_step.specs.declared.access.Why.{Why}
-use Rattle.physmap.specs.declared.page.Page.{Page}
-use Rattle.physmap.specs.declared.page.Returned.{Returned}
-use Rattle.physmap.specs.Outline.{outline}
-use Rattle.paged_bus.specs.Buses.{PagedBusIs, world_of, with_pages, pages_settled, page_returned}
+use Rattle.log_seats.specs.Heads.{HeadId, SeatIs}
+use Rattle.owned_log.specs.OwnedLogs.{OwnedLogIs, Adds, AddsSteps}
+use Rattle.machine.specs.declared.access.Why.{Why}
+use Rattle.guest_pages.specs.declared.page.Page.{Page}
+use Rattle.guest_pages.specs.declared.page.Returned.{Returned}
+use Rattle.guest_pages.specs.Outline.{outline}
+use Rattle.guest_bus.specs.Buses.{GuestBusIs, board_of, with_pages, pages_settled, page_returned}
 use Rattle.guest.specs.declared.progress.Pause.{Pause}
 use Rattle.guest.specs.declared.progress.Pause.TheVariants as pause
 use Rattle.guest.specs.declared.stepped.Stepped.{Stepped}
@@ -25,7 +25,7 @@ use Rattle.guest.specs.Views.{Shows}
 pub record GuestIs : Type 0 where
   pub cpu : Processor
   -- its pages and its devices
-  pub bus : PagedBusIs
+  pub bus : GuestBusIs
   -- the machine that the guest's image boots
   pub boot : Machine
   pub log : LogIs
@@ -34,18 +34,18 @@ pub record GuestIs : Type 0 where
   -- how many seats were made
   pub seats : ℕ
 
-abbrev pub guest_of : Processor → PagedBusIs → Machine → JournalIs → GuestIs
-guest_of cpu bus boot journal =
-    record { cpu = cpu; bus = bus; boot = boot; log = journal.log; head = journal.head; seats = journal.seats }
+abbrev pub guest_of : Processor → GuestBusIs → Machine → OwnedLogIs → GuestIs
+guest_of cpu bus boot owned_log =
+    record { cpu = cpu; bus = bus; boot = boot; log = owned_log.log; head = owned_log.head; seats = owned_log.seats }
 
--- The guest's view: the machine that a table machine with a plain memory of its own is after the items of the guest's log,
+-- The guest's view: the machine that a reference machine with a plain memory of its own is after the items of the guest's log,
 -- from the boot of the guest's image.
 abbrev pub view_of : GuestIs → Machine
 view_of g = run g.log.items g.boot
 
 -- the processor and the memory as they stand, in which a page that is in a slot is zeros
 abbrev pub standing : GuestIs → Machine
-standing g = in_world g.cpu (world_of g.bus)
+standing g = machine_with g.cpu (board_of g.bus)
 
 -- Processor, devices and pages are those of the view, a page in a slot by its SHA-256; and each item of the log was accepted.
 pub record Intact (g : GuestIs) : Type 0 where
@@ -58,7 +58,7 @@ LiesIn m address page = (at : ℕ) × (probe m address ≡ Some at) × (page_num
 
 -- the memory of the guest as it stands has 4,096 bytes for each page
 abbrev pub IsSized : GuestIs → Type 0
-IsSized g = length (standing g).world.memory ≡ length g.bus.pages * 4096
+IsSized g = length (standing g).board.memory ≡ length g.bus.pages * 4096
 
 -- all of a guest but its pages
 abbrev pub without_pages : GuestIs → GuestIs

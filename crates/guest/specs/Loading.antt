@@ -3,8 +3,8 @@ use Rattle.std.specs.Prelude.{◌≡◌, ℕ, ◌+◌, ◌-◌, ◌*◌, ◌<◌
 use Rattle.elf32.specs.declared.image.Segment.{Segment}
 use Rattle.elf32.specs.declared.image.Image.{Image}
 use Rattle.elf32.specs.Images.{FitsPages}
-use Rattle.mips_step.specs.World.{page_bytes}
-use Rattle.flatvm.specs.Boot.{boot_memory}
+use Rattle.machine.specs.Board.{page_bytes}
+use Rattle.machine.specs.Boot.{boot_memory}
 
 -- a segment reaches a page, by its bytes or by the zeros after them
 abbrev pub segment_reaches : ℕ → Segment → Bool

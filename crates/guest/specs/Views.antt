@@ -1,24 +1,24 @@
 -- A processor and pages that are those of a machine.
 use Rattle.std.specs.Prelude.{◌≡◌, ℕ, ◌*◌, Bool, true, false, ◌&&◌, nat_lt, List, length}
-use Rattle.mips_step.specs.Processor.{Processor}
-use Rattle.mips_step.specs.World.{page_bytes}
-use Rattle.mips_step.specs.Step.{Machine}
-use Rattle.physmap.specs.declared.page.Page.{Page}
-use Rattle.physmap.specs.declared.page.PageKind.{PageKind}
-use Rattle.physmap.specs.declared.page.PageKind.TheVariants.{Zero, Given, Private, Shared, Swapped}
-use Rattle.physmap.specs.Pages.{kind_at}
-use Rattle.paging.specs.Faith.{Faithful}
-use Rattle.paged_bus.specs.Buses.{PagedBusIs}
+use Rattle.machine.specs.Processor.{Processor}
+use Rattle.machine.specs.Board.{page_bytes}
+use Rattle.machine.specs.Step.{Machine}
+use Rattle.guest_pages.specs.declared.page.Page.{Page}
+use Rattle.guest_pages.specs.declared.page.PageKind.{PageKind}
+use Rattle.guest_pages.specs.declared.page.PageKind.TheVariants.{Zero, Given, Private, Shared, Swapped}
+use Rattle.guest_pages.specs.Pages.{kind_at}
+use Rattle.page_moves.specs.Faith.{Faithful}
+use Rattle.guest_bus.specs.Buses.{GuestBusIs}
 
 -- the bytes of a machine's pages
 abbrev pub pages_seen : Machine → ℕ → List ℕ
-pages_seen m page = page_bytes page m.world.memory
+pages_seen m page = page_bytes page m.board.memory
 
 -- Processor and devices are the machine's, and so is each page, or its SHA-256 where it is in a slot.
-pub record Shows (m : Machine) (processor : Processor) (b : PagedBusIs) : Type 0 where
+pub record Shows (m : Machine) (processor : Processor) (b : GuestBusIs) : Type 0 where
   pub cpu : processor ≡ m.cpu
-  pub devices : b.devices ≡ m.world.devices
-  pub size : length m.world.memory ≡ length b.pages * 4096
+  pub devices : b.devices ≡ m.board.devices
+  pub size : length m.board.memory ≡ length b.pages * 4096
   pub pages : Faithful (pages_seen m) b.pages
 
 -- a page of this kind is in no slot

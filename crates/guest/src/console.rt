@@ -8,10 +8,10 @@ impl Guest {
     ghost use Rattle.std.specs.Prelude.{◌≡◌, ◌↔◌, ℕ, true, List, Option, OnOk, IsErrOf};
     ghost use Rattle.items.specs.declared.item.What.TheVariants.{In};
     ghost use Rattle.devices.specs.Devices.{device_input_fed};
-    ghost use Rattle.flatvm.specs.Items.{accepts, after};
+    ghost use Rattle.machine.specs.Items.{accepts, after};
     ghost use Rattle.guest_log.specs.Logs.{HasItemRoom, IsFull, TakesRoom};
     ghost use Rattle.guest_log.specs.declared.stop.Stop.{Stop};
-    ghost use Rattle.paging.specs.Faith.{Kept};
+    ghost use Rattle.page_moves.specs.Faith.{Kept};
     ghost use Rattle.guest.specs.Guests.{view_of, standing, Intact, Logs, LogsOnly};
     ghost use Rattle.guest.specs.Views.{pages_seen};
 
@@ -29,7 +29,7 @@ impl Guest {
         ensures kept { (held : ℕ → Option (List ℕ)) →
             Kept held (pages_seen (view_of self.old)) self.old.bus.pages → Kept held (pages_seen (view_of self.new)) self.new.bus.pages }
     {
-        self.journal.make_item_room()
+        self.owned_log.make_item_room()
     }
 
     /// A byte of console input, as an item of the seat. It takes no memory and can't be refused: room in the log, which `item_room` makes,
@@ -55,6 +55,6 @@ impl Guest {
             seat: seat.number(),
             what: What::In(byte),
         };
-        self.journal.add(item, seat);
+        self.owned_log.add(item, seat);
     }
 }

@@ -6,12 +6,12 @@ use crate::placed::pages_reached;
 use crate::step::{input_pages, need_pages, read_pages, run_pages, step_pages, whole};
 use crate::{Head, Log, Progress, Refused, Seat, Stepped, Stop};
 use elf32::Image;
-use flatvm::{Reply, Unreached, View};
+use guest_bus::{GuestBus, InputError};
 use items::Item;
-use journal::Journal;
-use mips_run::RunCache;
-use mips_step::{Cpu, Ppn, Why};
-use paged_bus::{InputError, PagedBus};
+use machine::{Ppn, Reply, Why};
+use mips_fast::RunCache;
+use mips_step::{Cpu, Unreached, View};
+use owned_log::OwnedLog;
 use std::alloc::{AllocError, Global};
 use std::marker::Model;
 use std::sync::Arc;
@@ -25,23 +25,23 @@ use taxpolicy::SAMPLE_SIZE;
 /// `Intact`, its processor, its devices and its pages are the view's, a page in a slot by its SHA-256.
 pub struct Guest {
     pub(crate) cpu: Cpu,
-    pub(crate) bus: PagedBus,
-    /// What a run of many steps keeps, for `mips_run`. No clause speaks of it: it holds nothing between runs.
+    pub(crate) bus: GuestBus,
+    /// What a run of many steps keeps, for `mips_fast`. No clause speaks of it: it holds nothing between runs.
     pub(crate) cache: RunCache,
     /// What the guest has booted, with as many pages: the view begins there.
     pub(crate) image: Arc<Image, Global>,
     pub(crate) pages: u32,
-    pub(crate) journal: Journal,
+    pub(crate) owned_log: OwnedLog,
 }
 
 impl Model for Guest {
-    ghost use Rattle.flatvm.specs.Boot.{boot_machine};
-    ghost use Rattle.paged_bus.specs.Buses.{IsSettled};
+    ghost use Rattle.machine.specs.Boot.{boot_machine};
+    ghost use Rattle.guest_bus.specs.Buses.{IsSettled};
     ghost use Rattle.guest.specs.Guests.{GuestIs, guest_of};
 
     ghost Value = { GuestIs };
 
-    ghost view = { λ g. guest_of g.cpu g.bus (boot_machine g.image.value g.pages) g.journal };
+    ghost view = { λ g. guest_of g.cpu g.bus (boot_machine g.image.value g.pages) g.owned_log };
 
     ghost invariant = { λ g. IsSettled g.bus };
 }
@@ -55,27 +55,27 @@ impl Guest {
     ghost use Rattle.items.specs.declared.item.What.TheVariants.{Step};
     ghost use Rattle.devices.specs.Devices.{fresh_devices};
     ghost use Rattle.mips_tlb.specs.declared.kind.Kind.TheVariants.{Store};
-    ghost use Rattle.mips_step.specs.Step.{step};
-    ghost use Rattle.mips_step.specs.World.{page_bytes};
-    ghost use Rattle.mips_step.specs.Given.{step_given};
-    ghost use Rattle.mips_step.specs.Accesses.{accesses, first_lack};
-    ghost use Rattle.flatvm.specs.Answers.{replied};
-    ghost use Rattle.flatvm.specs.Boot.{boot_machine, boot_memory};
-    ghost use Rattle.flatvm.specs.Items.{accepts, after, reply, run};
-    ghost use Rattle.flatvm.specs.Replies.{bytes_at, SomePlaceIn};
+    ghost use Rattle.machine.specs.Step.{step};
+    ghost use Rattle.machine.specs.Board.{page_bytes};
+    ghost use Rattle.machine.specs.Given.{step_given};
+    ghost use Rattle.machine.specs.Accesses.{accesses, first_lack};
+    ghost use Rattle.machine.specs.Answers.{replied};
+    ghost use Rattle.machine.specs.Boot.{boot_machine, boot_memory};
+    ghost use Rattle.machine.specs.Items.{accepts, after, reply, run};
+    ghost use Rattle.machine.specs.Replies.{bytes_at, SomePlaceIn};
     ghost use Rattle.guest_log.specs.Logs.{HasRoom, IsFull, TakesRoom};
     ghost use Rattle.guest_log.specs.declared.stop.Stop.{Stop};
-    ghost use Rattle.loghead.specs.Legal.{Legal};
-    ghost use Rattle.physmap.specs.declared.page.Page.{Page};
-    ghost use Rattle.physmap.specs.declared.page.PageKind.{PageKind};
-    ghost use Rattle.physmap.specs.Pages.{page_at, kind_at, is_resident, NoneInFrame, own_frame};
-    ghost use Rattle.physmap.specs.Holdings.{private_pages, shared_pages, swapped_pages, resident_pages};
-    ghost use Rattle.physmap.specs.Outline.{outline};
-    ghost use Rattle.paging.specs.Faith.{Kept};
-    ghost use Rattle.paged_bus.specs.Lacking.{lacks_in};
-    ghost use Rattle.paged_bus.specs.Writes.{WritesTo};
-    ghost use Rattle.mips_step.specs.declared.access.Why.{Why};
-    ghost use Rattle.physmap.specs.declared.page.Returned.{Returned};
+    ghost use Rattle.log_seats.specs.Legal.{Legal};
+    ghost use Rattle.guest_pages.specs.declared.page.Page.{Page};
+    ghost use Rattle.guest_pages.specs.declared.page.PageKind.{PageKind};
+    ghost use Rattle.guest_pages.specs.Pages.{page_at, kind_at, is_resident, NoneInFrame, own_frame};
+    ghost use Rattle.guest_pages.specs.Holdings.{private_pages, shared_pages, swapped_pages, resident_pages};
+    ghost use Rattle.guest_pages.specs.Outline.{outline};
+    ghost use Rattle.page_moves.specs.Faith.{Kept};
+    ghost use Rattle.guest_bus.specs.Lacking.{lacks_in};
+    ghost use Rattle.guest_bus.specs.Writes.{WritesTo};
+    ghost use Rattle.machine.specs.declared.access.Why.{Why};
+    ghost use Rattle.guest_pages.specs.declared.page.Returned.{Returned};
     ghost use Rattle.guest.specs.Guests.{GuestIs, view_of, standing, Intact, IsSized, need_of, without_pages};
     ghost use Rattle.guest.specs.Guests.{HandsBack, last_given, HasPaused, Logs, LogsSteps, LogsOnly};
     ghost use Rattle.guest.specs.declared.progress.Pause.{Pause};
@@ -99,15 +99,15 @@ impl Guest {
         ensures limit { IfOk result (λ g. g.log.limit ≡ log_runs) }
         ensures seats { IfOk result (λ g. g.seats ≡ 0) }
     {
-        let journal = Journal::new(alloc, log_runs)?;
+        let owned_log = OwnedLog::new(alloc, log_runs)?;
         let cache = RunCache::new(alloc)?;
         Ok(Guest {
             cpu: Cpu::boot(image.entry),
-            bus: PagedBus::new(alloc, pages)?,
+            bus: GuestBus::new(alloc, pages)?,
             cache,
             image,
             pages,
-            journal,
+            owned_log,
         })
     }
 
@@ -132,21 +132,21 @@ impl Guest {
         ensures guest { self.new ≡ record self.old { seats = self.old.seats + 1 } }
         ensures seat { result ≡ record { head = self.old.head; number = self.old.seats; saw = []; made = [] } }
     {
-        self.journal.seat()
+        self.owned_log.seat()
     }
 
     /// How many seats it has, at most four.
     pub fn seats(&self) -> u8
         ensures { result ≡ self.now.seats }
     {
-        self.journal.seats()
+        self.owned_log.seats()
     }
 
     /// The head of the log, for those who look at it without the guest. `AllocError` where no further owner can be counted.
     pub fn head(&self) -> Result<Arc<Head, Global>, AllocError>
         ensures { IfOk result (λ head. head.value ≡ self.now.head) }
     {
-        self.journal.head()
+        self.owned_log.head()
     }
 
     /// What is seen of the machine beside its memory.
@@ -164,7 +164,7 @@ impl Guest {
     pub fn log(&self) -> &Log
         ensures { result.now ≡ self.now.log }
     {
-        self.journal.log()
+        self.owned_log.log()
     }
 
     /// Makes room in the log for one more step. All else stays, and the room becomes at most that for as many more runs as there
@@ -181,7 +181,7 @@ impl Guest {
         ensures kept { (held : ℕ → Option (List ℕ)) →
             Kept held (pages_seen (view_of self.old)) self.old.bus.pages → Kept held (pages_seen (view_of self.new)) self.new.bus.pages }
     {
-        self.journal.make_room()
+        self.owned_log.make_room()
     }
 
     /// Shows every seat that looks from now on the whole log: what `step` added other seats may not see before. It is called
@@ -190,7 +190,7 @@ impl Guest {
     pub fn publish(&mut self)
         ensures { self.new ≡ self.old }
     {
-        self.journal.publish();
+        self.owned_log.publish();
     }
 
     /// Shows the seat the whole log, for which it is legal.
@@ -200,7 +200,7 @@ impl Guest {
         ensures seat { seat.new ≡ record seat.old { saw = self.old.log.items } }
         ensures legal { Legal self.old.log.items seat.old.number seat.old.saw seat.old.made }
     {
-        self.journal.settle(seat);
+        self.owned_log.settle(seat);
     }
 
     /// How many pages it has, at most 2^20.
@@ -241,7 +241,7 @@ impl Guest {
     }
 
     /// The first of its pages from a number on that is in a frame, its own or a shared one; None where there is none. It costs what
-    /// `PhysMap::next_resident` does.
+    /// `GuestPages::next_resident` does.
     pub fn next_resident(&self, from: u32) -> Option<Ppn>
         ensures within { IfSome result (λ p. (from ≤ p) × (p < length self.now.bus.pages)) }
         ensures resident { IfSome result (λ p. is_resident (kind_at self.now.bus.pages p) ≡ true) }
@@ -303,7 +303,7 @@ impl Guest {
     {
         match step_pages(&mut self.cpu, &mut self.bus) {
             Stepped::Done(returned) => {
-                self.journal.step(seat);
+                self.owned_log.step(seat);
                 Stepped::Done(returned)
             }
             Stepped::Need(page, why) => Stepped::Need(page, why),
@@ -349,11 +349,11 @@ impl Guest {
         ensures head { (self.new.head ≡ self.old.head) × (self.new.seats ≡ self.old.seats) }
         ensures limit { self.new.log.limit ≡ self.old.log.limit }
     {
-        let most = self.journal.steps_with_room(seat, count);
+        let most = self.owned_log.steps_with_room(seat, count);
         let progress = run_pages(&mut self.cpu, &mut self.bus, &mut self.cache, most);
         whole(&self.bus);
         if progress.steps > 0 {
-            self.journal.steps(seat, progress.steps);
+            self.owned_log.steps(seat, progress.steps);
         }
         progress
     }
@@ -391,12 +391,12 @@ impl Guest {
         ensures head { (self.new.head ≡ self.old.head) × (self.new.seats ≡ self.old.seats) }
         ensures limit { self.new.log.limit ≡ self.old.log.limit }
     {
-        if let Err(stop) = self.journal.make_item_room() {
+        if let Err(stop) = self.owned_log.make_item_room() {
             return Err(Refused::Stop(stop));
         }
         match input_pages(&mut self.cpu, &mut self.bus, &item.what) {
             Ok(reply) => {
-                self.journal.add(item, seat);
+                self.owned_log.add(item, seat);
                 Ok(reply)
             }
             Err(error) => match error {
@@ -462,12 +462,12 @@ impl Guest {
             cache,
             image,
             pages: _,
-            journal,
+            owned_log,
         } = self;
         drop(cpu);
         drop(image);
         drop(cache);
-        drop(journal);
+        drop(owned_log);
         bus.close();
     }
 }

@@ -3,10 +3,10 @@ ghost use Rattle.std.specs.Prelude.{◌≡◌, ◌↔◌, ◌*◌, ◌<◌, ℕ,
 ghost use Rattle.word32.specs.Zeros.{zeros};
 ghost use Rattle.elf32.specs.declared.image.Image.{Image};
 ghost use Rattle.elf32.specs.Images.{FitsPages};
-ghost use Rattle.mips_step.specs.World.{page_bytes};
-ghost use Rattle.flatvm.specs.Boot.{boot_memory};
-ghost use Rattle.flatvm.specs.Replies.{bytes_at, SomePlaceIn};
-ghost use Rattle.paging.specs.Faith.{Faithful};
+ghost use Rattle.machine.specs.Board.{page_bytes};
+ghost use Rattle.machine.specs.Boot.{boot_memory};
+ghost use Rattle.machine.specs.Replies.{bytes_at, SomePlaceIn};
+ghost use Rattle.page_moves.specs.Faith.{Faithful};
 ghost use Rattle.guest.specs.Guests.{GuestIs, view_of, standing, without_pages, Intact, IsSized};
 ghost use Rattle.guest.specs.Loading.{IsBeside};
 ghost use Rattle.guest.specs.Views.{pages_seen};
@@ -14,8 +14,8 @@ ghost use Rattle.guest.specs.Views.{pages_seen};
 /// A law: a guest to which nothing has happened since its boot is intact once its pages are those of the machine that its
 /// image boots.
 pub fn a_booted_guest_is_intact()
-    ensures { (g : GuestIs) → g.log.items ≡ [] → g.cpu ≡ g.boot.cpu → g.bus.devices ≡ g.boot.world.devices →
-        length g.boot.world.memory ≡ length g.bus.pages * 4096 → Faithful (pages_seen g.boot) g.bus.pages → Intact g }
+    ensures { (g : GuestIs) → g.log.items ≡ [] → g.cpu ≡ g.boot.cpu → g.bus.devices ≡ g.boot.board.devices →
+        length g.boot.board.memory ≡ length g.bus.pages * 4096 → Faithful (pages_seen g.boot) g.bus.pages → Intact g }
 {}
 
 /// A law: a page that no segment of the image reaches is zeros as the image boots.

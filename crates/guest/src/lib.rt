@@ -4,7 +4,7 @@
 //! (`view_of`), on a memory of its own, and it is `Intact` where processor, devices and pages are the view's (`Shows`,
 //! `specs/Views.antt`), a page in a slot by its SHA-256. The calls say what they answer by the view, and keep it so: `Guest::step`,
 //! `Guest::run` and `Guest::need`, `Guest::input`, `Guest::take_in`, `Guest::debug_read`. What `step` hands back where it gave a page is
-//! `HandsBack`. The crates above move a guest's pages by `paging`, whose trait `Pages` it has; `laws` says that its view stays then, and
+//! `HandsBack`. The crates above move a guest's pages by `page_moves`, whose trait `Pages` it has; `laws` says that its view stays then, and
 //! that a guest that was booted is intact once its pages are loaded (`reaches` names them, `Guest::load_page` loads one).
 #![tactic(auto)]
 
@@ -22,7 +22,7 @@ pub mod stepped;
 pub use guest::Guest;
 pub use guest_log::{Log, Stop};
 pub use loading::{load_image_page, reaches};
-pub use loghead::{Head, Seat};
+pub use log_seats::{Head, Seat};
 pub use progress::{Pause, Progress};
 pub use refused::Refused;
 pub use stepped::Stepped;

@@ -2,19 +2,19 @@
 ghost use Rattle.std.specs.Prelude.{◌≡◌, ◌+◌, ◌-◌, ◌*◌, ◌^◌, ◌<◌, ◌≤◌, ℕ, IsTrue, false, All, List, length, take, drop, fold};
 ghost use Rattle.word32.specs.Words.{patched};
 ghost use Rattle.word32.specs.Zeros.{zeros};
-ghost use Rattle.mips_step.specs.World.{page_bytes};
+ghost use Rattle.machine.specs.Board.{page_bytes};
 ghost use Rattle.elf32.specs.Images.{IsWithin, FitsPages};
-ghost use Rattle.flatvm.specs.Boot.{placed, boot_memory};
-ghost use Rattle.physmap.specs.declared.page.Page.{Page};
-ghost use Rattle.physmap.specs.declared.page.PageKind.{PageKind};
-ghost use Rattle.physmap.specs.Pages.{page_at, kind_at, own_frame};
-ghost use Rattle.paged_bus.specs.Buses.{IsSettled, with_page};
+ghost use Rattle.machine.specs.Boot.{placed, boot_memory};
+ghost use Rattle.guest_pages.specs.declared.page.Page.{Page};
+ghost use Rattle.guest_pages.specs.declared.page.PageKind.{PageKind};
+ghost use Rattle.guest_pages.specs.Pages.{page_at, kind_at, own_frame};
+ghost use Rattle.guest_bus.specs.Buses.{IsSettled, with_page};
 ghost use Rattle.guest.specs.Loading.{segment_reaches, Reaches, IsBeside, IsBootPage};
 
 use crate::step::whole;
 use elf32::{Image, SEGMENT_BASE, Segment};
-use mips_step::Ppn;
-use paged_bus::PagedBus;
+use guest_bus::GuestBus;
+use machine::Ppn;
 
 // Where a segment and a page begin, in bytes from physical address 0 on.
 fn starts(segment: &Segment, p: Ppn) -> (u64, u64)
@@ -128,7 +128,7 @@ pub fn load_image_page(image: &Image, p: Ppn, bytes: &mut [u8])
 }
 
 /// Puts the bytes that a page has as the image boots into the frame that the page has for its own. All else stays.
-pub(crate) fn load_page(bus: &mut PagedBus, image: &Image, p: Ppn)
+pub(crate) fn load_page(bus: &mut GuestBus, image: &Image, p: Ppn)
     requires settled { IsSettled bus.old }
     requires fits { FitsPages image.now (length bus.old.pages) }
     requires there { p < length bus.old.pages }

@@ -3,9 +3,9 @@ ghost use Rattle.guest.specs.Guests.{without_pages};
 
 use crate::Guest;
 use frames::{Frame, SharePage, ShareTicket, SlotTicket};
-use mips_step::Ppn;
-use paging::Pages;
-use physmap::{PageKind, Returned};
+use guest_pages::{PageKind, Returned};
+use machine::Ppn;
+use page_moves::Pages;
 use sharetab::Shares;
 use std::alloc::AllocError;
 

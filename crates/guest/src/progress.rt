@@ -2,8 +2,8 @@
 ghost use Rattle.std.specs.Prelude.{◌≡◌};
 ghost use Rattle.guest.specs.Guests.{steps_by};
 
-use mips_step::{Ppn, Why};
-use physmap::Returned;
+use guest_pages::Returned;
+use machine::{Ppn, Why};
 
 /// Why a run of steps pauses.
 pub enum Pause {

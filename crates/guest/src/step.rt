@@ -5,41 +5,41 @@ ghost use Rattle.items.specs.Entries.{steps_of};
 ghost use Rattle.items.specs.Items.{is_step};
 ghost use Rattle.items.specs.declared.item.What.TheVariants.{Drain};
 ghost use Rattle.mips_tlb.specs.declared.kind.Kind.TheVariants.{Store};
-ghost use Rattle.mips_step.specs.Accesses.{accesses, first_lack};
-ghost use Rattle.mips_step.specs.Agreeing.{GivenAreZeros};
-ghost use Rattle.mips_step.specs.Given.{step_given};
-ghost use Rattle.mips_step.specs.Step.{Machine, in_world, step};
-ghost use Rattle.flatvm.specs.Answers.{replied};
-ghost use Rattle.flatvm.specs.Items.{accepts, after, reply, run};
-ghost use Rattle.flatvm.specs.Replies.{bytes_at, SomePlaceIn};
-ghost use Rattle.mips_run.specs.Runs.{steps, AreQuiet};
-ghost use Rattle.physmap.specs.declared.page.PageKind.{PageKind};
-ghost use Rattle.physmap.specs.declared.page.Returned.{Returned};
-ghost use Rattle.physmap.specs.Pages.{kind_at, AreWhole};
-ghost use Rattle.physmap.specs.Outline.{outline};
-ghost use Rattle.paging.specs.Faith.{Kept};
-ghost use Rattle.paged_bus.specs.Buses.{IsSettled, world_of, after_settling, page_returned};
-ghost use Rattle.paged_bus.specs.Lacking.{lacks_in};
-ghost use Rattle.paged_bus.specs.Writes.{WritesTo};
-ghost use Rattle.mips_step.specs.declared.access.Why.{Why};
+ghost use Rattle.machine.specs.Accesses.{accesses, first_lack};
+ghost use Rattle.machine.specs.Agreeing.{GivenAreZeros};
+ghost use Rattle.machine.specs.Given.{step_given};
+ghost use Rattle.machine.specs.Step.{Machine, machine_with, step};
+ghost use Rattle.machine.specs.Answers.{replied};
+ghost use Rattle.machine.specs.Items.{accepts, after, reply, run};
+ghost use Rattle.machine.specs.Replies.{bytes_at, SomePlaceIn};
+ghost use Rattle.mips_fast.specs.Runs.{steps, AreQuiet};
+ghost use Rattle.guest_pages.specs.declared.page.PageKind.{PageKind};
+ghost use Rattle.guest_pages.specs.declared.page.Returned.{Returned};
+ghost use Rattle.guest_pages.specs.Pages.{kind_at, AreWhole};
+ghost use Rattle.guest_pages.specs.Outline.{outline};
+ghost use Rattle.page_moves.specs.Faith.{Kept};
+ghost use Rattle.guest_bus.specs.Buses.{IsSettled, board_of, after_settling, page_returned};
+ghost use Rattle.guest_bus.specs.Lacking.{lacks_in};
+ghost use Rattle.guest_bus.specs.Writes.{WritesTo};
+ghost use Rattle.machine.specs.declared.access.Why.{Why};
 ghost use Rattle.guest.specs.Guests.{need_of, HandsBack, last_given, HasPaused, IsMade};
 ghost use Rattle.guest.specs.declared.progress.Pause.{Pause};
 ghost use Rattle.guest.specs.Views.{pages_seen, Shows};
 
 use crate::{Pause, Progress, Stepped};
-use flatvm::{Reply, Unreached, debug};
+use guest_bus::{GuestBus, InputError};
+use guest_pages::Returned;
 use items::What;
-use mips_run::RunCache;
-use mips_step::{Cpu, Ppn, StepOut, Why};
-use paged_bus::{InputError, PagedBus};
-use physmap::Returned;
+use machine::{Ppn, Reply, StepOut, Why};
+use mips_fast::RunCache;
+use mips_step::{Cpu, Unreached, debug};
 
 // The page that a step gave leaves its place.
 #[inline(always)]
-fn settled(bus: &mut PagedBus) -> Returned
+fn settled(bus: &mut GuestBus) -> Returned
     ensures whole { AreWhole bus.old.pages }
     ensures bus { bus.new ≡ after_settling bus.old }
-    ensures world { world_of bus.new ≡ world_of bus.old }
+    ensures board { board_of bus.new ≡ board_of bus.old }
     ensures returned { result ≡ page_returned bus.old.waiting bus.old.pages }
 {
     bus.sound();
@@ -48,7 +48,7 @@ fn settled(bus: &mut PagedBus) -> Returned
 
 // Each page has its bytes.
 #[inline(always)]
-pub(crate) fn whole(bus: &PagedBus)
+pub(crate) fn whole(bus: &GuestBus)
     ensures { AreWhole bus.now.pages }
 {
     bus.sound();
@@ -58,13 +58,13 @@ pub(crate) fn whole(bus: &PagedBus)
 /// the step would access a page that is lacking, and then nothing has changed. Where processor and pages were those of a
 /// machine, they are those of that machine's step.
 #[inline(always)]
-pub(crate) fn step_pages(cpu: &mut Cpu, bus: &mut PagedBus) -> Stepped
+pub(crate) fn step_pages(cpu: &mut Cpu, bus: &mut GuestBus) -> Stepped
     requires settled { IsSettled bus.old }
-    ensures need { need_of result ≡ first_lack (lacks_in bus.old.pages) (accesses (in_world cpu.old (world_of bus.old))) }
-    ensures shows { need_of result ≡ None → (m : Machine) → GivenAreZeros m.world → Shows m cpu.old bus.old → Shows (step m) cpu.new bus.new }
-    ensures kept { need_of result ≡ None → (m : Machine) → GivenAreZeros m.world → Shows m cpu.old bus.old →
+    ensures need { need_of result ≡ first_lack (lacks_in bus.old.pages) (accesses (machine_with cpu.old (board_of bus.old))) }
+    ensures shows { need_of result ≡ None → (m : Machine) → GivenAreZeros m.board → Shows m cpu.old bus.old → Shows (step m) cpu.new bus.new }
+    ensures kept { need_of result ≡ None → (m : Machine) → GivenAreZeros m.board → Shows m cpu.old bus.old →
         (held : ℕ → Option (List ℕ)) → Kept held (pages_seen m) bus.old.pages → Kept held (pages_seen (step m)) bus.new.pages }
-    ensures hands_back { HandsBack (step_given (in_world cpu.old (world_of bus.old))) bus.old.pages result bus.new.pages }
+    ensures hands_back { HandsBack (step_given (machine_with cpu.old (board_of bus.old))) bus.old.pages result bus.new.pages }
     ensures unchanged { need_of result ≢ None → (cpu.new ≡ cpu.old) × (bus.new ≡ bus.old) }
     ensures settled { IsSettled bus.new }
     ensures whole { AreWhole bus.old.pages }
@@ -81,17 +81,17 @@ pub(crate) fn step_pages(cpu: &mut Cpu, bus: &mut PagedBus) -> Stepped
 
 /// One step as of `step_pages`: None where it is made and gave no page, else why a run of steps pauses there.
 #[inline(always)]
-fn step_or_pause(cpu: &mut Cpu, bus: &mut PagedBus) -> Option<Pause>
+fn step_or_pause(cpu: &mut Cpu, bus: &mut GuestBus) -> Option<Pause>
     requires settled { IsSettled bus.old }
     ensures need { (p : ℕ) (why : Why) → result ≡ Some (Pause.Need p why) →
-        first_lack (lacks_in bus.old.pages) (accesses (in_world cpu.old (world_of bus.old))) ≡ Some (p, why) }
+        first_lack (lacks_in bus.old.pages) (accesses (machine_with cpu.old (board_of bus.old))) ≡ Some (p, why) }
     ensures there { (p : ℕ) (why : Why) → result ≡ Some (Pause.Need p why) → p < length bus.old.pages }
-    ensures lacking { IsMade result → first_lack (lacks_in bus.old.pages) (accesses (in_world cpu.old (world_of bus.old))) ≡ None }
-    ensures moves { IsMade result → in_world cpu.new (world_of bus.new) ≡ step (in_world cpu.old (world_of bus.old)) }
-    ensures shows { IsMade result → (m : Machine) → GivenAreZeros m.world → Shows m cpu.old bus.old → Shows (step m) cpu.new bus.new }
-    ensures kept { IsMade result → (m : Machine) → GivenAreZeros m.world → Shows m cpu.old bus.old →
+    ensures lacking { IsMade result → first_lack (lacks_in bus.old.pages) (accesses (machine_with cpu.old (board_of bus.old))) ≡ None }
+    ensures moves { IsMade result → machine_with cpu.new (board_of bus.new) ≡ step (machine_with cpu.old (board_of bus.old)) }
+    ensures shows { IsMade result → (m : Machine) → GivenAreZeros m.board → Shows m cpu.old bus.old → Shows (step m) cpu.new bus.new }
+    ensures kept { IsMade result → (m : Machine) → GivenAreZeros m.board → Shows m cpu.old bus.old →
         (held : ℕ → Option (List ℕ)) → Kept held (pages_seen m) bus.old.pages → Kept held (pages_seen (step m)) bus.new.pages }
-    ensures paused { IsMade result → HasPaused (step_given (in_world cpu.old (world_of bus.old))) bus.old.pages result bus.new.pages }
+    ensures paused { IsMade result → HasPaused (step_given (machine_with cpu.old (board_of bus.old))) bus.old.pages result bus.new.pages }
     ensures unchanged { (IsMade result → ⊥) → (cpu.new ≡ cpu.old) × (bus.new ≡ bus.old) }
     ensures settled { IsSettled bus.new }
 {
@@ -117,7 +117,7 @@ fn step_or_pause(cpu: &mut Cpu, bus: &mut PagedBus) -> Option<Pause>
 #[inline]
 pub(crate) fn run_pages(
     cpu: &mut Cpu,
-    bus: &mut PagedBus,
+    bus: &mut GuestBus,
     cache: &mut RunCache,
     count: u32,
 ) -> Progress
@@ -126,17 +126,17 @@ pub(crate) fn run_pages(
     ensures all { result.pause ≡ None → result.steps ≡ count }
     ensures gave { (returned : Returned) → result.pause ≡ Some (Pause.Gave returned) → 0 < result.steps }
     ensures need { (p : ℕ) (why : Why) → result.pause ≡ Some (Pause.Need p why) →
-        first_lack (lacks_in bus.new.pages) (accesses (in_world cpu.new (world_of bus.new))) ≡ Some (p, why) }
+        first_lack (lacks_in bus.new.pages) (accesses (machine_with cpu.new (board_of bus.new))) ≡ Some (p, why) }
     ensures there { (p : ℕ) (why : Why) → result.pause ≡ Some (Pause.Need p why) → p < length bus.old.pages }
     ensures short { (p : ℕ) (why : Why) → result.pause ≡ Some (Pause.Need p why) → result.steps < count }
-    ensures shows { (seat : ℕ) (m : Machine) → GivenAreZeros m.world → Shows m cpu.old bus.old → Shows (run (steps_of seat result.steps) m) cpu.new bus.new }
-    ensures kept { (seat : ℕ) (m : Machine) → GivenAreZeros m.world → Shows m cpu.old bus.old → (held : ℕ → Option (List ℕ)) →
+    ensures shows { (seat : ℕ) (m : Machine) → GivenAreZeros m.board → Shows m cpu.old bus.old → Shows (run (steps_of seat result.steps) m) cpu.new bus.new }
+    ensures kept { (seat : ℕ) (m : Machine) → GivenAreZeros m.board → Shows m cpu.old bus.old → (held : ℕ → Option (List ℕ)) →
         Kept held (pages_seen m) bus.old.pages → Kept held (pages_seen (run (steps_of seat result.steps) m)) bus.new.pages }
     ensures lacking { (seat k : ℕ) → k < result.steps →
-        first_lack (lacks_in bus.old.pages) (accesses (run (steps_of seat k) (in_world cpu.old (world_of bus.old)))) ≡ None }
-    ensures gives_last { (seat k : ℕ) → k + 1 < result.steps → step_given (run (steps_of seat k) (in_world cpu.old (world_of bus.old))) ≡ None }
+        first_lack (lacks_in bus.old.pages) (accesses (run (steps_of seat k) (machine_with cpu.old (board_of bus.old)))) ≡ None }
+    ensures gives_last { (seat k : ℕ) → k + 1 < result.steps → step_given (run (steps_of seat k) (machine_with cpu.old (board_of bus.old))) ≡ None }
     ensures paused { (seat : ℕ) →
-        HasPaused (last_given seat result.steps (in_world cpu.old (world_of bus.old))) bus.old.pages result.pause bus.new.pages }
+        HasPaused (last_given seat result.steps (machine_with cpu.old (board_of bus.old))) bus.old.pages result.pause bus.new.pages }
     ensures unchanged { result.steps ≡ 0 → (cpu.new ≡ cpu.old) × (bus.new ≡ bus.old) }
     ensures settled { IsSettled bus.new }
     ensures whole { AreWhole bus.old.pages }
@@ -165,32 +165,32 @@ pub(crate) fn run_pages(
     }
 }
 
-/// Some steps of a processor over pages, at most `count`, as `mips_run::run` makes them, and how many: none of them needs a page that is
+/// Some steps of a processor over pages, at most `count`, as `mips_fast::run` makes them, and how many: none of them needs a page that is
 /// lacking or gives one. Where processor and pages were those of a machine, they are those of that machine after so many steps.
 #[inline(always)]
-fn run_quietly(cpu: &mut Cpu, bus: &mut PagedBus, cache: &mut RunCache, count: u32) -> u32
+fn run_quietly(cpu: &mut Cpu, bus: &mut GuestBus, cache: &mut RunCache, count: u32) -> u32
     requires settled { IsSettled bus.old }
     ensures few { result ≤ count }
-    ensures shows { (seat : ℕ) (m : Machine) → GivenAreZeros m.world → Shows m cpu.old bus.old → Shows (run (steps_of seat result) m) cpu.new bus.new }
-    ensures kept { (seat : ℕ) (m : Machine) → GivenAreZeros m.world → Shows m cpu.old bus.old → (held : ℕ → Option (List ℕ)) →
+    ensures shows { (seat : ℕ) (m : Machine) → GivenAreZeros m.board → Shows m cpu.old bus.old → Shows (run (steps_of seat result) m) cpu.new bus.new }
+    ensures kept { (seat : ℕ) (m : Machine) → GivenAreZeros m.board → Shows m cpu.old bus.old → (held : ℕ → Option (List ℕ)) →
         Kept held (pages_seen m) bus.old.pages → Kept held (pages_seen (run (steps_of seat result) m)) bus.new.pages }
-    ensures moves { in_world cpu.new (world_of bus.new) ≡ steps result (in_world cpu.old (world_of bus.old)) }
-    ensures quiet { AreQuiet (lacks_in bus.old.pages) result (in_world cpu.old (world_of bus.old)) }
+    ensures moves { machine_with cpu.new (board_of bus.new) ≡ steps result (machine_with cpu.old (board_of bus.old)) }
+    ensures quiet { AreQuiet (lacks_in bus.old.pages) result (machine_with cpu.old (board_of bus.old)) }
     ensures same { outline bus.new.pages ≡ outline bus.old.pages }
     ensures unchanged { result ≡ 0 → (cpu.new ≡ cpu.old) × (bus.new ≡ bus.old) }
     ensures settled { IsSettled bus.new }
 {
     whole(bus);
-    let made = mips_run::run(cpu, bus, cache, count);
+    let made = mips_fast::run(cpu, bus, cache, count);
     whole(bus);
     made
 }
 
 /// The `Need` that `step_pages` would answer. Where processor and pages are those of a machine, it is what that machine lacks by
 /// where the pages are.
-pub(crate) fn need_pages(cpu: &Cpu, bus: &PagedBus) -> Option<(Ppn, Why)>
+pub(crate) fn need_pages(cpu: &Cpu, bus: &GuestBus) -> Option<(Ppn, Why)>
     requires settled { IsSettled bus.now }
-    ensures need { result ≡ first_lack (lacks_in bus.now.pages) (accesses (in_world cpu.now (world_of bus.now))) }
+    ensures need { result ≡ first_lack (lacks_in bus.now.pages) (accesses (machine_with cpu.now (board_of bus.now))) }
     ensures there { IfSome result (λ needed. needed.0 < length bus.now.pages) }
     ensures whole { AreWhole bus.now.pages }
 {
@@ -198,11 +198,11 @@ pub(crate) fn need_pages(cpu: &Cpu, bus: &PagedBus) -> Option<(Ppn, Why)>
     cpu.need(bus)
 }
 
-/// What happens to a processor over pages by an item that is no step, as `PagedBus::input` has it. Where processor and pages were
+/// What happens to a processor over pages by an item that is no step, as `GuestBus::input` has it. Where processor and pages were
 /// those of a machine, they are those of that machine after it, and the answer is that machine's.
 pub(crate) fn input_pages(
     cpu: &mut Cpu,
-    bus: &mut PagedBus,
+    bus: &mut GuestBus,
     what: &What,
 ) -> Result<Reply, InputError>
     requires settled { IsSettled bus.old }
@@ -213,12 +213,12 @@ pub(crate) fn input_pages(
         (held : ℕ → Option (List ℕ)) → Kept held (pages_seen m) bus.old.pages → Kept held (pages_seen (after what.now m)) bus.new.pages) }
     ensures reply { IfOk result (λ r. (m : Machine) → Shows m cpu.old bus.old → replied r ≡ reply what.now m) }
     ensures refused { IsErrOf result InputError.Machine → (m : Machine) → Shows m cpu.old bus.old → accepts what.now m ≡ false }
-    ensures refused_as_it_stands { IsErrOf result InputError.Machine → accepts what.now (in_world cpu.old (world_of bus.old)) ≡ false }
-    ensures reply_as_it_stands { IfOk result (λ r. replied r ≡ reply what.now (in_world cpu.old (world_of bus.old))) }
+    ensures refused_as_it_stands { IsErrOf result InputError.Machine → accepts what.now (machine_with cpu.old (board_of bus.old)) ≡ false }
+    ensures reply_as_it_stands { IfOk result (λ r. replied r ≡ reply what.now (machine_with cpu.old (board_of bus.old))) }
     ensures outline { outline bus.new.pages ≡ outline bus.old.pages }
     ensures memory { IsErrOf result InputError.Memory → what.now ≡ Drain }
     ensures away { (page : ℕ) → IsErrOf result (InputError.Away page) → lacks_in bus.old.pages page Store ≢ None }
-    ensures its_page { (page : ℕ) → IsErrOf result (InputError.Away page) → WritesTo what.now (in_world cpu.old (world_of bus.old)) page }
+    ensures its_page { (page : ℕ) → IsErrOf result (InputError.Away page) → WritesTo what.now (machine_with cpu.old (board_of bus.old)) page }
     ensures unchanged { OnErr result ((bus.new ≡ bus.old) × (cpu.new ≡ cpu.old)) }
     ensures settled { IsSettled bus.new }
 {
@@ -232,11 +232,11 @@ pub(crate) fn input_pages(
     }
 }
 
-/// Reads as many bytes as `bytes` has from a virtual address on, as `flatvm::debug::read` has it. Where processor and pages are
+/// Reads as many bytes as `bytes` has from a virtual address on, as `mips_step::debug::read` has it. Where processor and pages are
 /// those of a machine, the bytes are those that are read of that machine.
 pub(crate) fn read_pages(
     cpu: &Cpu,
-    bus: &PagedBus,
+    bus: &GuestBus,
     address: u32,
     bytes: &mut [u8],
 ) -> Result<(), Unreached>
@@ -246,8 +246,8 @@ pub(crate) fn read_pages(
     ensures away { (page : ℕ) → IsErrOf result (Unreached.Away page) → kind_at bus.now.pages page ≡ PageKind.Swapped }
     ensures its_page { (page : ℕ) → IsErrOf result (Unreached.Away page) →
         (m : Machine) → Shows m cpu.now bus.now → SomePlaceIn m address (length bytes.old) page }
-    ensures not_placed { IsErrOf result Unreached.NoPlace ↔ (bytes_at (in_world cpu.now (world_of bus.now)) address (length bytes.old) ≡ None) }
-    ensures placed_in { (page : ℕ) → IsErrOf result (Unreached.Away page) → SomePlaceIn (in_world cpu.now (world_of bus.now)) address (length bytes.old) page }
+    ensures not_placed { IsErrOf result Unreached.NoPlace ↔ (bytes_at (machine_with cpu.now (board_of bus.now)) address (length bytes.old) ≡ None) }
+    ensures placed_in { (page : ℕ) → IsErrOf result (Unreached.Away page) → SomePlaceIn (machine_with cpu.now (board_of bus.now)) address (length bytes.old) page }
     ensures unchanged { OnErr result (bytes.new ≡ bytes.old) }
 {
     whole(bus);

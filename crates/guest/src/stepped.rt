@@ -1,6 +1,6 @@
 //! What a step of a guest answers.
-use mips_step::{Ppn, Why};
-use physmap::Returned;
+use guest_pages::Returned;
+use machine::{Ppn, Why};
 
 /// What a step of a guest answers.
 pub enum Stepped {

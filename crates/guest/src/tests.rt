@@ -3,18 +3,18 @@
 ghost use Rattle.std.specs.Prelude.{◌≡◌, ◌<◌, ◌≤◌, ℕ, false, length};
 ghost use Rattle.elf32.specs.Images.{FitsPages};
 ghost use Rattle.items.specs.Items.{is_step};
-ghost use Rattle.physmap.specs.Holdings.{tickets_held};
+ghost use Rattle.guest_pages.specs.Holdings.{tickets_held};
 
 use crate::loading::{load_image_page, reaches};
 use crate::{Guest, Refused, Seat, Stepped};
 use elf32::{Image, Segment};
 use framepool::Pool;
 use frames::{Frame, FrameNo};
+use guest_pages::{PageKind, Returned};
 use items::{Item, What, WriteBytes};
+use machine::{Ppn, Why};
 use mips_instr::Reg;
-use mips_step::{Ppn, Why};
-use paging::{Pages, evict_in, supply_first, supply_swapped};
-use physmap::{PageKind, Returned};
+use page_moves::{Pages, evict_in, supply_first, supply_swapped};
 use sharetab::Shares;
 use std::alloc::Global;
 use std::fmt::Debug;

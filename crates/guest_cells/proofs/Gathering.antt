@@ -2,8 +2,8 @@
 use Rattle.std.proofs.Common.{◌≡◌, List, ◌∷◌, length, map, ap, sym, subst, ◌∙◌, arith, All}
 use Rattle.std.proofs.lemmas.List.{length-map}
 use Rattle.std.proofs.lemmas.List.Elements.{All-head, All-tail}
-use Rattle.physmap.specs.declared.page.Page.{Page}
-use Rattle.physmap.specs.Outline.{outline}
+use Rattle.guest_pages.specs.declared.page.Page.{Page}
+use Rattle.guest_pages.specs.Outline.{outline}
 use Rattle.accounts.specs.declared.account.Extent.{Extent}
 use Rattle.machine_memory.specs.declared.audit.BookCounts.{BookCounts}
 use Rattle.machine_memory.specs.Memories.{MemoryIs, IsLevel}
@@ -12,7 +12,7 @@ use Rattle.machine_memory.specs.Audits.{IsCountOf}
 use Rattle.ledger.specs.Shares.{ShareIs}
 use Rattle.slot_contents.specs.declared.content.Content.{Content}
 use Rattle.lent_pages.specs.Contents.{its_slots}
-use Rattle.paging.specs.Faith.{Kept}
+use Rattle.page_moves.specs.Faith.{Kept}
 use Rattle.guest.specs.Guests.{GuestIs, view_of, Intact}
 use Rattle.guest.specs.Views.{pages_seen}
 use Rattle.console_queue.specs.Queues.{TakeIs}

@@ -1,7 +1,7 @@
 -- Guests that come behind their locks.
 use Rattle.std.proofs.Common.{◌≡◌, ℕ, suc, ◌+◌, ◌<◌, get_or, List, [], ◌∷◌, ◌++◌, length, map, ap, sym, subst, ◌∙◌, refl, All, Option, arith, length-append}
 use Rattle.std.proofs.lemmas.List.Elements.{All-push, All-head, All-tail}
-use Rattle.physmap.specs.declared.page.Page.{Page}
+use Rattle.guest_pages.specs.declared.page.Page.{Page}
 use Rattle.guest.specs.Guests.{GuestIs, view_of, Intact}
 use Rattle.guest.specs.Views.{pages_seen}
 use Rattle.machine_memory.specs.Dealt.{Each, IsKeptBy}

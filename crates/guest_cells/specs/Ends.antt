@@ -1,6 +1,6 @@
 -- What guests behind locks leave when they end.
 use Rattle.std.specs.Prelude.{◌≡◌, true, List, ◌++◌, map}
-use Rattle.physmap.specs.declared.page.Page.{Page}
+use Rattle.guest_pages.specs.declared.page.Page.{Page}
 use Rattle.guest.specs.Guests.{Intact}
 use Rattle.cell.specs.declared.cell.Front.{Front}
 use Rattle.cell.specs.declared.cell.Cell.{Cell}

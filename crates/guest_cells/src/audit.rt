@@ -1,6 +1,6 @@
 //! What the books of all guests count while their threads run.
 ghost use Rattle.std.specs.Prelude.{◌≡◌, ◌+◌, List, length};
-ghost use Rattle.physmap.specs.declared.page.Page.{Page};
+ghost use Rattle.guest_pages.specs.declared.page.Page.{Page};
 ghost use Rattle.machine_memory.specs.Audits.{IsCountOf};
 ghost use Rattle.guest_cells.specs.Handles.{AreOfMemory};
 ghost use Rattle.guest_cells.specs.Audits.{AreOutlines};
@@ -40,7 +40,7 @@ fn books_with<S: SwapStore + Drop, R: Wait>(
 
 impl<S: SwapStore + Drop> GuestCells<S> {
     ghost use Rattle.std.specs.Prelude.{◌≡◌, List, length};
-    ghost use Rattle.physmap.specs.declared.page.Page.{Page};
+    ghost use Rattle.guest_pages.specs.declared.page.Page.{Page};
     ghost use Rattle.machine_memory.specs.Audits.{IsCountOf};
 
     /// How many frames, pages and slots there are, each kind counted for itself at one moment: the counts are those of exact books of pages of

@@ -1,6 +1,6 @@
 //! Guests that are booted, and come behind their locks.
 ghost use Rattle.std.specs.Prelude.{◌≡◌, ◌<◌, ◌≤◌, ℕ, List, [], All, IfOk, IfErr, length, map, vec_capacity};
-ghost use Rattle.paging.specs.Books.{Books as AreExact};
+ghost use Rattle.page_moves.specs.Books.{Books as AreExact};
 ghost use Rattle.booting.specs.declared.asked.NewGuest.{NewGuest};
 ghost use Rattle.booting.specs.Boots.{pages_in, KeepsPages};
 ghost use Rattle.booting.specs.Stores.{StoreStays};

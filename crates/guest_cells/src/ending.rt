@@ -1,6 +1,6 @@
 //! How guests leave their locks.
 ghost use Rattle.std.specs.Prelude.{◌≡◌, ◌+◌, ◌≤◌, ◌++◌, [], length, map, vec_capacity};
-ghost use Rattle.physmap.specs.Outline.{outline};
+ghost use Rattle.guest_pages.specs.Outline.{outline};
 ghost use Rattle.machine_memory.specs.Memories.{IsLevel};
 ghost use Rattle.guest_cells.specs.Handles.{AreOfMemory, AreHandlesOf, AreHandlesOfAll};
 ghost use Rattle.guest_cells.specs.Ends.{HasEnded, HaveEnded, pages_left};

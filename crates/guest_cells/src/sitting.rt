@@ -1,6 +1,6 @@
 //! A guest's account, which leaves its stake for those that are gathered and comes back.
 ghost use Rattle.std.specs.Prelude.{◌≡◌, ◌∷◌, ◌<◌, [], length, take, drop};
-ghost use Rattle.physmap.specs.Outline.{outline};
+ghost use Rattle.guest_pages.specs.Outline.{outline};
 ghost use Rattle.machine_memory.specs.Memories.{IsLevel};
 ghost use Rattle.machine_memory.specs.Gathered.{IsEmptied, AreCounted};
 

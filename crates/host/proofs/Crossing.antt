@@ -22,15 +22,15 @@ use Rattle.lasting_truth.specs.contracts.keeper.Keeper as Keeper
 use Rattle.lasting_truth.specs.contracts.witness.Witness as Witness
 use Rattle.lasting_truth.proofs.truth.Truth.TheSendSync as truth
 use Rattle.console_queue.proofs.queue.ConsoleQueue.TheSendSync as queue
-use Rattle.loghead.specs.contracts.pen.Pen as Pen
-use Rattle.loghead.specs.contracts.seat.Seat as LogSeat
-use Rattle.loghead.proofs.head.Head.TheSendSync as head
+use Rattle.log_seats.specs.contracts.pen.Pen as Pen
+use Rattle.log_seats.specs.contracts.seat.Seat as LogSeat
+use Rattle.log_seats.proofs.head.Head.TheSendSync as head
 use Rattle.guest_log.proofs.log.Log.TheSendSync as log
-use Rattle.journal.specs.contracts.journal.Journal as Journal
-use Rattle.journal.specs.contracts.journal.Journal.TheInside as inside_journal
+use Rattle.owned_log.specs.contracts.owned_log.OwnedLog as OwnedLog
+use Rattle.owned_log.specs.contracts.owned_log.OwnedLog.TheInside as inside_owned_log
 use Rattle.mips_step.proofs.cpu.Cpu.TheSendSync as cpu
-use Rattle.mips_run.proofs.caches.RunCache.TheSendSync as cache
-use Rattle.paged_bus.proofs.bus.PagedBus.TheSendSync as bus
+use Rattle.mips_fast.proofs.caches.RunCache.TheSendSync as cache
+use Rattle.guest_bus.proofs.bus.GuestBus.TheSendSync as bus
 use Rattle.guest.specs.contracts.guest.Guest as Guest
 use Rattle.guest.specs.contracts.guest.Guest.TheInside as inside_guest
 use Rattle.keyed_lock.proofs.lock.KeyedLock.TheSendSync as lock
@@ -79,13 +79,13 @@ seats_sync : IsSync (Seats.the_field).row
 seats_sync = struct_sync (shape Seats.the_type) (cell_seat_sync, (cell_seat_sync, (cell_seat_sync, (cell_seat_sync, tt))))
 
 -- ---- what a guest leaves
-journal_sync : IsSync Journal.the_row
-journal_sync = view_sync inside_journal.the_row _ _ _ _ (recorded_sync (inside_journal.the_field).row _ _ (inside_journal.the_type).to_one
-    (struct_sync (shape inside_journal.the_type) (log.the_sync, (search (sendable, crosses, head.the_send, head.the_sync) depth 40, (pen_sync, tt)))))
+owned_log_sync : IsSync OwnedLog.the_row
+owned_log_sync = view_sync inside_owned_log.the_row _ _ _ _ (recorded_sync (inside_owned_log.the_field).row _ _ (inside_owned_log.the_type).to_one
+    (struct_sync (shape inside_owned_log.the_type) (log.the_sync, (search (sendable, crosses, head.the_send, head.the_sync) depth 40, (pen_sync, tt)))))
 
 guest_sync : IsSync Guest.the_row
 guest_sync = view_sync inside_guest.the_row _ _ _ _ (recorded_sync (inside_guest.the_field).row _ _ (inside_guest.the_type).to_one
-    (struct_sync (shape inside_guest.the_type) (cpu.the_sync, (bus.the_sync, (cache.the_field_sync, (search (sendable, crosses, image.the_send, image.the_sync) depth 40, (search sendable, (journal_sync, tt))))))))
+    (struct_sync (shape inside_guest.the_type) (cpu.the_sync, (bus.the_sync, (cache.the_field_sync, (search (sendable, crosses, image.the_send, image.the_sync) depth 40, (search sendable, (owned_log_sync, tt))))))))
 
 ended_sync : IsSync Ended.the_row
 ended_sync = recorded_sync (Ended.the_field).row _ _ (Ended.the_type).to_one

@@ -3,7 +3,7 @@ use Rattle.std.proofs.Common.{◌≡◌, ℕ, List, [], ◌∷◌, ◌++◌, ap,
 use mathlib.Core.List.{IsPrefix}
 use Rattle.items.specs.declared.item.Item.{Item}
 use Rattle.items.specs.Items.{own}
-use Rattle.loghead.specs.Heads.{SeatIs}
+use Rattle.log_seats.specs.Heads.{SeatIs}
 use Rattle.seated.specs.Acts.{Acts, Sees}
 use Rattle.cell.specs.declared.cell.Front.{Front}
 use Rattle.cell.specs.declared.cell.Cell.{Cell}

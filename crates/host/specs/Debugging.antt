@@ -1,9 +1,9 @@
 -- What a debugger is answered.
 use Rattle.std.specs.Prelude.{◌≡◌, ◌<◌, ◌≤◌, ℕ, List, true, false, Some, None, length, slice_index}
 use Rattle.items.specs.declared.item.What.TheVariants as what
-use Rattle.flatvm.specs.Items.{accepts, run}
-use Rattle.flatvm.specs.Replies.{bytes_at}
-use Rattle.mips_step.specs.Step.{Machine}
+use Rattle.machine.specs.Items.{accepts, run}
+use Rattle.machine.specs.Replies.{bytes_at}
+use Rattle.machine.specs.Step.{Machine}
 use Rattle.seated.specs.Acts.{Sees}
 use Rattle.cell.specs.declared.cell.Front.{Front}
 use Rattle.cell.specs.declared.seat.Seat.{Seat}

@@ -1,8 +1,8 @@
 //! What a debugger does with a guest.
 ghost use Rattle.std.specs.Prelude.{◌≡◌, ◌≢◌, ◌≤◌, true, Some, None, IfOk, IfErr, IfSome, OnOk, OnErr, IsErrOf, length};
 ghost use Rattle.items.specs.declared.item.What.TheVariants as what;
-ghost use Rattle.flatvm.specs.Items.{run};
-ghost use Rattle.flatvm.specs.Replies.{bytes_at};
+ghost use Rattle.machine.specs.Items.{run};
+ghost use Rattle.machine.specs.Replies.{bytes_at};
 ghost use Rattle.seated.specs.Acts.{Sees};
 ghost use Rattle.cell.specs.Level.{IsMemoryOf};
 ghost use Rattle.cell.specs.Sitting.{IsOf, Lasts, IsTrusted, Happens, front_boot};
@@ -17,7 +17,7 @@ use guest::Refused;
 use guest_cells::GuestCells;
 use host_policy::Policy;
 use items::{DebugRegister, WriteBytes};
-use paging::SupplyError;
+use page_moves::SupplyError;
 use std::alloc::{AllocError, Global};
 use std::sync::Wait;
 use swapstore::SwapStore;

@@ -117,7 +117,7 @@ fn with_policy<S: SwapStore + Drop, R: Wait, G: Gate + Drop>(
 impl<S: SwapStore + Drop, G: Gate + Drop> Host<S, G> {
     ghost use Rattle.std.specs.Prelude.{◌≡◌, true, false, None, All, IfOk, IfErr, List, length};
     ghost use Rattle.guest.specs.Guests.{Intact};
-    ghost use Rattle.physmap.specs.declared.page.Page.{Page};
+    ghost use Rattle.guest_pages.specs.declared.page.Page.{Page};
     ghost use Rattle.swapstore.specs.Failures.{one_more};
     ghost use Rattle.lent_pages.specs.Stores.{IsStill};
     ghost use Rattle.booting.specs.Boots.{AreWithinLimits, AreAdmitted, HoldsImage, WhyNotBooted};

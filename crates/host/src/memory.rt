@@ -3,7 +3,7 @@ use crate::Host;
 use crate::places::cell_of;
 use cell::{Gate, Seat};
 use host_policy::{Evicted, Turn, evict_one, turn};
-use paging::Scan;
+use page_moves::Scan;
 use reclaim::Level;
 use sharetab::GuestNo;
 use std::alloc::{AllocError, Global};

@@ -1,7 +1,7 @@
 -- What a seat sees.
 use Rattle.std.proofs.Common.{◌≤◌, length}
-use Rattle.loghead.specs.Heads.{SeatIs}
-use Rattle.loghead.proofs.Seats.{prefix_length}
+use Rattle.log_seats.specs.Heads.{SeatIs}
+use Rattle.log_seats.proofs.Seats.{prefix_length}
 use Rattle.seated.specs.Acts.{Sees}
 
 pub no_less : (s s' : SeatIs) → Sees s s' → length s.saw ≤ length s'.saw

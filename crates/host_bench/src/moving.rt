@@ -9,7 +9,7 @@ use crate::reading::is_first_word;
 use cell::{Seat, Seats};
 use guest_cells::Handles;
 use host_policy::Evicted;
-use paging::Scan;
+use page_moves::Scan;
 use std::alloc::{AllocError, Global};
 use std::sync::Wait;
 

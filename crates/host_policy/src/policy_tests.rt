@@ -1,7 +1,7 @@
 //! A policy over a machine memory of 25 frames, which the pages of one guest fill that lies under no lock.
 ghost use Rattle.std.specs.Prelude.{◌≡◌, ℕ, ◌<◌, [], ◌∷◌, None, length, map, replicate};
 ghost use Rattle.frames.specs.Counts.{count_of, below};
-ghost use Rattle.physmap.specs.declared.page.Page.TheVariants.{Zero};
+ghost use Rattle.guest_pages.specs.declared.page.Page.TheVariants.{Zero};
 ghost use Rattle.machine_memory.specs.Memories.{IsLevel, AreLevel, IsPassOf};
 ghost use Rattle.host_policy.specs.Policies.{IsPolicyOf};
 
@@ -9,8 +9,8 @@ use crate::tests::{TAX, expect};
 use crate::{Evicted, Policy, Turn, evict_one, turn};
 use cell::{Cell, Seat};
 use framepool::Pool;
+use guest_pages::GuestPages;
 use machine_memory::{Around, Booted, MachineMemory, Stake};
-use physmap::PhysMap;
 use rand_core::{Rng, SeedableRng};
 use rand_pcg::Pcg32;
 use reclaim::Level;
@@ -26,14 +26,14 @@ use word32::Ppn;
 
 // A guest's pages and its stake.
 struct Side {
-    pages: PhysMap,
+    pages: GuestPages,
     stake: Stake,
 }
 
-fn new_map(rt: &impl Abort, alloc: Global) -> PhysMap
+fn new_map(rt: &impl Abort, alloc: Global) -> GuestPages
     ensures { result ≡ replicate 25 Zero }
 {
-    match PhysMap::new(alloc, 25) {
+    match GuestPages::new(alloc, 25) {
         Ok(map) => map,
         Err(_) => panic!(rt; "no memory for the pages"),
     }
@@ -78,7 +78,7 @@ fn new_store(rt: &impl Abort, alloc: Global) -> MemStore
 }
 
 // A memory of a guest none of whose pages was ever touched.
-fn started<R: Abort + Wait>(rt: &R, alloc: Global, maps: &[PhysMap]) -> Booted<MemStore>
+fn started<R: Abort + Wait>(rt: &R, alloc: Global, maps: &[GuestPages]) -> Booted<MemStore>
     requires { maps.now ≡ replicate 25 Zero ∷ [] }
     ensures frames { result.memory.books.key.frames ≡ 25 }
     ensures stakes { AreLevel result.memory result.stakes.items (map (λ m. m) maps.now) }
@@ -118,7 +118,7 @@ fn last_side(
     rt: &impl Abort,
     _memory: &MachineMemory<MemStore>,
     stakes: &mut Vec<Stake>,
-    maps: &mut Vec<PhysMap>,
+    maps: &mut Vec<GuestPages>,
 ) -> Side
     requires { AreLevel _memory.now stakes.old.items (map (λ m. m) maps.old.items) }
     ensures { IsLevel _memory.now result.stake result.pages }
@@ -132,7 +132,7 @@ fn last_side(
     Side { pages, stake }
 }
 
-fn one_map(rt: &impl Abort, alloc: Global) -> Vec<PhysMap>
+fn one_map(rt: &impl Abort, alloc: Global) -> Vec<GuestPages>
     ensures { result.items ≡ replicate 25 Zero ∷ [] }
 {
     let mut maps = match Vec::with_capacity(alloc, 1) {
@@ -143,7 +143,7 @@ fn one_map(rt: &impl Abort, alloc: Global) -> Vec<PhysMap>
     maps
 }
 
-fn closed(mut maps: Vec<PhysMap>) {
+fn closed(mut maps: Vec<GuestPages>) {
     while let Some(map) = maps.pop() {
         map.close();
     }
@@ -151,7 +151,7 @@ fn closed(mut maps: Vec<PhysMap>) {
 }
 
 // A page that is there.
-fn page(rt: &impl Abort, map: &PhysMap, p: u32) -> Ppn
+fn page(rt: &impl Abort, map: &GuestPages, p: u32) -> Ppn
     ensures { result < length map.now }
 {
     if p >= 25 {

@@ -10,7 +10,7 @@ use Rattle.cell.specs.declared.ends.Ended.{Ended}
 use Rattle.cell.specs.Sitting.{IsOf}
 use Rattle.cell.specs.Slices.{Slice}
 use Rattle.items.specs.declared.item.Item.{Item}
-use Rattle.loghead.specs.Heads.{SeatIs}
+use Rattle.log_seats.specs.Heads.{SeatIs}
 use Rattle.debug_session.specs.Goes.{Goes}
 use Rattle.guest_cells.specs.Ends.{HaveEnded}
 use Rattle.host_run.specs.Runs.{HaveRun}

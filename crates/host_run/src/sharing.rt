@@ -5,7 +5,7 @@ ghost use Rattle.host_policy.specs.Turns.{ArePolicySeats};
 use crate::switches::Switches;
 use cell::{Gate, Seat};
 use host::Host;
-use paging::Scan;
+use page_moves::Scan;
 use sharetab::GuestPage;
 use std::alloc::Global;
 use std::sync::Wait;

@@ -5,7 +5,7 @@ use crate::pairs::{Asked, Pair, SEED, at_level, books, booted_pair, memory_store
 use cell::Open;
 use host::Request;
 use host_policy::Evicted;
-use paging::Scan;
+use page_moves::Scan;
 use rand_core::{Rng, SeedableRng};
 use rand_pcg::Pcg32;
 use reclaim::Level;

@@ -3,12 +3,12 @@ ghost use Rattle.std.specs.Prelude.{◌≡◌, ◌≤◌};
 
 use crate::images::image_of;
 use dump::{dump, steps_in};
-use flatvm::debug::read;
-use flatvm::{FlatBus, View};
+use flatvm::FlatBus;
 use guest::Guest;
 use guest_log::Log;
 use items::{Entry, What};
-use mips_step::Cpu;
+use mips_step::debug::read;
+use mips_step::{Cpu, View};
 use mips_tlb::ENTRIES;
 use std::alloc::Global;
 use std::process::Abort;
@@ -34,7 +34,7 @@ fn booted(rt: &impl Abort, alloc: Global, words: &[u32]) -> Table {
             cpu: Cpu::boot(image.entry),
             bus,
         },
-        Err(_) => panic!(rt; "no memory for the table machine"),
+        Err(_) => panic!(rt; "no memory for the reference machine"),
     }
 }
 
@@ -53,7 +53,7 @@ fn replay_entry(rt: &impl Abort, table: &mut Table, entry: &Entry) {
             What::Step => step_on(table, 1),
             what => match table.bus.input(&mut table.cpu, what) {
                 Ok(reply) => drop(reply),
-                Err(_) => panic!(rt; "the table machine refuses an item"),
+                Err(_) => panic!(rt; "the reference machine refuses an item"),
             },
         },
     }
@@ -69,7 +69,7 @@ fn replay(rt: &impl Abort, table: &mut Table, log: &Log) {
     }
 }
 
-// Whether the table machine has these bytes from the start of memory on.
+// Whether the reference machine has these bytes from the start of memory on.
 fn has_memory(table: &Table, memory: &[u8]) -> bool {
     let mut address = 0x8000_0000u32;
     for piece in memory.chunks(1024) {

@@ -7,7 +7,7 @@ use crate::bench::expect;
 use crate::pairs::{Asked, Pair, books, booted_pair, memory_store, poke, refusal, word_at};
 use cell::{Gate, Seat};
 use host::{Host, Ran, Request};
-use paging::Scan;
+use page_moves::Scan;
 use sharetab::{GuestNo, GuestPage};
 use std::alloc::Global;
 use std::process::Abort;

@@ -1,14 +1,14 @@
 -- What is printed of a machine behind its dump.
 use Rattle.std.specs.Prelude.{ℕ, Bool, true, false, List, [], ◌++◌, flat_map, if◌then◌else◌}
-use Rattle.mips_step.specs.Step.{Machine}
-use Rattle.mips_step.specs.World.{lines_of}
+use Rattle.machine.specs.Step.{Machine}
+use Rattle.machine.specs.Board.{lines_of}
 use Rattle.inspection.specs.declared.extras.Extras.{Extras}
 use Rattle.inspection.specs.declared.extras.Region.{Region}
 use Rattle.inspection.specs.Memory.{memory_text}
 use Rattle.inspection.specs.Registers.{processor_text}
 
 abbrev pub all_text : Bool → Machine → List ℕ
-all_text true m = processor_text (lines_of m.world) m.cpu
+all_text true m = processor_text (lines_of m.board) m.cpu
 all_text false m = []
 
 abbrev pub region_text : Machine → Region → List ℕ

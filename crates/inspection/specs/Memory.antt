@@ -1,7 +1,7 @@
 -- The text of bytes of memory, in lines of 16.
 use Rattle.std.specs.Prelude.{ℕ, zero, suc, ◌+◌, ◌-◌, ◌*◌, ◌/◌, ◌%◌, ◌^◌, min, List, [], ◌++◌, codes, Option, Some, None}
-use Rattle.mips_step.specs.Step.{Machine}
-use Rattle.flatvm.specs.Replies.{bytes_at}
+use Rattle.machine.specs.Step.{Machine}
+use Rattle.machine.specs.Replies.{bytes_at}
 use Rattle.dump.specs.Dumps.{digits_of}
 use Rattle.masm.specs.Disassembly.{hex_word}
 

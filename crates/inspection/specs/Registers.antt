@@ -5,7 +5,7 @@ use Rattle.mips_cp0.specs.Registers.{SystemRegisters}
 use Rattle.mips_cp0.specs.declared.register.SystemRegister.TheVariants.{Index, Random, EntryLo0, EntryLo1, Context, PageMask, Wired, Count, EntryHi, Compare, PrId, Config, Config1, ErrorEpc}
 use Rattle.mips_tlb.specs.Instructions.{entry_hi_of, entry_lo_of}
 use Rattle.mips_tlb.specs.declared.tlb.Entry.{Entry}
-use Rattle.mips_step.specs.Processor.{Processor}
+use Rattle.machine.specs.Processor.{Processor}
 use Rattle.masm.specs.Disassembly.{hex_word}
 use Rattle.dump.specs.Dumps.{field_text}
 

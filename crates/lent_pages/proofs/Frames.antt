@@ -10,15 +10,15 @@ use Rattle.frames.proofs.Counting.{count_one}
 use Rattle.sharetab.specs.Entries.{EntriesAre, entry_at, frames_shared, entry_count, freed_frame}
 use Rattle.sharetab.specs.Books.{Leaves, freed_at}
 use Rattle.sharetab.proofs.Books.{leave_frames, leave_entries}
-use Rattle.physmap.specs.declared.page.Page.{Page}
-use Rattle.physmap.specs.declared.page.Page.TheVariants.{Given}
-use Rattle.physmap.specs.declared.page.Returned.TheVariants as returned
-use Rattle.physmap.specs.Pages.{page_at, handed_back}
-use Rattle.physmap.specs.Holdings.{frame_in, one_private}
-use Rattle.paging.specs.Moves.{Takes, MovesFrames, Conserves}
-use Rattle.paging.specs.Returns.{frame_of, one_frame}
-use Rattle.paging.proofs.Exchanging.{exchanged}
-use Rattle.paging.proofs.GoingBack.{hands_back}
+use Rattle.guest_pages.specs.declared.page.Page.{Page}
+use Rattle.guest_pages.specs.declared.page.Page.TheVariants.{Given}
+use Rattle.guest_pages.specs.declared.page.Returned.TheVariants as returned
+use Rattle.guest_pages.specs.Pages.{page_at, handed_back}
+use Rattle.guest_pages.specs.Holdings.{frame_in, one_private}
+use Rattle.page_moves.specs.Moves.{Takes, MovesFrames, Conserves}
+use Rattle.page_moves.specs.Returns.{frame_of, one_frame}
+use Rattle.page_moves.proofs.Exchanging.{exchanged}
+use Rattle.page_moves.proofs.GoingBack.{hands_back}
 use Rattle.accounts.specs.Settling.{KeepsFrames}
 use Rattle.accounts.proofs.OnItsWay.{past_is_zero}
 

@@ -9,17 +9,17 @@ use Rattle.frames.specs.FreeList.{FreeList}
 use Rattle.frames.proofs.Counting.{count_one, count_cons, one_same}
 use Rattle.sharetab.specs.Entries.{EntriesAre}
 use Rattle.swapstore.specs.Holding.{AreHeld, OthersStay}
-use Rattle.physmap.specs.declared.page.Page.{Page}
-use Rattle.physmap.specs.declared.page.Page.TheVariants as page
-use Rattle.physmap.specs.declared.page.PageKind.TheVariants.{Swapped}
-use Rattle.physmap.specs.declared.page.Returned.TheVariants as returned
-use Rattle.physmap.specs.Pages.{page_at, kind_at, kind_of, shown, slot_of, is_resident, own_frame}
-use Rattle.physmap.specs.Holdings.{slot_in, slots_held}
-use Rattle.paging.specs.Moves.{Takes, Gives, MovesSlots, Conserves}
-use Rattle.paging.specs.Faith.{IsHeld, Kept}
-use Rattle.paging.specs.Supplies.{Supplies}
-use Rattle.paging.proofs.Exchanging.{each_page, swapped_is}
-use Rattle.paging.proofs.Evicting.{evicted_kept}
+use Rattle.guest_pages.specs.declared.page.Page.{Page}
+use Rattle.guest_pages.specs.declared.page.Page.TheVariants as page
+use Rattle.guest_pages.specs.declared.page.PageKind.TheVariants.{Swapped}
+use Rattle.guest_pages.specs.declared.page.Returned.TheVariants as returned
+use Rattle.guest_pages.specs.Pages.{page_at, kind_at, kind_of, shown, slot_of, is_resident, own_frame}
+use Rattle.guest_pages.specs.Holdings.{slot_in, slots_held}
+use Rattle.page_moves.specs.Moves.{Takes, Gives, MovesSlots, Conserves}
+use Rattle.page_moves.specs.Faith.{IsHeld, Kept}
+use Rattle.page_moves.specs.Supplies.{Supplies}
+use Rattle.page_moves.proofs.Exchanging.{each_page, swapped_is}
+use Rattle.page_moves.proofs.Evicting.{evicted_kept}
 use Rattle.ledger.specs.Shares.{LedgerId, ShareIs}
 use Rattle.slot_contents.specs.declared.content.Written.{Written}
 use Rattle.slot_contents.specs.declared.content.Content.{Content}

@@ -1,8 +1,8 @@
 -- The slot that a page went to.
 use Rattle.std.proofs.Common.{◌≡◌, ℕ, zero, suc, ◌<◌, List, [], ◌∷◌, length, set, refl, ap, ◌∙◌, arith}
-use Rattle.physmap.specs.declared.page.Page.{Page}
-use Rattle.physmap.specs.declared.page.Page.TheVariants.{Swapped}
-use Rattle.physmap.specs.Pages.{page_at, slot_of}
+use Rattle.guest_pages.specs.declared.page.Page.{Page}
+use Rattle.guest_pages.specs.declared.page.Page.TheVariants.{Swapped}
+use Rattle.guest_pages.specs.Pages.{page_at, slot_of}
 
 at_set : (ps : List Page) (p : ℕ) (q : Page) → p < length ps → page_at (set ps p q) p ≡ q
 at_set [] p q there = absurd (omega (arith, there))

@@ -2,10 +2,10 @@
 use Rattle.std.specs.Prelude.{◌≡◌, ℕ, ◌+◌, List, Option}
 use Rattle.frames.specs.Counts.{count_of}
 use Rattle.frames.specs.FreeList.{FreeList}
-use Rattle.physmap.specs.declared.page.Page.{Page}
-use Rattle.physmap.specs.declared.page.Returned.{Returned}
-use Rattle.physmap.specs.Holdings.{slots_held}
-use Rattle.paging.specs.Returns.{slot_of}
+use Rattle.guest_pages.specs.declared.page.Page.{Page}
+use Rattle.guest_pages.specs.declared.page.Returned.{Returned}
+use Rattle.guest_pages.specs.Holdings.{slots_held}
+use Rattle.page_moves.specs.Returns.{slot_of}
 use Rattle.ledger.specs.Shares.{LedgerId, LedgerIs, ShareIs}
 use Rattle.slot_contents.specs.declared.content.Content.{Content}
 use Rattle.slot_contents.specs.Contents.{slots_of, written_to}

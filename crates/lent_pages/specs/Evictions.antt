@@ -2,7 +2,7 @@
 use Rattle.std.specs.Prelude.{◌≡◌, List, []}
 use Rattle.frames.specs.FreeList.{FreeList}
 use Rattle.sharetab.specs.Entries.{EntriesAre}
-use Rattle.physmap.specs.declared.page.Page.{Page}
+use Rattle.guest_pages.specs.declared.page.Page.{Page}
 use Rattle.accounts.specs.declared.account.Extent.{Extent}
 use Rattle.accounts.specs.OwnerShares.{ExactWith}
 use Rattle.lent_pages.specs.declared.evicting.EvictError.{EvictError}

@@ -1,10 +1,10 @@
 -- A guest's share that lags behind its pages.
 use Rattle.std.specs.Prelude.{◌≡◌, ℕ, List, [], slice_set}
 use Rattle.ledger.specs.Shares.{LedgerId, ShareIs}
-use Rattle.physmap.specs.declared.page.Page.{Page}
-use Rattle.physmap.specs.declared.page.Page.TheVariants.{Given}
-use Rattle.physmap.specs.declared.page.Returned.{Returned}
-use Rattle.physmap.specs.Pages.{page_at, handed_back}
+use Rattle.guest_pages.specs.declared.page.Page.{Page}
+use Rattle.guest_pages.specs.declared.page.Page.TheVariants.{Given}
+use Rattle.guest_pages.specs.declared.page.Returned.{Returned}
+use Rattle.guest_pages.specs.Pages.{page_at, handed_back}
 use Rattle.accounts.specs.declared.account.Account.{Account}
 use Rattle.accounts.specs.OwnerShares.{guest_share}
 use Rattle.accounts.specs.Settling.{KeepsFrames}

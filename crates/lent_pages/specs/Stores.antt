@@ -1,9 +1,9 @@
 -- The swap store as it was found under its lock.
 use Rattle.std.specs.Prelude.{◌≡◌, ◌↔◌, ℕ, List, Option}
 use Rattle.swapstore.specs.Failures.{one_more}
-use Rattle.physmap.specs.declared.page.Page.{Page}
-use Rattle.physmap.specs.Pages.{slot_of, digest_of}
-use Rattle.paging.specs.Supplies.{IsDamaged}
+use Rattle.guest_pages.specs.declared.page.Page.{Page}
+use Rattle.guest_pages.specs.Pages.{slot_of, digest_of}
+use Rattle.page_moves.specs.Supplies.{IsDamaged}
 
 -- a store is to be trusted exactly as another was
 pub record IsStill {Store : Type 0} (is_honest is_true : Store → Type 0) (first now : Store) : Type 0 where

@@ -1,6 +1,6 @@
 -- Why a page gets no frame of its own.
-use Rattle.paging.specs.declared.supply.SupplyError.{SupplyError}
-use Rattle.paging.specs.declared.supply.SupplyError.TheVariants.{NoFrame, Memory, SwapRead, SwapDamaged}
+use Rattle.page_moves.specs.declared.supply.SupplyError.{SupplyError}
+use Rattle.page_moves.specs.declared.supply.SupplyError.TheVariants.{NoFrame, Memory, SwapRead, SwapDamaged}
 
 -- No frame was free; a request for memory was refused; the slot of the page was not read; or what was read is not what was kept.
 abbrev pub WhyLeft : Type 0 → Type 0 → Type 0 → SupplyError → Type 0

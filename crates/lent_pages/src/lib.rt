@@ -4,7 +4,7 @@
 //!
 //! Each call is passed a guest's pages and share, and what lies under the locks that its move needs; after it the books are level with
 //! what lies there (`guest_share`, `IsTable`, `IsSwap`). A free frame comes and goes in the hand, as its number, which a guest's share
-//! says: a call answers the frame that is in hand then, beside what `paging` answers. The crate above takes the locks, and the frames
+//! says: a call answers the frame that is in hand then, beside what `page_moves` answers. The crate above takes the locks, and the frames
 //! from the pool.
 //!
 //! Definitions: `specs/Locked.antt` has what lies under the locks, `specs/Stores.antt` what is said of a store that was found there,

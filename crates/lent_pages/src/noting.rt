@@ -2,12 +2,12 @@
 ghost use Rattle.std.specs.Prelude.{◌≡◌, ◌<◌, ◌+◌, ℕ, ◌∷◌};
 ghost use Rattle.frames.specs.Counts.{one_at, count_of};
 ghost use Rattle.swapstore.specs.Holding.{AreHeld, OthersStay};
-ghost use Rattle.physmap.specs.Pages.{page_at, shown};
+ghost use Rattle.guest_pages.specs.Pages.{page_at, shown};
 ghost use Rattle.slot_contents.specs.Shares.{IsOwners, IsStores, owner_share, its_written, its_free};
 ghost use Rattle.lent_pages.specs.Contents.{IsHolding};
 
 use crate::Swap;
-use paging::Pages;
+use page_moves::Pages;
 use slot_contents::{Bytes, ContentShare, Contents};
 use std::marker::Brand;
 use std::snapshot::Snapshot;

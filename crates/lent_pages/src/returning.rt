@@ -1,10 +1,10 @@
 //! What a page that was given to the balloon handed back.
 ghost use Rattle.std.specs.Prelude.{◌≡◌, ℕ, List, []};
 ghost use Rattle.std.specs.Option.{option_to_list};
-ghost use Rattle.physmap.specs.declared.page.Returned.TheVariants as returned;
+ghost use Rattle.guest_pages.specs.declared.page.Returned.TheVariants as returned;
 ghost use Rattle.sharetab.specs.Entries.{EntriesAre};
 ghost use Rattle.accounts.specs.OwnerShares.{guest_share};
-ghost use Rattle.paging.specs.Faith.{Kept};
+ghost use Rattle.page_moves.specs.Faith.{Kept};
 ghost use Rattle.lent_pages.specs.Contents.{IsWritten, IsWrittenBack, IsHolding, its_slots};
 ghost use Rattle.lent_pages.specs.Locked.{IsTable, IsSwap};
 ghost use Rattle.lent_pages.specs.Returns.{IsBehind, KeepsFramesBack};
@@ -13,7 +13,7 @@ use crate::{Swap, SwapKey, Table};
 use accounts::{BookShare, Books};
 use frames::{Frame, FrameNo, ShareTicket, SlotTicket};
 use keyed_lock::KeyedLock;
-use paging::Pages;
+use page_moves::Pages;
 use slot_contents::{ContentShare, Contents};
 use swapstore::SwapStore;
 

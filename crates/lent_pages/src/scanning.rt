@@ -1,8 +1,8 @@
 //! Pages of equal bytes that come to share one frame.
 ghost use Rattle.std.specs.Prelude.{◌≡◌, ℕ, List, Option, [], length};
 ghost use Rattle.std.specs.Option.{option_to_list};
-ghost use Rattle.physmap.specs.Holdings.{slots_held};
-ghost use Rattle.paging.specs.Faith.{Faithful, Kept};
+ghost use Rattle.guest_pages.specs.Holdings.{slots_held};
+ghost use Rattle.page_moves.specs.Faith.{Faithful, Kept};
 ghost use Rattle.accounts.specs.OwnerShares.{guest_share};
 ghost use Rattle.accounts.specs.Settling.{KeepsFrames};
 ghost use Rattle.lent_pages.specs.Locked.{IsTable};
@@ -11,7 +11,7 @@ ghost use Rattle.lent_pages.specs.Scans.{WasScanned};
 use crate::Table;
 use accounts::{BookShare, Books};
 use frames::FrameNo;
-use paging::{Pages, Scan, scan_in};
+use page_moves::{Pages, Scan, scan_in};
 use sharetab::GuestNo;
 use word32::Ppn;
 

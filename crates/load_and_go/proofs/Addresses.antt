@@ -8,8 +8,8 @@ use Rattle.mips_cp0.specs.Registers.{SystemRegisters}
 use Rattle.mips_tlb.specs.Segments.{is_mapped}
 use Rattle.mips_tlb.specs.Translation.{probed}
 use Rattle.mips_tlb.specs.declared.tlb.Entry.{Entry}
-use Rattle.mips_step.specs.Step.{Machine}
-use Rattle.flatvm.specs.Replies.{in_memory, byte_in, byte_at}
+use Rattle.machine.specs.Step.{Machine}
+use Rattle.machine.specs.Replies.{in_memory, byte_in, byte_at}
 
 -- where the first test and the last are false
 neither_of : (a b c : Bool) → a ≡ false → c ≡ false → ((a && b) || c) ≡ false
@@ -31,9 +31,9 @@ direct entries r address low high =
     rw (not_mapped r.status address low high) (rw below (ap Some bits))
 
 -- the byte that is read there is that of memory
-pub byte_there : (m : Machine) (address : ℕ) → 0x80000000 ≤ address → address < 0xa0000000 → address - 0x80000000 < length m.world.memory → byte_at m address ≡ Some (get_or m.world.memory (address - 0x80000000) 0)
+pub byte_there : (m : Machine) (address : ℕ) → 0x80000000 ≤ address → address < 0xa0000000 → address - 0x80000000 < length m.board.memory → byte_at m address ≡ Some (get_or m.board.memory (address - 0x80000000) 0)
 byte_there m address low high within =
-    let memory = m.world.memory in
+    let memory = m.board.memory in
     let held : nat_lt (address - 0x80000000) (length memory) ≡ true = grind (arith, nat_tests) in
     ap (λ (at : Option ℕ). byte_in memory (in_memory memory at)) (direct m.cpu.tlb m.cpu.cp0 address low high)
     ∙ ap (λ (b : Bool). byte_in memory (if b then Some (address - 0x80000000) else None)) held

@@ -16,9 +16,9 @@ use Rattle.elf32.proofs.Fitting.{stands_fit}
 use Rattle.elf32.proofs.Returning as returning
 use Rattle.masm.specs.Listings.{Part, Listing}
 use Rattle.masm.specs.Images.{IsSegmentOf, AreSegmentsOf, IsImageOf}
-use Rattle.mips_step.specs.Step.{Machine}
-use Rattle.flatvm.specs.Boot.{boot_machine}
-use Rattle.flatvm.specs.Replies.{byte_at}
+use Rattle.machine.specs.Step.{Machine}
+use Rattle.machine.specs.Boot.{boot_machine}
+use Rattle.machine.specs.Replies.{byte_at}
 use Rattle.load_and_go.specs.Holds.{HoldsFrom, Holds}
 use Rattle.load_and_go.proofs.Placing.{IsIn, length-all, all_in}
 use Rattle.load_and_go.proofs.Addresses.{byte_there}
@@ -34,13 +34,13 @@ no_overlap file pages image stands =
     ap overlap (same_ranges file pages image stands) ∙ (returning.placed pages (file_header file).entry (ranges file) parts.1).apart
 
 -- where memory has a segment's bytes at their places, they are read at their addresses
-bytes_at_addresses : (m : Machine) (n : ℕ) (s : Segment) → length m.world.memory ≡ n → IsWithin n s → IsWithin (131072 * 4096) s → IsIn m.world.memory s → AreAt m s.address s.bytes.items
+bytes_at_addresses : (m : Machine) (n : ℕ) (s : Segment) → length m.board.memory ≡ n → IsWithin n s → IsWithin (131072 * 4096) s → IsIn m.board.memory s → AreAt m s.address s.bytes.items
 bytes_at_addresses m n s size is reached held k below =
     let address : (s.address + k) % 2 ^ 32 ≡ s.address + k = omega (arith, reached.file_part, reached.start, reached.end) in
     let place : s.address + k - 0x80000000 ≡ s.address - 0x80000000 + k = omega (arith, reached.start) in
     ap (byte_at m) address
     ∙ byte_there m (s.address + k) (omega (arith, reached.start)) (omega (arith, reached.file_part, reached.start, reached.end)) (omega (arith, is.file_part, is.start, is.end))
-    ∙ ap (λ (p : ℕ). Some (get_or m.world.memory p 0)) place
+    ∙ ap (λ (p : ℕ). Some (get_or m.board.memory p 0)) place
     ∙ ap Some (held k below)
 
 -- where a segment's bytes are read at their addresses, its part is held
@@ -48,7 +48,7 @@ part_held : (m : Machine) (part : Part) (s : Segment) → IsSegmentOf part s →
 part_held m part s is all = subst (λ (n : ℕ). HoldsFrom m n part.items) is.address (holds_from m s.address part.items s.bytes.items is.bytes all)
 
 -- the same of all segments and parts
-parts_held : (m : Machine) (n : ℕ) (parts : List Part) (ss : List Segment) → length m.world.memory ≡ n → AllByRecursion (IsWithin n) ss → AllByRecursion (IsWithin (131072 * 4096)) ss → AllByRecursion (IsIn m.world.memory) ss → AreSegmentsOf parts ss → AllByRecursion (λ (p : Part). HoldsFrom m p.address p.items) parts
+parts_held : (m : Machine) (n : ℕ) (parts : List Part) (ss : List Segment) → length m.board.memory ≡ n → AllByRecursion (IsWithin n) ss → AllByRecursion (IsWithin (131072 * 4096)) ss → AllByRecursion (IsIn m.board.memory) ss → AreSegmentsOf parts ss → AllByRecursion (λ (p : Part). HoldsFrom m p.address p.items) parts
 parts_held m n [] ss size is reached held all = tt
 parts_held m n (part ∷ parts) [] size is reached held all = absurd all
 parts_held m n (part ∷ parts) (s ∷ ss) size is reached held all =

@@ -1,9 +1,9 @@
 -- Items whose bytes are read one after the other.
 use Rattle.std.proofs.Common.{◌≡◌, ℕ, ◌+◌, ◌%◌, ◌^◌, ◌<◌, List, [], ◌∷◌, ◌++◌, length, get_or, Some, sym, ap, subst, ◌∙◌, arith, length-append}
 use Rattle.std.proofs.lemmas.List.{get_or_append_left, get_or-append-add}
-use Rattle.mips_step.specs.Step.{Machine}
-use Rattle.flatvm.specs.Replies.{byte_at, bytes_at}
-use Rattle.flatvm.proofs.Replies.{read_whole}
+use Rattle.machine.specs.Step.{Machine}
+use Rattle.machine.specs.Replies.{byte_at, bytes_at}
+use Rattle.machine.proofs.Replies.{read_whole}
 use Rattle.masm.specs.Meanings.{Content, Code, Pair, Bytes, item_size}
 use Rattle.masm.specs.Images.{StandFor, AreBytesOf}
 use Rattle.load_and_go.specs.Holds.{HoldsItem, HoldsFrom}

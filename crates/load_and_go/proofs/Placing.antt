@@ -10,7 +10,7 @@ use Rattle.elf32.specs.Images.{IsWithin}
 use Rattle.elf32.specs.Headers.{range_shown}
 use Rattle.elf32.specs.Faults.{share_address, overlap}
 use Rattle.elf32.proofs.Truth.{neither}
-use Rattle.flatvm.specs.Boot.{placed}
+use Rattle.machine.specs.Boot.{placed}
 
 -- bytes put over others within them leave how many there are
 length-patched : (memory new : List ℕ) (i : ℕ) → i + length new ≤ length memory → length (patched memory i new (length new)) ≡ length memory

@@ -7,7 +7,7 @@ use Rattle.elf32.specs.declared.fault.ElfError.TheVariants as elf
 use Rattle.elf32.specs.Files.{IsRefusal}
 use Rattle.masm.specs.Assembly.{Means}
 use Rattle.masm.specs.Listings.{Listing}
-use Rattle.mips_step.specs.Step.{Machine}
+use Rattle.machine.specs.Step.{Machine}
 use Rattle.masm.specs.Executables.{IsExecutableOf}
 use Rattle.load_and_go.specs.Errors.{IsErrorOf, of_reading}
 use Rattle.load_and_go.specs.Holds.{Holds}

@@ -4,9 +4,9 @@ use Rattle.std.proofs.lemmas.List.Elements.{All-nil, All-cons}
 use Rattle.items.specs.declared.item.Item.{Item}
 use Rattle.masm.specs.Listings.{Listing}
 use Rattle.masm.specs.Assembly.{Means}
-use Rattle.mips_step.specs.Step.{Machine}
-use Rattle.flatvm.specs.Boot.{boot_machine}
-use Rattle.flatvm.specs.Items.{run}
+use Rattle.machine.specs.Step.{Machine}
+use Rattle.machine.specs.Boot.{boot_machine}
+use Rattle.machine.specs.Items.{run}
 use Rattle.guest.specs.Guests.{view_of}
 use Rattle.booting.specs.declared.asked.Config.{Config}
 use Rattle.booting.specs.declared.asked.NewGuest.{NewGuest}

@@ -1,7 +1,7 @@
 -- What it is that a machine holds a listing.
 use Rattle.std.specs.Prelude.{◌≡◌, ℕ, ◌+◌, List, [], ◌∷◌, Some, All}
-use Rattle.mips_step.specs.Step.{Machine}
-use Rattle.flatvm.specs.Replies.{bytes_at}
+use Rattle.machine.specs.Step.{Machine}
+use Rattle.machine.specs.Replies.{bytes_at}
 use Rattle.masm.specs.Meanings.{Content, item_size}
 use Rattle.masm.specs.Images.{StandFor}
 use Rattle.masm.specs.Listings.{Listing}

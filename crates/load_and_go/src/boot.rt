@@ -4,7 +4,7 @@ ghost use Rattle.elf32.specs.declared.image.Image as elf;
 ghost use Rattle.elf32.specs.Images.{FitsPages};
 ghost use Rattle.masm.specs.Listings.{Listing};
 ghost use Rattle.masm.specs.Assembly.{Means};
-ghost use Rattle.flatvm.specs.Boot.{boot_machine};
+ghost use Rattle.machine.specs.Boot.{boot_machine};
 ghost use Rattle.sharetab.specs.Maps.{at_page};
 ghost use Rattle.sharetab.specs.declared.guest_page.GuestPage.{GuestPage};
 ghost use Rattle.guest.specs.Guests.{view_of};
@@ -128,7 +128,7 @@ fn shared(alloc: Global, image: Image) -> Result<Arc<Image, Global>, AllocError>
     Ok(Arc::new(alloc, image)?)
 }
 
-/// The table machine that has booted the program of a text in assembly language, with `pages` pages, at most 2^20. The errors are
+/// The reference machine that has booted the program of a text in assembly language, with `pages` pages, at most 2^20. The errors are
 /// those of `guest_of_text`.
 pub fn flat_text(alloc: Global, text: &str, pages: u32) -> Result<Flat, TextError>
     requires { pages ≤ 2 ^ 20 }

@@ -5,7 +5,7 @@ ghost use Rattle.elf32.specs.Faults.{first_fault};
 ghost use Rattle.elf32.specs.Files.{StandsFor};
 ghost use Rattle.masm.specs.Listings.{Listing};
 ghost use Rattle.masm.specs.Images.{IsImageOf};
-ghost use Rattle.flatvm.specs.Boot.{boot_machine};
+ghost use Rattle.machine.specs.Boot.{boot_machine};
 ghost use Rattle.load_and_go.specs.Executables.{fault_of};
 ghost use Rattle.load_and_go.specs.Holds.{Holds};
 

@@ -340,7 +340,7 @@ fn refusal<R: AllocGlobal + Abort>(rt: &R, text: &str, numbers: &Numbers) -> Opt
     }
 }
 
-/// Why a text isn't booted on the table machine.
+/// Why a text isn't booted on the reference machine.
 fn flat_refusal<R: AllocGlobal + Abort>(rt: &R, text: &str, pages: u32) -> Option<TextError> {
     assert!(rt; pages <= 1 << 20);
     flat_text(rt.alloc(), text, pages).err()

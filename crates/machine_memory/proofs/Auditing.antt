@@ -4,13 +4,13 @@ use Rattle.std.proofs.lemmas.List.Sums.{sum_by-cons}
 use Rattle.std.specs.List.{sum_by, flat_map}
 use Rattle.frames.specs.FreeList.{FreeList}
 use Rattle.sharetab.specs.Entries.{EntriesAre, entry_count}
-use Rattle.physmap.specs.declared.page.Page.{Page}
-use Rattle.physmap.specs.declared.page.Page.TheVariants as page
-use Rattle.physmap.specs.Outline.{outlined, outline}
-use Rattle.physmap.specs.Holdings.{one_private, one_shared, one_swapped, private_pages, shared_pages, swapped_pages}
-use Rattle.physmap.proofs.Outlines.{outline_length, outline_private, outline_shared, outline_swapped}
-use Rattle.paging.specs.Books.{Books}
-use Rattle.paging.proofs.Totals as totals
+use Rattle.guest_pages.specs.declared.page.Page.{Page}
+use Rattle.guest_pages.specs.declared.page.Page.TheVariants as page
+use Rattle.guest_pages.specs.Outline.{outlined, outline}
+use Rattle.guest_pages.specs.Holdings.{one_private, one_shared, one_swapped, private_pages, shared_pages, swapped_pages}
+use Rattle.guest_pages.proofs.Outlines.{outline_length, outline_private, outline_shared, outline_swapped}
+use Rattle.page_moves.specs.Books.{Books}
+use Rattle.page_moves.proofs.Totals as totals
 use Rattle.ledger.specs.Shares.{LedgerId, ShareIs, AreOf}
 use Rattle.accounts.specs.declared.account.Account.{Account}
 use Rattle.accounts.specs.declared.account.Account.TheVariants.{Guest, Table, Slots}

@@ -9,11 +9,11 @@ use Rattle.std.proofs.lemmas.List.Sums.{sum_by-cons, get_or-le-sum_by}
 use Rattle.frames.specs.Counts.{one_at, count_of, below}
 use Rattle.frames.proofs.Counting.{count_append, count_one, below_no, one_same}
 use Rattle.ledger.specs.Shares.{LedgerId, ShareIs}
-use Rattle.physmap.specs.declared.page.Page.{Page}
-use Rattle.physmap.specs.declared.page.Page.TheVariants.{Zero, Given, Private, Shared, Swapped}
-use Rattle.physmap.specs.Pages.{page_at}
-use Rattle.physmap.specs.Holdings.{slot_in, slots_held}
-use Rattle.paging.specs.Faith.{IsHeld, Kept}
+use Rattle.guest_pages.specs.declared.page.Page.{Page}
+use Rattle.guest_pages.specs.declared.page.Page.TheVariants.{Zero, Given, Private, Shared, Swapped}
+use Rattle.guest_pages.specs.Pages.{page_at}
+use Rattle.guest_pages.specs.Holdings.{slot_in, slots_held}
+use Rattle.page_moves.specs.Faith.{IsHeld, Kept}
 use Rattle.slot_contents.specs.declared.content.Written.{Written}
 use Rattle.slot_contents.specs.declared.content.Content.{Content}
 use Rattle.slot_contents.specs.declared.content.Content.TheVariants.{Owner}
@@ -24,7 +24,7 @@ use Rattle.slot_contents.proofs.Writings.{found_there}
 use Rattle.lent_pages.specs.Contents.{IsWritten, its_slots}
 use Rattle.accounts.specs.declared.account.Account.{Account}
 use Rattle.accounts.specs.declared.account.Account.TheVariants.{Guest}
-use Rattle.physmap.specs.Outline.{outline}
+use Rattle.guest_pages.specs.Outline.{outline}
 use Rattle.accounts.specs.OwnerShares.{guest_share, guest_account}
 use Rattle.shared_pool.specs.Pools.{PassIs}
 use Rattle.machine_memory.specs.Memories.{MemoryIs, IsPassOf, HasInHand}

@@ -3,12 +3,12 @@ use Rattle.std.proofs.Common.{◌≡◌, ℕ, List, [], ◌∷◌, ◌++◌, ref
 use Rattle.frames.specs.Counts.{count_of}
 use Rattle.frames.proofs.Counting.{count_append}
 use Rattle.sharetab.specs.Entries.{EntriesAre}
-use Rattle.physmap.specs.declared.page.Page.{Page}
+use Rattle.guest_pages.specs.declared.page.Page.{Page}
 use Rattle.shared_pool.specs.declared.hand.Hand.{Hand}
 use Rattle.shared_pool.specs.Pools.{PassIs}
 use Rattle.shared_pool.specs.Balance.{hand_taken}
 use Rattle.accounts.specs.Settling.{KeepsFrames}
-use Rattle.physmap.specs.declared.page.Returned.{Returned}
+use Rattle.guest_pages.specs.declared.page.Returned.{Returned}
 use Rattle.ledger.specs.Shares.{LedgerId, ShareIs}
 use Rattle.accounts.specs.declared.account.Account.{Account}
 use Rattle.lent_pages.specs.Returns.{KeepsFramesBack}

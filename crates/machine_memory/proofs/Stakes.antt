@@ -3,20 +3,20 @@ use Rattle.std.proofs.Common.{◌≡◌, ℕ, zero, suc, ◌+◌, ◌<◌, List,
 use Rattle.std.specs.List.{slice_get}
 use Rattle.std.proofs.Math.Numerals.{add-one}
 use Rattle.ledger.specs.Shares.{LedgerId, ShareIs}
-use Rattle.physmap.specs.declared.page.Page.{Page}
+use Rattle.guest_pages.specs.declared.page.Page.{Page}
 use Rattle.accounts.specs.declared.account.Account.{Account}
-use Rattle.physmap.specs.declared.page.Page.TheVariants.{Given}
-use Rattle.physmap.specs.declared.page.Returned.{Returned}
-use Rattle.physmap.specs.Pages.{page_at, handed_back}
-use Rattle.physmap.specs.Outline.{outline}
+use Rattle.guest_pages.specs.declared.page.Page.TheVariants.{Given}
+use Rattle.guest_pages.specs.declared.page.Returned.{Returned}
+use Rattle.guest_pages.specs.Pages.{page_at, handed_back}
+use Rattle.guest_pages.specs.Outline.{outline}
 use Rattle.accounts.specs.declared.account.Account.TheVariants.{Guest}
 use Rattle.accounts.specs.OwnerShares.{share_of, guest_share, on_its_way}
 use Rattle.std.proofs.lemmas.Bool.{cases_lt}
 use Rattle.std.proofs.lemmas.List.{set_past}
-use Rattle.physmap.specs.Holdings.{slot_in, slots_held}
-use Rattle.paging.specs.Returns.{slot_of}
-use Rattle.paging.proofs.Exchanging.{exchanged}
-use Rattle.paging.proofs.GoingBack.{hands_back}
+use Rattle.guest_pages.specs.Holdings.{slot_in, slots_held}
+use Rattle.page_moves.specs.Returns.{slot_of}
+use Rattle.page_moves.proofs.Exchanging.{exchanged}
+use Rattle.page_moves.proofs.GoingBack.{hands_back}
 use Rattle.accounts.proofs.OnItsWay.{past_is_zero}
 use Rattle.accounts.proofs.Outlines.{same_slots}
 use Rattle.machine_memory.specs.declared.stake.Stake.{Stake}

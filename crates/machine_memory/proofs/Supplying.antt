@@ -1,15 +1,15 @@
 -- Pages that are supplied, and why some are not.
 use Rattle.std.proofs.Common.{◌≡◌, ℕ, List, [], length, refl, sym, ap, ◌∙◌, subst, Result, Ok, Err, IfErr, OnOk, OnErr, ◌<◌, ◌∷◌, arith, append-nil}
 use Rattle.word32.specs.Zeros.{zeros}
-use Rattle.physmap.specs.declared.page.Page.{Page}
-use Rattle.physmap.specs.declared.page.Page.TheVariants as page
-use Rattle.physmap.specs.declared.page.PageKind.TheVariants as kind
-use Rattle.physmap.specs.Pages.{page_at, kind_of, kind_at, shown, slot_of}
-use Rattle.paging.specs.declared.supply.SupplyError.{SupplyError}
-use Rattle.paging.specs.declared.supply.SupplyError.TheVariants.{NoFrame, Memory, SwapRead, SwapDamaged}
-use Rattle.paging.specs.Supplies.{Supplies}
-use Rattle.paging.specs.Books.{Books}
-use Rattle.paging.proofs.Booking.{slot_inside}
+use Rattle.guest_pages.specs.declared.page.Page.{Page}
+use Rattle.guest_pages.specs.declared.page.Page.TheVariants as page
+use Rattle.guest_pages.specs.declared.page.PageKind.TheVariants as kind
+use Rattle.guest_pages.specs.Pages.{page_at, kind_of, kind_at, shown, slot_of}
+use Rattle.page_moves.specs.declared.supply.SupplyError.{SupplyError}
+use Rattle.page_moves.specs.declared.supply.SupplyError.TheVariants.{NoFrame, Memory, SwapRead, SwapDamaged}
+use Rattle.page_moves.specs.Supplies.{Supplies}
+use Rattle.page_moves.specs.Books.{Books}
+use Rattle.page_moves.proofs.Booking.{slot_inside}
 use Rattle.frames.specs.FreeList.{FreeList}
 use Rattle.sharetab.specs.Entries.{EntriesAre}
 use Rattle.accounts.specs.declared.account.Extent.{Extent}

@@ -2,9 +2,9 @@
 use Rattle.std.specs.Prelude.{◌≡◌, ◌+◌, List, length, sum_by}
 use Rattle.frames.specs.FreeList.{FreeList}
 use Rattle.sharetab.specs.Entries.{EntriesAre, entry_count, ticket_count}
-use Rattle.physmap.specs.declared.page.Page.{Page}
-use Rattle.physmap.specs.Holdings.{private_pages, shared_pages, swapped_pages}
-use Rattle.paging.specs.Books.{Books}
+use Rattle.guest_pages.specs.declared.page.Page.{Page}
+use Rattle.guest_pages.specs.Holdings.{private_pages, shared_pages, swapped_pages}
+use Rattle.page_moves.specs.Books.{Books}
 use Rattle.accounts.specs.declared.account.Extent.{Extent}
 use Rattle.machine_memory.specs.declared.audit.BookCounts.{BookCounts}
 

@@ -1,12 +1,12 @@
 -- Stakes as they are dealt: what is known of each guest's slots.
 use Rattle.std.specs.Prelude.{◌≡◌, ℕ, List, [], ◌∷◌, Option, map}
 use Rattle.std.specs.List.{flat_map}
-use Rattle.physmap.specs.declared.page.Page.{Page}
-use Rattle.physmap.specs.declared.page.Page.TheVariants.{Swapped}
+use Rattle.guest_pages.specs.declared.page.Page.{Page}
+use Rattle.guest_pages.specs.declared.page.Page.TheVariants.{Swapped}
 use Rattle.slot_contents.specs.declared.content.Content.{Content}
 use Rattle.slot_contents.specs.declared.content.Content.TheVariants.{Owner}
 use Rattle.slot_contents.specs.Shares.{its_written, found}
-use Rattle.paging.specs.Faith.{Kept}
+use Rattle.page_moves.specs.Faith.{Kept}
 use Rattle.lent_pages.specs.Contents.{its_slots}
 use Rattle.machine_memory.specs.declared.stake.Stake.{Stake}
 

@@ -2,11 +2,11 @@
 use Rattle.std.specs.Prelude.{◌≡◌, ℕ, ◌+◌, List, [], slice_set}
 use Rattle.frames.specs.Counts.{count_of}
 use Rattle.sharetab.specs.Entries.{EntriesAre, frames_shared}
-use Rattle.physmap.specs.declared.page.Page.{Page}
-use Rattle.physmap.specs.declared.page.Page.TheVariants.{Given}
-use Rattle.physmap.specs.declared.page.Returned.{Returned}
-use Rattle.physmap.specs.Pages.{page_at, handed_back}
-use Rattle.physmap.specs.Holdings.{frames_held}
+use Rattle.guest_pages.specs.declared.page.Page.{Page}
+use Rattle.guest_pages.specs.declared.page.Page.TheVariants.{Given}
+use Rattle.guest_pages.specs.declared.page.Returned.{Returned}
+use Rattle.guest_pages.specs.Pages.{page_at, handed_back}
+use Rattle.guest_pages.specs.Holdings.{frames_held}
 use Rattle.ledger.specs.Shares.{LedgerId, ShareIs}
 use Rattle.accounts.specs.declared.account.Account.{Account}
 use Rattle.accounts.specs.OwnerShares.{guest_share}

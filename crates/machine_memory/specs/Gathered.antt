@@ -1,8 +1,8 @@
 -- Accounts of guests that are gathered.
 use Rattle.std.specs.Prelude.{◌≡◌, ℕ, ◌*◌, ◌≤◌, List, [], ◌∷◌, All, length, map, sum_by}
-use Rattle.physmap.specs.declared.page.Page.{Page}
-use Rattle.physmap.specs.Outline.{outline}
-use Rattle.physmap.specs.Holdings.{private_pages, shared_pages, swapped_pages}
+use Rattle.guest_pages.specs.declared.page.Page.{Page}
+use Rattle.guest_pages.specs.Outline.{outline}
+use Rattle.guest_pages.specs.Holdings.{private_pages, shared_pages, swapped_pages}
 use Rattle.ledger.specs.Shares.{LedgerId}
 use Rattle.accounts.specs.declared.account.Account.{Account}
 use Rattle.accounts.specs.declared.account.Account.TheVariants.{Guest}

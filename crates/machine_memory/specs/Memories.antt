@@ -2,7 +2,7 @@
 use Rattle.std.specs.Prelude.{◌≡◌, ℕ, List, [], ◌∷◌}
 use Rattle.std.specs.List.{range_with_len}
 use Rattle.ledger.specs.Shares.{LedgerIs}
-use Rattle.physmap.specs.declared.page.Page.{Page}
+use Rattle.guest_pages.specs.declared.page.Page.{Page}
 use Rattle.accounts.specs.declared.account.Extent.{Extent}
 use Rattle.accounts.specs.OwnerShares.{guest_share}
 use Rattle.lent_pages.specs.Contents.{IsWritten}

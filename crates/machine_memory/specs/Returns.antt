@@ -1,7 +1,7 @@
 -- A stake that lags behind its guest's pages.
 use Rattle.std.specs.Prelude.{List}
-use Rattle.physmap.specs.declared.page.Page.{Page}
-use Rattle.physmap.specs.declared.page.Returned.{Returned}
+use Rattle.guest_pages.specs.declared.page.Page.{Page}
+use Rattle.guest_pages.specs.declared.page.Returned.{Returned}
 use Rattle.lent_pages.specs.Contents.{IsWrittenBack}
 use Rattle.lent_pages.specs.Returns.{IsBehind}
 use Rattle.machine_memory.specs.declared.stake.Stake.{Stake}

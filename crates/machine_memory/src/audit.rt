@@ -10,7 +10,7 @@ ghost use Rattle.machine_memory.specs.Audits.{IsCountOf};
 use crate::{MachineMemory, Stake};
 use accounts::{BookShare, Books, Extent};
 use lent_pages::{Swap, Table};
-use paging::Pages;
+use page_moves::Pages;
 use sharetab::Shares;
 use std::marker::Model;
 use std::sync::Wait;
@@ -135,8 +135,8 @@ fn counted(extent: &Extent, gathered: &Gathered, shares: &Shares, book: &SlotBoo
 
 impl<S: SwapStore + Drop> MachineMemory<S> {
     ghost use Rattle.std.specs.Prelude.{◌≡◌, ◌<◌, List, [], ◌∷◌, length, map, take, drop};
-    ghost use Rattle.physmap.specs.declared.page.Page.{Page};
-    ghost use Rattle.physmap.specs.Outline.{outline};
+    ghost use Rattle.guest_pages.specs.declared.page.Page.{Page};
+    ghost use Rattle.guest_pages.specs.Outline.{outline};
     ghost use Rattle.machine_memory.specs.Memories.{IsLevel};
     ghost use Rattle.machine_memory.specs.Gathered.{IsEmptied, AreCounted};
     ghost use Rattle.machine_memory.specs.Audits.{IsCountOf};

@@ -1,8 +1,8 @@
 //! Machine memory that takes over what lies around guests.
 ghost use Rattle.std.specs.Prelude.{◌≡◌, ◌+◌, ◌<◌, ◌≤◌, ◌^◌, ℕ, List, [], ◌∷◌, ◌++◌, IfOk, IfErr, OnOk, length, map, take, drop, sum_by, vec_capacity};
 ghost use Rattle.std.specs.List.{range_with_len};
-ghost use Rattle.physmap.specs.Outline.{outline};
-ghost use Rattle.paging.specs.Books.{Books as AreExact};
+ghost use Rattle.guest_pages.specs.Outline.{outline};
+ghost use Rattle.page_moves.specs.Books.{Books as AreExact};
 ghost use Rattle.accounts.specs.declared.account.Account.{Account};
 ghost use Rattle.accounts.specs.declared.account.Account.TheVariants as account;
 ghost use Rattle.frames.specs.Counts.{count_of, below};
@@ -19,7 +19,7 @@ use accounts::{BookShare, Books, Extent};
 use framepool::Pool;
 use keyed_lock::KeyedLock;
 use lent_pages::{Swap, SwapKey, Table, TableKey};
-use paging::Pages;
+use page_moves::Pages;
 use shared_pool::{PoolPass, SharedPool};
 use sharetab::Shares;
 use slot_contents::{ContentShare, Contents, Owners};
@@ -266,8 +266,8 @@ fn lock_up<S: SwapStore + Drop, R: Wait>(
 impl<S: SwapStore + Drop> MachineMemory<S> {
     ghost use Rattle.std.specs.Prelude.{◌≡◌, ◌+◌, ◌<◌, ◌≤◌, ◌^◌, ℕ, List, [], ◌∷◌, ◌++◌, IfOk, IfErr, length, map, drop, vec_capacity};
     ghost use Rattle.frames.specs.Counts.{count_of};
-    ghost use Rattle.physmap.specs.Outline.{outline};
-    ghost use Rattle.paging.specs.Books.{Books as AreExact};
+    ghost use Rattle.guest_pages.specs.Outline.{outline};
+    ghost use Rattle.page_moves.specs.Books.{Books as AreExact};
     ghost use Rattle.accounts.specs.declared.account.Account.TheVariants as account;
     ghost use Rattle.accounts.specs.OwnerShares.{free_share};
     ghost use Rattle.machine_memory.specs.Dealt.{guest_part, Each, IsFound, IsKeptBy};

@@ -1,7 +1,7 @@
 //! A page that leaves its frame for a slot.
 use crate::{MachineMemory, Stake};
 use lent_pages::{EvictError, evicted};
-use paging::Pages;
+use page_moves::Pages;
 use std::sync::Wait;
 use swapstore::SwapStore;
 use word32::Ppn;
@@ -9,9 +9,9 @@ use word32::Ppn;
 impl<S: SwapStore + Drop> MachineMemory<S> {
     ghost use Rattle.std.specs.Prelude.{◌≡◌, ◌<◌, ℕ, List, [], IfErr, IsTrue, OnOk, OnErr, length, slice_set};
     ghost use Rattle.sha2.specs.Sha256.{sha256};
-    ghost use Rattle.physmap.specs.declared.page.Page.TheVariants.{Swapped};
-    ghost use Rattle.physmap.specs.Pages.{page_at, kind_at, is_resident, shown, slot_of};
-    ghost use Rattle.paging.specs.Faith.{Faithful, Kept};
+    ghost use Rattle.guest_pages.specs.declared.page.Page.TheVariants.{Swapped};
+    ghost use Rattle.guest_pages.specs.Pages.{page_at, kind_at, is_resident, shown, slot_of};
+    ghost use Rattle.page_moves.specs.Faith.{Faithful, Kept};
     ghost use Rattle.lent_pages.specs.Contents.{its_slots};
     ghost use Rattle.machine_memory.specs.Memories.{IsLevel};
     ghost use Rattle.machine_memory.specs.Frames.{KeepsEachFrame};

@@ -6,8 +6,8 @@ use swapstore::SwapStore;
 
 impl<S: SwapStore + Drop> MachineMemory<S> {
     ghost use Rattle.std.specs.Prelude.{◌≡◌, List, length, map};
-    ghost use Rattle.physmap.specs.declared.page.Page.{Page};
-    ghost use Rattle.physmap.specs.Outline.{outline};
+    ghost use Rattle.guest_pages.specs.declared.page.Page.{Page};
+    ghost use Rattle.guest_pages.specs.Outline.{outline};
     ghost use Rattle.lent_pages.specs.Stores.{IsStill};
     ghost use Rattle.machine_memory.specs.Audits.{IsCountOf};
 

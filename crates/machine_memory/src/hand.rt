@@ -1,7 +1,7 @@
 //! Free frames that come into a guest's hand, and leave it.
 use crate::{MachineMemory, Stake};
 use frames::FrameNo;
-use paging::Pages;
+use page_moves::Pages;
 use std::sync::Wait;
 use swapstore::SwapStore;
 

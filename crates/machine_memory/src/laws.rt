@@ -1,11 +1,11 @@
 //! Laws of stakes.
 ghost use Rattle.std.specs.Prelude.{◌≡◌, ℕ, List, ◌∷◌, ◌++◌, [], Some, length, slice_set};
 ghost use Rattle.std.specs.List.{slice_get};
-ghost use Rattle.physmap.specs.declared.page.Page.{Page};
-ghost use Rattle.physmap.specs.declared.page.Page.TheVariants.{Given};
-ghost use Rattle.physmap.specs.declared.page.Returned.{Returned};
-ghost use Rattle.physmap.specs.Pages.{page_at, handed_back};
-ghost use Rattle.physmap.specs.Outline.{outline};
+ghost use Rattle.guest_pages.specs.declared.page.Page.{Page};
+ghost use Rattle.guest_pages.specs.declared.page.Page.TheVariants.{Given};
+ghost use Rattle.guest_pages.specs.declared.page.Returned.{Returned};
+ghost use Rattle.guest_pages.specs.Pages.{page_at, handed_back};
+ghost use Rattle.guest_pages.specs.Outline.{outline};
 ghost use Rattle.machine_memory.specs.declared.stake.Stake.{Stake};
 ghost use Rattle.machine_memory.specs.Memories.{MemoryIs, HasInHand, IsLevel, AreLevel};
 ghost use Rattle.machine_memory.specs.Returns.{Lags};

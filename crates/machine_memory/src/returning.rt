@@ -1,17 +1,17 @@
 //! What a page that was given to the balloon handed back.
 use crate::{MachineMemory, Stake};
 use frames::{FrameNo, ShareTicket, SlotTicket};
+use guest_pages::Returned;
 use lent_pages::{frame_returned, nothing_returned, slot_returned, ticket_returned};
-use paging::Pages;
-use physmap::Returned;
+use page_moves::Pages;
 use std::sync::Wait;
 use swapstore::SwapStore;
 
 impl<S: SwapStore + Drop> MachineMemory<S> {
     ghost use Rattle.std.specs.Prelude.{◌≡◌, ℕ, List, []};
     ghost use Rattle.std.specs.Option.{option_to_list};
-    ghost use Rattle.physmap.specs.declared.page.Returned.{Returned};
-    ghost use Rattle.paging.specs.Faith.{Kept};
+    ghost use Rattle.guest_pages.specs.declared.page.Returned.{Returned};
+    ghost use Rattle.page_moves.specs.Faith.{Kept};
     ghost use Rattle.lent_pages.specs.Contents.{its_slots};
     ghost use Rattle.machine_memory.specs.Memories.{HasInHand, IsLevel};
     ghost use Rattle.machine_memory.specs.Returns.{Lags};

@@ -1,7 +1,7 @@
 //! Pages of equal bytes that come to share one frame.
 use crate::{MachineMemory, Stake};
 use lent_pages::scanned;
-use paging::{Pages, Scan};
+use page_moves::{Pages, Scan};
 use sharetab::GuestNo;
 use std::sync::Wait;
 use swapstore::SwapStore;
@@ -9,13 +9,13 @@ use word32::Ppn;
 
 impl<S: SwapStore + Drop> MachineMemory<S> {
     ghost use Rattle.std.specs.Prelude.{◌≡◌, ℕ, List, length};
-    ghost use Rattle.paging.specs.Faith.{Faithful, Kept};
+    ghost use Rattle.page_moves.specs.Faith.{Faithful, Kept};
     ghost use Rattle.lent_pages.specs.Contents.{its_slots};
     ghost use Rattle.machine_memory.specs.Memories.{IsLevel};
     ghost use Rattle.machine_memory.specs.Frames.{KeepsEachFrame};
     ghost use Rattle.lent_pages.specs.Scans.{WasScanned};
 
-    /// Scans a page of a guest under the table's lock, as `paging`'s `scan_in` does, and the frame that came free is free from then on.
+    /// Scans a page of a guest under the table's lock, as `page_moves`'s `scan_in` does, and the frame that came free is free from then on.
     /// The answer is that of the shared frames and the hints that were found.
     pub fn scan<P: Pages, R: Wait>(
         &self,

@@ -1,8 +1,8 @@
 //! A page that gets a frame of its own.
 use crate::{MachineMemory, Stake};
+use guest_pages::PageKind;
 use lent_pages::{copy_supplied, first_supplied, swapped_supplied};
-use paging::{Pages, SupplyError};
-use physmap::PageKind;
+use page_moves::{Pages, SupplyError};
 use std::alloc::Global;
 use std::sync::Wait;
 use swapstore::SwapStore;
@@ -12,11 +12,11 @@ impl<S: SwapStore + Drop> MachineMemory<S> {
     ghost use Rattle.std.specs.Prelude.{◌≡◌, ◌<◌, ◌⊎◌, ℕ, List, [], ◌∷◌, IfErr, OnOk, OnErr, length};
     ghost use Rattle.sha2.specs.Sha256.{sha256};
     ghost use Rattle.word32.specs.Zeros.{zeros};
-    ghost use Rattle.physmap.specs.declared.page.PageKind.{PageKind};
-    ghost use Rattle.physmap.specs.Pages.{page_at, kind_at, shown, slot_of, digest_of};
-    ghost use Rattle.paging.specs.Faith.{Faithful, Kept};
+    ghost use Rattle.guest_pages.specs.declared.page.PageKind.{PageKind};
+    ghost use Rattle.guest_pages.specs.Pages.{page_at, kind_at, shown, slot_of, digest_of};
+    ghost use Rattle.page_moves.specs.Faith.{Faithful, Kept};
     ghost use Rattle.lent_pages.specs.Contents.{its_slots};
-    ghost use Rattle.paging.specs.Supplies.{Supplies};
+    ghost use Rattle.page_moves.specs.Supplies.{Supplies};
     ghost use Rattle.shared_pool.specs.Balance.{Stands};
     ghost use Rattle.machine_memory.specs.Memories.{IsLevel};
     ghost use Rattle.machine_memory.specs.Frames.{KeepsEachFrame};

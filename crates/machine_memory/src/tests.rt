@@ -1,15 +1,15 @@
 //! Two guests over one memory of 8 frames and 16 slots, each with 16 pages.
 ghost use Rattle.std.specs.Prelude.{◌≡◌, ℕ, ◌<◌, [], ◌∷◌, None, length, map, replicate};
 ghost use Rattle.frames.specs.Counts.{count_of, below};
-ghost use Rattle.physmap.specs.declared.page.Page.TheVariants.{Zero};
-ghost use Rattle.physmap.specs.Outline.{outline};
+ghost use Rattle.guest_pages.specs.declared.page.Page.TheVariants.{Zero};
+ghost use Rattle.guest_pages.specs.Outline.{outline};
 ghost use Rattle.machine_memory.specs.Memories.{IsLevel, AreLevel, IsPassOf};
 ghost use Rattle.machine_memory.specs.Gathered.{AreCounted};
 
 use crate::{Around, BookCounts, Booted, EvictError, Gathered, MachineMemory, PageCounts, Stake};
 use framepool::Pool;
-use paging::{Scan, SupplyError};
-use physmap::{PageKind, PhysMap};
+use guest_pages::{GuestPages, PageKind};
+use page_moves::{Scan, SupplyError};
 use shared_pool::PoolPass;
 use sharetab::{GuestNo, GuestPage, Shares};
 use std::alloc::{AllocError, Global};
@@ -27,7 +27,7 @@ fn expect<T: PartialEq + Debug + Drop>(rt: &impl Abort, case: &'static str, got:
 
 // A guest's pages and its stake, which lie under its lock.
 struct Side {
-    pages: PhysMap,
+    pages: GuestPages,
     stake: Stake,
 }
 
@@ -39,10 +39,10 @@ fn ample<T>(rt: &impl Abort, made: Result<T, AllocError>) -> T {
     }
 }
 
-fn new_map(rt: &impl Abort, alloc: Global) -> PhysMap
+fn new_map(rt: &impl Abort, alloc: Global) -> GuestPages
     ensures { result ≡ replicate 16 Zero }
 {
-    match PhysMap::new(alloc, 16) {
+    match GuestPages::new(alloc, 16) {
         Ok(map) => map,
         Err(_) => panic!(rt; "no memory for the pages"),
     }
@@ -87,7 +87,7 @@ fn new_store(rt: &impl Abort, alloc: Global) -> MemStore
 }
 
 // A memory of two guests none of whose pages was ever touched.
-fn started<R: Abort + Wait>(rt: &R, alloc: Global, maps: &[PhysMap]) -> Booted<MemStore>
+fn started<R: Abort + Wait>(rt: &R, alloc: Global, maps: &[GuestPages]) -> Booted<MemStore>
     requires { maps.now ≡ replicate 16 Zero ∷ replicate 16 Zero ∷ [] }
     ensures guests { result.memory.books.key.guests ≡ 2 }
     ensures stakes { AreLevel result.memory result.stakes.items (map (λ m. m) maps.now) }
@@ -112,7 +112,7 @@ fn last_side(
     rt: &impl Abort,
     _memory: &MachineMemory<MemStore>,
     stakes: &mut Vec<Stake>,
-    maps: &mut Vec<PhysMap>,
+    maps: &mut Vec<GuestPages>,
 ) -> Side
     requires { AreLevel _memory.now stakes.old.items (map (λ m. m) maps.old.items) }
     ensures side { IsLevel _memory.now result.stake result.pages }
@@ -127,7 +127,7 @@ fn last_side(
     Side { pages, stake }
 }
 
-fn closed(mut maps: Vec<PhysMap>) {
+fn closed(mut maps: Vec<GuestPages>) {
     while let Some(map) = maps.pop() {
         map.close();
     }
@@ -135,7 +135,7 @@ fn closed(mut maps: Vec<PhysMap>) {
 }
 
 // The pages of two guests.
-fn two_maps(rt: &impl Abort, alloc: Global) -> Vec<PhysMap>
+fn two_maps(rt: &impl Abort, alloc: Global) -> Vec<GuestPages>
     ensures { result.items ≡ replicate 16 Zero ∷ replicate 16 Zero ∷ [] }
 {
     let mut maps = match Vec::with_capacity(alloc, 2) {
@@ -148,7 +148,7 @@ fn two_maps(rt: &impl Abort, alloc: Global) -> Vec<PhysMap>
 }
 
 // A page that is there.
-fn page(rt: &impl Abort, map: &PhysMap, p: u32) -> Ppn
+fn page(rt: &impl Abort, map: &GuestPages, p: u32) -> Ppn
     ensures { result < length map.now }
 {
     if p >= 16 {
@@ -221,7 +221,7 @@ fn given<R: Abort + Wait>(rt: &R, memory: &MachineMemory<MemStore>, side: &mut S
     memory.give_back(rt, &mut side.stake, &side.pages, returned);
 }
 
-fn counts_of(map: &PhysMap) -> PageCounts
+fn counts_of(map: &GuestPages) -> PageCounts
     ensures { AreCounted map.now result.private result.shared result.swapped }
 {
     PageCounts {

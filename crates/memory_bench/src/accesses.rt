@@ -3,7 +3,7 @@ ghost use Rattle.std.specs.Prelude.{◌≡◌, ◌%◌, ◌<◌, length};
 
 use crate::frame::zero_frame;
 use framepool::Pool;
-use physmap::{PageKind, PhysMap};
+use guest_pages::{GuestPages, PageKind};
 use std::alloc::{AllocError, Global};
 use word32::{Ppn, page_of, put_word, word_at};
 
@@ -50,8 +50,8 @@ pub fn plain(alloc: Global, stores: u32, loads: u32) -> Result<u64, AllocError> 
 }
 
 // A store asks first whether its page has a frame of its own, as a guest's does.
-#[tactic(auto, using(physmap::proofs::Outlines::outline_length))]
-fn store_mapped(map: &mut PhysMap, count: u32)
+#[tactic(auto, using(guest_pages::proofs::Outlines::outline_length))]
+fn store_mapped(map: &mut GuestPages, count: u32)
     requires { length map.old ≡ 4 }
     ensures { length map.new ≡ 4 }
 {
@@ -64,7 +64,7 @@ fn store_mapped(map: &mut PhysMap, count: u32)
     }
 }
 
-fn sum_mapped(map: &PhysMap, count: u32) -> u64
+fn sum_mapped(map: &GuestPages, count: u32) -> u64
     requires { length map.now ≡ 4 }
 {
     let mut sum: u64 = 0;
@@ -75,7 +75,7 @@ fn sum_mapped(map: &PhysMap, count: u32) -> u64
 }
 
 // Each page gets a frame of zeros.
-fn supply_all(alloc: Global, map: &mut PhysMap, pool: &mut Pool) -> Result<(), AllocError>
+fn supply_all(alloc: Global, map: &mut GuestPages, pool: &mut Pool) -> Result<(), AllocError>
     requires { length map.old ≡ 4 }
     ensures { length map.new ≡ 4 }
 {
@@ -92,7 +92,7 @@ fn supply_all(alloc: Global, map: &mut PhysMap, pool: &mut Pool) -> Result<(), A
 /// Makes so many stores and then so many loads in the pages of a guest, each in a frame of its own; the sum of what was
 /// loaded.
 pub fn mapped(alloc: Global, stores: u32, loads: u32) -> Result<u64, AllocError> {
-    let mut map = PhysMap::new(alloc, PAGES)?;
+    let mut map = GuestPages::new(alloc, PAGES)?;
     let answer = match Pool::new(alloc, PAGES) {
         Ok(mut pool) => {
             let supplied = supply_all(alloc, &mut map, &mut pool);

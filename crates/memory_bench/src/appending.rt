@@ -2,7 +2,7 @@
 ghost use Rattle.std.specs.Prelude.{◌≡◌, ◌+◌, ◌<◌, ◌^◌, length, IfOk};
 
 use items::{Item, What};
-use loghead::{Head, Pen, Seat};
+use log_seats::{Head, Pen, Seat};
 use std::alloc::{AllocError, Global};
 
 #[inline(never)]

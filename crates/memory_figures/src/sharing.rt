@@ -1,7 +1,7 @@
 //! Guests of one image on a third of the memory that they were promised, whose pages are scanned for equal ones.
 use crate::guests::{PAGES, guest_of, image_of, world_of};
 use items::{DebugRegister, Item, SeatNo, What};
-use paging::Scan;
+use page_moves::Scan;
 use rand_core::SeedableRng;
 use rand_pcg::Pcg32;
 use std::alloc::{AllocError, Global};

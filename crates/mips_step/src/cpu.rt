@@ -1,11 +1,11 @@
 //! The state of the processor, and how control moves.
 ghost use Rattle.std.specs.Prelude.{◌≡◌, ◌%◌, IfSome, IfOk, Ok};
-ghost use Rattle.mips_step.specs.Processor.{Processor, reg, with_reg, boot_processor};
-ghost use Rattle.mips_step.specs.Places.{alignment, place, data_address};
+ghost use Rattle.machine.specs.Processor.{Processor, reg, with_reg, boot_processor};
+ghost use Rattle.machine.specs.Places.{alignment, place, data_address};
 
 pub use self::counter::Counter;
-use crate::Size;
 use crate::sign::extended;
+use machine::Size;
 use mips_cp0::{Cp0, Exc};
 use mips_instr::Reg;
 use mips_tlb::{Kind, Tlb, direct_address};
@@ -29,7 +29,7 @@ pub struct Cpu {
 }
 
 impl Model for Cpu {
-    ghost use Rattle.mips_step.specs.Processor.{Processor};
+    ghost use Rattle.machine.specs.Processor.{Processor};
 
     ghost Value = { Processor };
 
@@ -110,7 +110,7 @@ impl Cpu {
     }
 
     /// Writes a general register; a write to register 0 does nothing.
-    pub(crate) fn set_reg(&mut self, r: Reg, value: u32)
+    pub fn set_reg(&mut self, r: Reg, value: u32)
         ensures { self.new ≡ with_reg r value self.old }
     {
         let r = r.number();
@@ -120,7 +120,7 @@ impl Cpu {
     }
 
     /// The virtual address that a load or a store names.
-    pub(crate) fn data_address(&self, base: Reg, offset: u16) -> u32
+    pub fn data_address(&self, base: Reg, offset: u16) -> u32
         ensures { result ≡ data_address self.now base offset }
     {
         self.reg(base).wrapping_add(extended(offset))
@@ -128,9 +128,9 @@ impl Cpu {
 
     /// The physical address of an aligned access in kseg0 or kseg1 in kernel mode; `None` of the others, which `place` tells.
     /// Most accesses are such, and come by without a call.
-    #[tactic(auto, using(crate::proofs::Aligned::place_aligned))]
+    #[tactic(auto, using(machine::proofs::Aligned::place_aligned))]
     #[inline(always)]
-    pub(crate) fn direct_place(&self, _kind: Kind, size: Size, address: u32) -> Option<u32>
+    pub fn direct_place(&self, _kind: Kind, size: Size, address: u32) -> Option<u32>
         ensures place { IfSome result (λ at. place _kind size self.now address ≡ Ok at) }
         ensures aligned { IfSome result (λ at. at % alignment size ≡ 0) }
     {
@@ -142,8 +142,8 @@ impl Cpu {
     }
 
     /// The physical address of an access at a virtual address, or the exception that it raises.
-    #[tactic(auto, using(crate::proofs::Aligned::place_aligned))]
-    pub(crate) fn place(&self, kind: Kind, size: Size, address: u32) -> Result<u32, Exc>
+    #[tactic(auto, using(machine::proofs::Aligned::place_aligned))]
+    pub fn place(&self, kind: Kind, size: Size, address: u32) -> Result<u32, Exc>
         ensures place { result ≡ place kind size self.now address }
         ensures aligned { IfOk result (λ at. at % alignment size ≡ 0) }
     {
@@ -156,7 +156,7 @@ impl Cpu {
 }
 
 /// What the address of an access is a multiple of.
-pub(crate) fn alignment(size: Size) -> u32
+pub fn alignment(size: Size) -> u32
     ensures { result ≡ alignment size }
 {
     match size {

@@ -1,32 +1,24 @@
-//! One step of the processor over any bus that keeps the law of `PhysBus`.
+//! One step of the processor over any bus that keeps the law of `machine::PhysBus`, and what a debugger reads and writes.
 //!
-//! What each instruction does stands in one table, `specs/Operations.antt`, and a step in `specs/Step.antt`; the world behind
-//! the bus in `specs/World.antt`, the pages that a step accesses in `specs/Accesses.antt`, what it does to the given pages in
-//! `specs/Given.antt`. The crates above use `PhysBus` with its meaning (`world`, `kept`, `lacks`, `waiting`), `Cpu` (in
-//! clauses a record, `Processor`) and `Cpu::step`: it answers `Done` where the machine has moved by the definition, `Need`
-//! exactly where the bus lacks a page that the step would access, and then nothing has changed. `Cpu::need` tells that
-//! beforehand, and `Cpu::poke` is a debugger's write of a register. For many steps at once there are `PhysBus::is_plain`,
-//! `Cpu::fetch_address`, `Decoded`, `Cpu::perform_clockless` and `Cpu::advance_clock`
-//! (`specs/Clockless.antt`, `specs/Decoding.antt`). `laws` states that a step depends on the pages that it
-//! accesses alone, which pages it leaves, and which it gives and takes.
+//! What a step is stands in `machine`. The crates above use `Cpu` (in clauses a record, `Processor`) and `Cpu::step`: it answers `Done`
+//! where the machine has moved by the definition, `Need` exactly where the bus lacks a page that the step would access, and then
+//! nothing has changed. `Cpu::need` tells that beforehand, and `Cpu::poke` is a debugger's write of a register. `debug` reads and writes
+//! bytes at virtual addresses, or tells the first page that is away and is wanted for that. A `View` is what is seen of a machine
+//! beside its memory.
+//!
+//! For many steps at once (`mips_fast`) there are the parts of a step: `Counter`, `Cpu::direct_place`, `Cpu::put_loaded` and `put_stored`,
+//! `Cpu::advance_clock`, and in `meaning` the values of the instructions.
 #![tactic(auto)]
 
-pub mod access;
-pub mod bus;
-pub mod clockless;
 pub mod cpu;
-pub mod decoded;
-pub mod laws;
-mod meaning;
+pub mod debug;
+pub mod meaning;
 mod operating;
 mod sign;
 pub mod stepping;
-mod transfer;
+pub mod transfer;
+pub mod view;
 
-pub use access::{Refusal, Size, StepOut, Why};
-pub use bus::PhysBus;
-pub use clockless::Performed;
 pub use cpu::{Counter, Cpu};
-pub use decoded::Decoded;
-pub use mips_tlb::Kind;
-pub use word32::Ppn;
+pub use debug::Unreached;
+pub use view::View;

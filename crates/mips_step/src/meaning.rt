@@ -1,8 +1,8 @@
 //! The operation of the arithmetic unit that each instruction uses.
 ghost use Rattle.std.specs.Prelude.{◌≡◌};
-ghost use Rattle.mips_step.specs.Meaning.{register_result, immediate_result, shifted, shifted_by, moves, multiplied, divided};
-ghost use Rattle.mips_step.specs.Meaning.{counted, trap_condition, trap_immediate_condition, branch_condition, zero_condition};
-ghost use Rattle.mips_step.specs.Meaning.{is_likely, is_likely_zero, links};
+ghost use Rattle.machine.specs.Meaning.{register_result, immediate_result, shifted, shifted_by, moves, multiplied, divided};
+ghost use Rattle.machine.specs.Meaning.{counted, trap_condition, trap_immediate_condition, branch_condition, zero_condition};
+ghost use Rattle.machine.specs.Meaning.{is_likely, is_likely_zero, links};
 
 use crate::sign::extended;
 use mips_alu::{

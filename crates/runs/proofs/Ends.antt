@@ -2,7 +2,7 @@
 use Rattle.std.proofs.Common.{ℕ, zero, suc, ◌≡◌, ◌+◌, ◌<◌, ◌≤◌, ◌⊎◌, inl, inr, ◌/◌, ◌%◌, ◌&&◌, ◌==◌, Bool, if◌then◌else◌, List, Option, Some, None, refl, sym, ap, subst, ◌∙◌, arith, add-one}
 use Rattle.std.specs.List.{list_any}
 use Rattle.std.proofs.lemmas.Bool.{cases_lt}
-use Rattle.mips_step.specs.Step.{Machine, step}
+use Rattle.machine.specs.Step.{Machine, step}
 use Rattle.runs.specs.declared.ending.Ending.{Ending}
 use Rattle.runs.specs.declared.ending.Ending.TheVariants.{Loop, Exception, Address}
 use Rattle.runs.specs.declared.ending.Until.{Until}

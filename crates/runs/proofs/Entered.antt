@@ -8,9 +8,9 @@ use Rattle.mips_cp0.specs.Registers.{SystemRegisters}
 use Rattle.mips_cp0.specs.declared.exception.Exc.{Exc}
 use Rattle.mips_cp0.specs.declared.exception.Exc.TheVariants as exc
 use Rattle.mips_cp0.proofs.Entering.{level_set}
-use Rattle.mips_step.specs.Processor.{clocked, excepted}
-use Rattle.mips_step.specs.World.{World}
-use Rattle.mips_step.specs.Step.{Machine, in_world, step}
+use Rattle.machine.specs.Processor.{clocked, excepted}
+use Rattle.machine.specs.Board.{Board}
+use Rattle.machine.specs.Step.{Machine, machine_with, step}
 use Rattle.runs.specs.Entries.{entered_since, has_entered, is_vector}
 
 -- an offset is one of the handlers'
@@ -75,5 +75,5 @@ entered_now m e clear =
     all_three (has_bits status_exl m.cpu.cp0.status) _ _ clear (level_set m.cpu.cp0.status)
     (vector_found m.cpu.cp0.status (vector_base m.cpu.cp0.status) (vector_offset e (clocked m.cpu).cp0) refl (is_offset e (clocked m.cpu).cp0))
 
-pub entry_seen : (m : Machine) (e : Exc) (world : World) → has_bits status_exl m.cpu.cp0.status ≡ false → step m ≡ in_world (excepted e (clocked m.cpu)) world → has_entered m (step m) ≡ true
-entry_seen m e world clear is = ap (λ (n : Machine). entered_since m.cpu.cp0.status n.cpu) is ∙ entered_now m e clear
+pub entry_seen : (m : Machine) (e : Exc) (board : Board) → has_bits status_exl m.cpu.cp0.status ≡ false → step m ≡ machine_with (excepted e (clocked m.cpu)) board → has_entered m (step m) ≡ true
+entry_seen m e board clear is = ap (λ (n : Machine). entered_since m.cpu.cp0.status n.cpu) is ∙ entered_now m e clear

@@ -13,13 +13,13 @@ use Rattle.mips_tlb.specs.Translation.{address_error, answer_of, half_of, kernel
 use Rattle.mips_tlb.specs.declared.kind.Kind.TheVariants.{Fetch, Load}
 use Rattle.mips_tlb.specs.declared.tlb.Entry.{Entry}
 use Rattle.mips_tlb.proofs.Pages.{translation_same}
-use Rattle.mips_step.specs.declared.access.Size.TheVariants.{Word}
-use Rattle.mips_step.specs.Processor.{Processor}
-use Rattle.mips_step.specs.World.{World, is_given_page, is_in_memory}
-use Rattle.mips_step.specs.Places.{place}
-use Rattle.mips_step.specs.Step.{Machine}
-use Rattle.mips_step.proofs.Aligned.{passed, place_offset}
-use Rattle.flatvm.specs.Replies.{byte_at, byte_in, bytes_at, in_memory, probe, with_next}
+use Rattle.machine.specs.declared.access.Size.TheVariants.{Word}
+use Rattle.machine.specs.Processor.{Processor}
+use Rattle.machine.specs.Board.{Board, is_given_page, is_in_memory}
+use Rattle.machine.specs.Places.{place}
+use Rattle.machine.specs.Step.{Machine}
+use Rattle.machine.proofs.Aligned.{passed, place_offset}
+use Rattle.machine.specs.Replies.{byte_at, byte_in, bytes_at, in_memory, probe, with_next}
 use Rattle.runs.specs.Loops.{fetched_word, is_answered, read_as_word, word_at_place, word_read}
 
 -- ---- where a fetch leads, a load of kernel mode does
@@ -50,7 +50,7 @@ probed_fetch entries r address at given =
 
 -- byte k of a word
 byte_of_word : (m : Machine) (address at k : ℕ) → address < 2 ^ 32 → k < 4 → place Fetch Word m.cpu address ≡ Ok at
-    → byte_at m ((address + k) % 2 ^ 32) ≡ byte_in m.world.memory (in_memory m.world.memory (Some (at + k)))
+    → byte_at m ((address + k) % 2 ^ 32) ≡ byte_in m.board.memory (in_memory m.board.memory (Some (at + k)))
 byte_of_word m address at k small below placed =
     let found = passed (address % 4 == 0) (translation m.cpu.tlb m.cpu.cp0 Fetch address) (address_error Fetch address) at placed in
     let aligned : address % 4 ≡ 0 = eqb-true (address % 4) 0 found.0 in
@@ -60,7 +60,7 @@ byte_of_word m address at k small below placed =
     let here : (address + k) % 2 ^ 32 ≡ address + k = omega (arith, aligned, below, small) in
     let led = translation_same m.cpu.tlb m.cpu.cp0 Fetch address (address + k) at page found.1 ∙ ap Ok same in
     ap (byte_at m) here
-    ∙ ap (λ (to : Option ℕ). byte_in m.world.memory (in_memory m.world.memory to)) (probed_fetch m.cpu.tlb m.cpu.cp0 (address + k) (at + k) led)
+    ∙ ap (λ (to : Option ℕ). byte_in m.board.memory (in_memory m.board.memory to)) (probed_fetch m.cpu.tlb m.cpu.cp0 (address + k) (at + k) led)
 
 four : Option ℕ → Option ℕ → Option ℕ → Option ℕ → Option (List ℕ)
 four a b c d = with_next (with_next (with_next (with_next (Some []) a) b) c) d
@@ -118,50 +118,50 @@ placed_four memory at (inr room) =
     ∙ ap Some (four_dropped memory at room)
     ∙ sym (ap (λ (b : Bool). if b then Some (word_in memory at) else None) inside)
 
-pub word_there : (m : Machine) (address at : ℕ) → address < 2 ^ 32 → place Fetch Word m.cpu address ≡ Ok at → word_read m address ≡ placed_word m.world.memory at
+pub word_there : (m : Machine) (address at : ℕ) → address < 2 ^ 32 → place Fetch Word m.cpu address ≡ Ok at → word_read m address ≡ placed_word m.board.memory at
 unfolding four byte_placed
 word_there m address at small placed =
     let none : at + 0 ≡ at = omega arith in
-    let b0 = byte_of_word m address at 0 small (omega arith) placed ∙ ap (byte_placed m.world.memory) none in
+    let b0 = byte_of_word m address at 0 small (omega arith) placed ∙ ap (byte_placed m.board.memory) none in
     let b1 = byte_of_word m address at 1 small (omega arith) placed in
     let b2 = byte_of_word m address at 2 small (omega arith) placed in
     let b3 = byte_of_word m address at 3 small (omega arith) placed in
-    (λ i. read_as_word (four (b0 i) (b1 i) (b2 i) (b3 i))) ∙ placed_four m.world.memory at (cases_lt (length m.world.memory) (at + 4))
+    (λ i. read_as_word (four (b0 i) (b1 i) (b2 i) (b3 i))) ∙ placed_four m.board.memory at (cases_lt (length m.board.memory) (at + 4))
 
 -- ---- what a fetch gives, by the ways in which it is looked for
 
 pub misaligned : (m : Machine) (address : ℕ) → (address % 4 ≡ 0 → ⊥) → fetched_word m address ≡ None
 misaligned m address odd =
     let no : (address % 4 == 0) ≡ false = grind (arith, nat_tests) in
-    ap (λ (b : Bool). word_at_place m.world (if b then translation m.cpu.tlb m.cpu.cp0 Fetch address else Err (address_error Fetch address))) no
+    ap (λ (b : Bool). word_at_place m.board (if b then translation m.cpu.tlb m.cpu.cp0 Fetch address else Err (address_error Fetch address))) no
 
 placed_at : (m : Machine) (address : ℕ) → address % 4 ≡ 0 → place Fetch Word m.cpu address ≡ translation m.cpu.tlb m.cpu.cp0 Fetch address
 placed_at m address aligned =
     ap (λ (b : Bool). if b then translation m.cpu.tlb m.cpu.cp0 Fetch address else Err (address_error Fetch address)) (eq-eqb (address % 4) 0 aligned)
 
 pub refused_fetch : (m : Machine) (address : ℕ) (e : Exc) → address % 4 ≡ 0 → translation m.cpu.tlb m.cpu.cp0 Fetch address ≡ Err e → fetched_word m address ≡ None
-refused_fetch m address e aligned raised = ap (word_at_place m.world) (placed_at m address aligned ∙ raised)
+refused_fetch m address e aligned raised = ap (word_at_place m.board) (placed_at m address aligned ∙ raised)
 
 never : (there : Bool) (word : Option ℕ) → (if there && not true then word else None) ≡ None
 never true word = refl
 never false word = refl
 
-pub given_fetch : (m : Machine) (address at : ℕ) → address % 4 ≡ 0 → translation m.cpu.tlb m.cpu.cp0 Fetch address ≡ Ok at → is_given_page (page_number at) m.world ≡ true → fetched_word m address ≡ None
+pub given_fetch : (m : Machine) (address at : ℕ) → address % 4 ≡ 0 → translation m.cpu.tlb m.cpu.cp0 Fetch address ≡ Ok at → is_given_page (page_number at) m.board ≡ true → fetched_word m address ≡ None
 given_fetch m address at aligned found given =
-    ap (word_at_place m.world) (placed_at m address aligned ∙ found)
-    ∙ ap (λ (b : Bool). if is_in_memory m.world Word at && not b then Some (word_in m.world.memory at) else None) given
-    ∙ never (is_in_memory m.world Word at) (Some (word_in m.world.memory at))
+    ap (word_at_place m.board) (placed_at m address aligned ∙ found)
+    ∙ ap (λ (b : Bool). if is_in_memory m.board Word at && not b then Some (word_in m.board.memory at) else None) given
+    ∙ never (is_in_memory m.board Word at) (Some (word_in m.board.memory at))
 
 always : (there : Bool) (word : Option ℕ) → (if there && not false then word else None) ≡ (if there then word else None)
 always true word = refl
 always false word = refl
 
-pub read_fetch : (m : Machine) (address at : ℕ) → address < 2 ^ 32 → address % 4 ≡ 0 → translation m.cpu.tlb m.cpu.cp0 Fetch address ≡ Ok at → is_given_page (page_number at) m.world ≡ false
+pub read_fetch : (m : Machine) (address at : ℕ) → address < 2 ^ 32 → address % 4 ≡ 0 → translation m.cpu.tlb m.cpu.cp0 Fetch address ≡ Ok at → is_given_page (page_number at) m.board ≡ false
     → fetched_word m address ≡ word_read m address
 unfolding placed_word
 read_fetch m address at small aligned found apart =
     let placed = placed_at m address aligned ∙ found in
-    ap (word_at_place m.world) placed
-    ∙ ap (λ (b : Bool). if is_in_memory m.world Word at && not b then Some (word_in m.world.memory at) else None) apart
-    ∙ always (is_in_memory m.world Word at) (Some (word_in m.world.memory at))
+    ap (word_at_place m.board) placed
+    ∙ ap (λ (b : Bool). if is_in_memory m.board Word at && not b then Some (word_in m.board.memory at) else None) apart
+    ∙ always (is_in_memory m.board Word at) (Some (word_in m.board.memory at))
     ∙ sym (word_there m address at small placed)

@@ -2,8 +2,8 @@
 use Rattle.std.proofs.Common.{◌≡◌, refl, sym, ap, ◌∙◌, arith, ℕ, zero, suc, ◌+◌, ◌<◌, List, [], ◌∷◌, length, take, get_or, add-one}
 use Rattle.std.proofs.lemmas.List.{length-append}
 use Rattle.items.specs.declared.item.What.TheVariants.{In}
-use Rattle.mips_step.specs.Step.{Machine}
-use Rattle.flatvm.specs.Items.{after}
+use Rattle.machine.specs.Step.{Machine}
+use Rattle.machine.specs.Items.{after}
 use Rattle.runs.specs.Runs.{fed}
 
 -- one byte more
@@ -18,6 +18,6 @@ fed_step i bytes before now new h e n =
     n ∙ ap (after (In (get_or bytes i 0))) e ∙ sym (fed_more i bytes before h) ∙ ap (λ k. fed (take k bytes) before) (sym (add-one i))
 
 -- a byte that was taken waits behind the others
-pub fed_waits : (byte : ℕ) (now new : Machine) → new ≡ after (In byte) now → length new.world.devices.console.input ≡ length now.world.devices.console.input + 1
+pub fed_waits : (byte : ℕ) (now new : Machine) → new ≡ after (In byte) now → length new.board.devices.console.input ≡ length now.board.devices.console.input + 1
 fed_waits byte now new n =
-    ap (λ m. length m.world.devices.console.input) n ∙ length-append now.world.devices.console.input (byte ∷ [])
+    ap (λ m. length m.board.devices.console.input) n ∙ length-append now.board.devices.console.input (byte ∷ [])

@@ -28,14 +28,14 @@ use Rattle.mips_tlb.specs.Segments.{is_mapped, is_refused, unmapped_address}
 use Rattle.mips_tlb.specs.Translation.{address_error, through_entry}
 use Rattle.mips_tlb.specs.declared.kind.Kind.TheVariants.{Fetch}
 use Rattle.mips_tlb.specs.declared.tlb.Entry.{Entry}
-use Rattle.mips_step.specs.declared.access.Size.TheVariants.{Word}
-use Rattle.mips_step.specs.Processor.{Processor, reg, jumped, skipped, after_slot, linked, next}
-use Rattle.mips_step.specs.World.{World, is_given_page, is_in_memory, lines_of, touched, value_in}
-use Rattle.mips_step.specs.Places.{place}
-use Rattle.mips_step.specs.Meaning.{branch_condition, is_likely, is_likely_zero, links, zero_condition}
-use Rattle.mips_step.specs.Operations.{Operation, branched, decoded, done_or_excepted, instruction_of, jumped_far, linked_if, operation_of, outside_slot, word_operation}
-use Rattle.mips_step.specs.Operations.Operation.{OnProcessor}
-use Rattle.mips_step.specs.Step.{Machine, after_tick, fetched, in_world, performed, raised, step, word_fetched}
+use Rattle.machine.specs.declared.access.Size.TheVariants.{Word}
+use Rattle.machine.specs.Processor.{Processor, reg, jumped, skipped, after_slot, linked, next}
+use Rattle.machine.specs.Board.{Board, is_given_page, is_in_memory, lines_of, touched, value_in}
+use Rattle.machine.specs.Places.{place}
+use Rattle.machine.specs.Meaning.{branch_condition, is_likely, is_likely_zero, links, zero_condition}
+use Rattle.machine.specs.Operations.{Operation, branched, decoded, done_or_excepted, instruction_of, jumped_far, linked_if, operation_of, outside_slot, word_operation}
+use Rattle.machine.specs.Operations.Operation.{OnProcessor}
+use Rattle.machine.specs.Step.{Machine, after_tick, fetched, machine_with, performed, raised, step, word_fetched}
 use Rattle.runs.specs.Loops.{at_branch, fetched_word, in_its_slot, is_answered, is_loop, is_number, is_quiet, jumped_to, leads_back, led_to, taken_to, word_at_place, word_leads}
 use Rattle.runs.specs.Runs.{after_steps}
 
@@ -100,38 +100,38 @@ same_place cpu r' address is = λ i. place_by cpu address (is.status i) (is.entr
 record IsFetched (m : Machine) (address word : ℕ) : Type 0 where
   pub at : ℕ
   pub placed : place Fetch Word m.cpu address ≡ Ok at
-  pub there : is_in_memory m.world Word at ≡ true
-  pub apart : is_given_page (page_number at) m.world ≡ false
-  pub value : value_in m.world.memory Word at ≡ word
+  pub there : is_in_memory m.board Word at ≡ true
+  pub apart : is_given_page (page_number at) m.board ≡ false
+  pub value : value_in m.board.memory Word at ≡ word
 
-answered : (world : World) (at word : ℕ) (there given : Bool) (value : ℕ) → (if there && not given then Some value else None) ≡ Some word → (there ≡ true) × (given ≡ false) × (value ≡ word)
-answered world at word true false value e = (refl, refl, cc)
-answered world at word true true value e = absurd (cc)
-answered world at word false given value e = absurd (cc)
+answered : (board : Board) (at word : ℕ) (there given : Bool) (value : ℕ) → (if there && not given then Some value else None) ≡ Some word → (there ≡ true) × (given ≡ false) × (value ≡ word)
+answered board at word true false value e = (refl, refl, cc)
+answered board at word true true value e = absurd (cc)
+answered board at word false given value e = absurd (cc)
 
-fetched_by : (m : Machine) (address word : ℕ) (found : Result ℕ Exc) → place Fetch Word m.cpu address ≡ found → word_at_place m.world found ≡ Some word → IsFetched m address word
+fetched_by : (m : Machine) (address word : ℕ) (found : Result ℕ Exc) → place Fetch Word m.cpu address ≡ found → word_at_place m.board found ≡ Some word → IsFetched m address word
 fetched_by m address word (Err e) is e' = absurd (cc)
 fetched_by m address word (Ok at) is e =
-    let parts = answered m.world at word (is_in_memory m.world Word at) (is_given_page (page_number at) m.world) (value_in m.world.memory Word at) e in
+    let parts = answered m.board at word (is_in_memory m.board Word at) (is_given_page (page_number at) m.board) (value_in m.board.memory Word at) e in
     record { at = at; placed = is; there = parts.0; apart = parts.1; value = parts.2 }
 
 fetched_here : (m : Machine) (address word : ℕ) → fetched_word m address ≡ Some word → IsFetched m address word
 fetched_here m address word e = fetched_by m address word (place Fetch Word m.cpu address) refl e
 
-untouched : (world : World) (at : ℕ) → is_given_page (page_number at) world ≡ false → touched at world ≡ world
-untouched world at apart =
-    let given = world.devices.balloon.given in
+untouched : (board : Board) (at : ℕ) → is_given_page (page_number at) board ≡ false → touched at board ≡ board
+untouched board at apart =
+    let given = board.devices.balloon.given in
     let same : slice_set given (page_number at) false ≡ given = ap (λ (now : Bool). slice_set given (page_number at) now) (sym apart) ∙ set-get_or given (page_number at) false in
-    ap (λ (now : List Bool). record world { devices = record world.devices { balloon = record world.devices.balloon { given = now } } }) same
+    ap (λ (now : List Bool). record board { devices = record board.devices { balloon = record board.devices.balloon { given = now } } }) same
 
 -- a step of a processor that stands at a word, with the clock moved
-stepped_by : (m : Machine) (cpu : Processor) (address word : ℕ) → IsFetched m address word → interrupt_taken (lines_of m.world) cpu.cp0 ≡ false
-    → place Fetch Word cpu cpu.pc ≡ place Fetch Word m.cpu address → after_tick (in_world cpu m.world) ≡ performed (word_operation word) (in_world cpu m.world)
+stepped_by : (m : Machine) (cpu : Processor) (address word : ℕ) → IsFetched m address word → interrupt_taken (lines_of m.board) cpu.cp0 ≡ false
+    → place Fetch Word cpu cpu.pc ≡ place Fetch Word m.cpu address → after_tick (machine_with cpu m.board) ≡ performed (word_operation word) (machine_with cpu m.board)
 stepped_by m cpu address word f quiet same =
-    ap (λ (b : Bool). if b then raised exc.Interrupt (in_world cpu m.world) else fetched (place Fetch Word cpu cpu.pc) (in_world cpu m.world)) quiet
-    ∙ ap (λ (p : Result ℕ Exc). fetched p (in_world cpu m.world)) (same ∙ f.placed)
-    ∙ ap (λ (b : Bool). if b then word_fetched f.at (in_world cpu m.world) else raised exc.BusFetch (in_world cpu m.world)) f.there
-    ∙ (λ i. performed (word_operation (f.value i)) (in_world cpu (untouched m.world f.at f.apart i)))
+    ap (λ (b : Bool). if b then raised exc.Interrupt (machine_with cpu m.board) else fetched (place Fetch Word cpu cpu.pc) (machine_with cpu m.board)) quiet
+    ∙ ap (λ (p : Result ℕ Exc). fetched p (machine_with cpu m.board)) (same ∙ f.placed)
+    ∙ ap (λ (b : Bool). if b then word_fetched f.at (machine_with cpu m.board) else raised exc.BusFetch (machine_with cpu m.board)) f.there
+    ∙ (λ i. performed (word_operation (f.value i)) (machine_with cpu (untouched m.board f.at f.apart i)))
 
 -- ---- a branch or jump that is taken
 
@@ -158,19 +158,19 @@ jump_leads : (op : JumpOp) (target to : ℕ) (cpu : Processor) → jumped_to op 
 jump_leads J target to cpu e = ap (λ (t : ℕ). jumped t cpu) (some_inside _ _ e)
 jump_leads Jal target to cpu e = absurd (cc)
 
-instr_leads : (i : Instr) (target : ℕ) (m : Machine) → m.cpu.slot ≡ None → led_to m.cpu i ≡ Some target → performed (operation_of i) m ≡ in_world (jumped target m.cpu) m.world
+instr_leads : (i : Instr) (target : ℕ) (m : Machine) → m.cpu.slot ≡ None → led_to m.cpu i ≡ Some target → performed (operation_of i) m ≡ machine_with (jumped target m.cpu) m.board
 unfolding operation_of
 instr_leads (instr.Branch op rs rt offset) target m none e =
     let taken = compare_result (branch_condition op) (reg m.cpu rs) (reg m.cpu rt) in
-    ap (λ (c : Processor). in_world c m.world) (leads m.cpu (branched taken (is_likely op) offset m.cpu) target none (taken_leads taken (is_likely op) offset target m.cpu e))
+    ap (λ (c : Processor). machine_with c m.board) (leads m.cpu (branched taken (is_likely op) offset m.cpu) target none (taken_leads taken (is_likely op) offset target m.cpu e))
 instr_leads (instr.BranchZero op rs offset) target m none e =
     let taken = compare_result (zero_condition op) (reg m.cpu rs) 0 in
-    ap (λ (c : Processor). in_world c m.world)
+    ap (λ (c : Processor). machine_with c m.board)
     (leads m.cpu (branched taken (is_likely_zero op) offset (linked_if (links op) m.cpu)) target none (zero_leads (links op) taken (is_likely_zero op) offset target m.cpu e))
 instr_leads (instr.Jump op to) target m none e =
-    ap (λ (c : Processor). in_world c m.world) (leads m.cpu (jumped_far op to m.cpu) target none (jump_leads op to target m.cpu e))
+    ap (λ (c : Processor). machine_with c m.board) (leads m.cpu (jumped_far op to m.cpu) target none (jump_leads op to target m.cpu e))
 instr_leads (instr.JumpRegister rs) target m none e =
-    ap (λ (c : Processor). in_world c m.world) (leads m.cpu (jumped (reg m.cpu rs) m.cpu) target none (ap (λ (t : ℕ). jumped t m.cpu) (some_inside _ _ e)))
+    ap (λ (c : Processor). machine_with c m.board) (leads m.cpu (jumped (reg m.cpu rs) m.cpu) target none (ap (λ (t : ℕ). jumped t m.cpu) (some_inside _ _ e)))
 instr_leads (instr.ThreeRegister op rd rs rt) target m none e = absurd (cc)
 instr_leads (instr.ConditionalMove op rd rs rt) target m none e = absurd (cc)
 instr_leads (instr.Shift op rd rt sa) target m none e = absurd (cc)
@@ -198,7 +198,7 @@ instr_leads (instr.Load op rt base offset) target m none e = absurd (cc)
 instr_leads (instr.Store op rt base offset) target m none e = absurd (cc)
 
 word_leads_on : (word target : ℕ) (i : Option Instr) (m : Machine) → instruction_of word ≡ i → m.cpu.slot ≡ None → word_leads m.cpu i ≡ Some target
-    → performed (word_operation word) m ≡ in_world (jumped target m.cpu) m.world
+    → performed (word_operation word) m ≡ machine_with (jumped target m.cpu) m.board
 unfolding word_operation
 word_leads_on word target None m is none e = absurd (cc)
 word_leads_on word target (Some i) m is none e = ap (λ (o : Option Instr). performed (decoded word o) m) is ∙ instr_leads i target m none e
@@ -209,7 +209,7 @@ nop_is : instruction_of 0 ≡ Some (instr.Shift Sll 0 0 0)
 unfolding readings_of special_readings
 nop_is = refl
 
-nop_goes_on : (m : Machine) → performed (word_operation 0) m ≡ in_world (next m.cpu) m.world
+nop_goes_on : (m : Machine) → performed (word_operation 0) m ≡ machine_with (next m.cpu) m.board
 unfolding word_operation operation_of
 nop_goes_on m = ap (λ (o : Option Instr). performed (decoded 0 o) m) nop_is
 
@@ -221,7 +221,7 @@ record IsRound (m : Machine) : Type 0 where
   pub branch : IsFetched m m.cpu.pc word
   pub back : word_leads m.cpu (instruction_of word) ≡ Some m.cpu.pc
   pub nop : IsFetched m (slot_address m.cpu.pc) 0
-  pub quiet : is_quiet (lines_of m.world) m.cpu.cp0 ≡ true
+  pub quiet : is_quiet (lines_of m.board) m.cpu.cp0 ≡ true
 
 none_of : (s : Option ℕ) → is_none s ≡ true → s ≡ None
 none_of None e = refl
@@ -258,8 +258,8 @@ to_slot m k round =
     let r' = after_ticks (suc k) m.cpu.cp0 in
     let cpu = record m.cpu { cp0 = r' } in
     let is = later (suc k) m.cpu.cp0 in
-    stepped_by m cpu m.cpu.pc round.word round.branch (quiet_later (lines_of m.world) m.cpu.cp0 r' round.quiet is) (same_place m.cpu r' m.cpu.pc is)
-    ∙ word_leads_on round.word m.cpu.pc (instruction_of round.word) (in_world cpu m.world) refl round.outside round.back
+    stepped_by m cpu m.cpu.pc round.word round.branch (quiet_later (lines_of m.board) m.cpu.cp0 r' round.quiet is) (same_place m.cpu r' m.cpu.pc is)
+    ∙ word_leads_on round.word m.cpu.pc (instruction_of round.word) (machine_with cpu m.board) refl round.outside round.back
 
 -- and back
 to_branch : (m : Machine) (k : ℕ) → IsRound m → step (in_its_slot k m) ≡ at_branch (suc k) m
@@ -268,9 +268,9 @@ to_branch m k round =
     let r' = after_ticks (suc k) m.cpu.cp0 in
     let cpu = record m.cpu { pc = slot_address m.cpu.pc; slot = Some m.cpu.pc; cp0 = r' } in
     let is = later (suc k) m.cpu.cp0 in
-    stepped_by m cpu (slot_address m.cpu.pc) 0 round.nop (quiet_later (lines_of m.world) m.cpu.cp0 r' round.quiet is) (same_place m.cpu r' (slot_address m.cpu.pc) is)
-    ∙ nop_goes_on (in_world cpu m.world)
-    ∙ ap (λ (s : Option ℕ). in_world (record m.cpu { slot = s; cp0 = r' }) m.world) (sym round.outside)
+    stepped_by m cpu (slot_address m.cpu.pc) 0 round.nop (quiet_later (lines_of m.board) m.cpu.cp0 r' round.quiet is) (same_place m.cpu r' (slot_address m.cpu.pc) is)
+    ∙ nop_goes_on (machine_with cpu m.board)
+    ∙ ap (λ (s : Option ℕ). machine_with (record m.cpu { slot = s; cp0 = r' }) m.board) (sym round.outside)
 
 even_rounds : (m : Machine) (k : ℕ) → IsRound m → after_steps (k + k) m ≡ at_branch (k + k) m
 even_rounds m zero round = refl

@@ -1,7 +1,7 @@
 -- Where a run ends that is to end at the first state of some kinds.
 use Rattle.std.specs.Prelude.{◌≡◌, ◌<◌, ℕ, zero, suc, Bool, ◌==◌, ◌&&◌, ◌/◌, ◌%◌, if◌then◌else◌, List, [], Option, Some, None, IfSome, true, false}
 use Rattle.std.specs.List.{list_any}
-use Rattle.mips_step.specs.Step.{Machine}
+use Rattle.machine.specs.Step.{Machine}
 use Rattle.runs.specs.declared.ending.Ending.{Ending}
 use Rattle.runs.specs.declared.ending.Ending.TheVariants.{Loop, Exception, Address}
 use Rattle.runs.specs.declared.ending.Until.{Until}

@@ -4,8 +4,8 @@ use Rattle.std.specs.Prelude.{ℕ, Bool, ◌+◌, ◌==◌, ◌&&◌, ◌||◌, 
 use Rattle.mips_cp0.specs.Bits.{has_bits}
 use Rattle.mips_cp0.specs.Status.{status_exl}
 use Rattle.mips_cp0.specs.Entered.{vector_base}
-use Rattle.mips_step.specs.Processor.{Processor}
-use Rattle.mips_step.specs.Step.{Machine}
+use Rattle.machine.specs.Processor.{Processor}
+use Rattle.machine.specs.Step.{Machine}
 
 -- an address is that of a handler while Status is this: of a refill, of interrupts of their own, or of all else
 abbrev pub is_vector : ℕ → ℕ → Bool

@@ -13,25 +13,25 @@ use Rattle.mips_instr.specs.declared.instr.JumpOp.{JumpOp}
 use Rattle.mips_instr.specs.declared.instr.JumpOp.TheVariants.{J, Jal}
 use Rattle.mips_alu.specs.Comparing.{compare_result}
 use Rattle.mips_tlb.specs.declared.kind.Kind.TheVariants.{Fetch}
-use Rattle.mips_step.specs.declared.access.Size.TheVariants.{Word}
-use Rattle.mips_step.specs.Processor.{Processor, reg}
-use Rattle.mips_step.specs.World.{World, is_given_page, is_in_memory, value_in, lines_of}
-use Rattle.mips_step.specs.Places.{place}
-use Rattle.mips_step.specs.Meaning.{branch_condition, zero_condition, links}
-use Rattle.mips_step.specs.Operations.{instruction_of}
-use Rattle.mips_step.specs.Step.{Machine}
-use Rattle.flatvm.specs.Replies.{bytes_at}
+use Rattle.machine.specs.declared.access.Size.TheVariants.{Word}
+use Rattle.machine.specs.Processor.{Processor, reg}
+use Rattle.machine.specs.Board.{Board, is_given_page, is_in_memory, value_in, lines_of}
+use Rattle.machine.specs.Places.{place}
+use Rattle.machine.specs.Meaning.{branch_condition, zero_condition, links}
+use Rattle.machine.specs.Operations.{instruction_of}
+use Rattle.machine.specs.Step.{Machine}
+use Rattle.machine.specs.Replies.{bytes_at}
 use Rattle.word32.specs.Pages.{page_number}
 use Rattle.word32.specs.Words.{word_in}
 
 -- whether a fetch at a physical address is answered by memory, and by no page that is given to the balloon
-abbrev pub is_answered : World → ℕ → Bool
-is_answered world at = is_in_memory world Word at && not (is_given_page (page_number at) world)
+abbrev pub is_answered : Board → ℕ → Bool
+is_answered board at = is_in_memory board Word at && not (is_given_page (page_number at) board)
 
 -- the word that such a fetch gives, by its place
-abbrev pub word_at_place : World → Result ℕ Exc → Option ℕ
-word_at_place world (Err e) = None
-word_at_place world (Ok at) = if is_answered world at then Some (value_in world.memory Word at) else None
+abbrev pub word_at_place : Board → Result ℕ Exc → Option ℕ
+word_at_place board (Err e) = None
+word_at_place board (Ok at) = if is_answered board at then Some (value_in board.memory Word at) else None
 
 -- the word at a virtual address, as a debugger reads it
 abbrev pub read_as_word : Option (List ℕ) → Option ℕ
@@ -43,7 +43,7 @@ word_read m address = read_as_word (bytes_at m address 4)
 
 -- the word that a fetch at a virtual address gives, where it raises no exception
 abbrev pub fetched_word : Machine → ℕ → Option ℕ
-fetched_word m address = word_at_place m.world (place Fetch Word m.cpu address)
+fetched_word m address = word_at_place m.board (place Fetch Word m.cpu address)
 
 abbrev pub taken_to : Bool → ℕ → Option ℕ
 taken_to taken target = if taken then Some target else None
@@ -85,7 +85,7 @@ is_loop m =
     is_none m.cpu.slot
     && leads_back m.cpu (fetched_word m m.cpu.pc)
     && is_number 0 (fetched_word m (slot_address m.cpu.pc))
-    && is_quiet (lines_of m.world) m.cpu.cp0
+    && is_quiet (lines_of m.board) m.cpu.cp0
 
 -- ---- for ever
 

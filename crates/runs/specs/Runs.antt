@@ -1,8 +1,8 @@
 -- What a run of a machine does.
 use Rattle.std.specs.Prelude.{◌≡◌, ◌<◌, ◌≤◌, ℕ, zero, suc, List, [], ◌∷◌, None, length, take}
 use Rattle.items.specs.declared.item.What.TheVariants.{In}
-use Rattle.mips_step.specs.Step.{Machine, step}
-use Rattle.flatvm.specs.Items.{after}
+use Rattle.machine.specs.Step.{Machine, step}
+use Rattle.machine.specs.Items.{after}
 use Rattle.runs.specs.declared.running.Ran.{Ran}
 
 -- the machine after some steps

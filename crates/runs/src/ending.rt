@@ -1,6 +1,6 @@
 //! The states that a run is to end at.
 ghost use Rattle.std.specs.Prelude.{◌≡◌, ◌↔◌, true};
-ghost use Rattle.mips_step.specs.Step.{Machine};
+ghost use Rattle.machine.specs.Step.{Machine};
 ghost use Rattle.runs.specs.Endings as spec;
 ghost use Rattle.runs.specs.Endings.{IsNever};
 

@@ -8,7 +8,7 @@ use guest_log::Stop;
 /// Takes the bytes as console input, one after another, and tells how many it took; and why the machine stops, where that is
 /// before the last.
 pub fn feed_all<M: Runnable>(machine: &mut M, bytes: &[u8]) -> (usize, Option<Stop>)
-    requires { length (M.state machine.old).world.devices.console.input + length bytes.now ≤ 256 }
+    requires { length (M.state machine.old).board.devices.console.input + length bytes.now ≤ 256 }
     ensures few { result.0 ≤ length bytes.now }
     ensures all { result.1 ≡ None → result.0 ≡ length bytes.now }
     ensures state { M.state machine.new ≡ fed (take result.0 bytes.now) (M.state machine.old) }

@@ -4,9 +4,9 @@ ghost use Rattle.mips_cp0.specs.Bits.{has_bits};
 ghost use Rattle.mips_cp0.specs.Status.{status_exl};
 ghost use Rattle.mips_cp0.specs.declared.exception.Exc.{Exc};
 ghost use Rattle.mips_instr.specs.Targets.{slot_address};
-ghost use Rattle.mips_step.specs.Processor.{clocked, excepted};
-ghost use Rattle.mips_step.specs.World.{World};
-ghost use Rattle.mips_step.specs.Step.{Machine, in_world, step};
+ghost use Rattle.machine.specs.Processor.{clocked, excepted};
+ghost use Rattle.machine.specs.Board.{Board};
+ghost use Rattle.machine.specs.Step.{Machine, machine_with, step};
 ghost use Rattle.runs.specs.Entries.{has_entered};
 ghost use Rattle.runs.specs.Loops.{at_branch, in_its_slot, is_loop};
 ghost use Rattle.runs.specs.Runs.{after_steps};
@@ -23,6 +23,6 @@ pub fn a_loop_is_for_ever()
 /// A law: a step that enters an exception while EXL is clear is seen.
 #[tactic(auto, using(crate::proofs::Entered::entry_seen))]
 pub fn each_first_exception_is_seen()
-    ensures { (m : Machine) (e : Exc) (world : World) → has_bits status_exl m.cpu.cp0.status ≡ false
-        → step m ≡ in_world (excepted e (clocked m.cpu)) world → has_entered m (step m) ≡ true }
+    ensures { (m : Machine) (e : Exc) (board : Board) → has_bits status_exl m.cpu.cp0.status ≡ false
+        → step m ≡ machine_with (excepted e (clocked m.cpu)) board → has_entered m (step m) ≡ true }
 {}

@@ -2,19 +2,18 @@
 ghost use Rattle.std.specs.Prelude.{◌≡◌};
 ghost use Rattle.mips_cp0.specs.Interrupts.{is_taken};
 ghost use Rattle.mips_alu.specs.Comparing.{compare_result};
-ghost use Rattle.mips_step.specs.Meaning.{branch_condition, zero_condition, links};
+ghost use Rattle.machine.specs.Meaning.{branch_condition, zero_condition, links};
 ghost use Rattle.devices.specs.Lines.{device_lines};
-ghost use Rattle.mips_step.specs.Operations.{instruction_of};
+ghost use Rattle.machine.specs.Operations.{instruction_of};
 ghost use Rattle.runs.specs.Loops as spec;
 
 use crate::Runnable;
 use crate::words::fetched_word;
 use bitflags::Flags;
-use flatvm::View;
 use mips_alu::{Comparison, compare};
 use mips_cp0::{Cause, Status};
 use mips_isa::{BranchOp, BranchZeroOp, Instr, JumpOp, branch_target_of, decode, jump_target_of};
-use mips_step::Cpu;
+use mips_step::{Cpu, View};
 
 /// Whether PC stands in no delay slot, at a branch or jump to itself that writes no register, before a NOP, while no interrupt comes.
 pub fn is_loop<M: Runnable>(machine: &M) -> bool

@@ -37,7 +37,7 @@ pub fn run<M: Runnable, W: Watch>(
     until: &Until,
     watch: &mut W,
 ) -> Ran
-    requires { length (M.state machine.old).world.devices.console.input + length input.now ≤ 256 }
+    requires { length (M.state machine.old).board.devices.console.input + length input.now ≤ 256 }
     ensures count { IsCount input.now steps result }
     ensures state { M.state machine.new ≡ after_run result input.now (M.state machine.old) }
     ensures first { IsFirst until.now (fed (take result.taken input.now) (M.state machine.old)) result }

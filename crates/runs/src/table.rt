@@ -1,22 +1,23 @@
-//! The table machine as one that runs.
+//! The reference machine as one that runs.
 ghost use Rattle.std.specs.Prelude.{◌≡◌, ◌≤◌, ◌^◌, ◌<◌, None, Some, length, IfOk, OnOk, OnErr};
 ghost use Rattle.elf32.specs.Images.{FitsPages};
 ghost use Rattle.items.specs.declared.item.What.TheVariants.{In};
-ghost use Rattle.mips_step.specs.Step.{step};
-ghost use Rattle.flatvm.specs.Boot.{boot_machine};
-ghost use Rattle.flatvm.specs.Items.{after};
+ghost use Rattle.machine.specs.Step.{step};
+ghost use Rattle.machine.specs.Boot.{boot_machine};
+ghost use Rattle.machine.specs.Items.{after};
 ghost use Rattle.runs.specs.Runs.{after_steps};
 
 use crate::{NoPlace, Runnable};
 use elf32::Image;
-use flatvm::{FlatBus, Rejection, Unreached, View, debug};
+use flatvm::FlatBus;
 use guest_log::Stop;
 use items::What;
-use mips_step::{Cpu, StepOut};
+use machine::{Rejection, StepOut};
+use mips_step::{Cpu, Unreached, View, debug};
 use std::alloc::{AllocError, Global};
 use std::marker::Model;
 
-/// The table machine, whose memory can be read: a processor over one plain memory with its devices. In clauses it is a `Machine`.
+/// The reference machine, whose memory can be read: a processor over one plain memory with its devices. In clauses it is a `Machine`.
 #[derive(Drop)]
 pub struct Table {
     cpu: Cpu,
@@ -24,11 +25,11 @@ pub struct Table {
 }
 
 impl Model for Table {
-    ghost use Rattle.mips_step.specs.Step.{Machine, in_world};
+    ghost use Rattle.machine.specs.Step.{Machine, machine_with};
 
     ghost Value = { Machine };
 
-    ghost view = { λ t. in_world t.cpu t.bus };
+    ghost view = { λ t. machine_with t.cpu t.bus };
 }
 
 impl Table {
@@ -58,7 +59,7 @@ impl Table {
     }
 }
 
-/// The table machine never stops.
+/// The reference machine never stops.
 impl Runnable for Table {
     ghost state = { λ t. t };
 

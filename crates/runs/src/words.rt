@@ -3,7 +3,7 @@ ghost use Rattle.std.specs.Prelude.{◌≡◌, ◌%◌};
 ghost use Rattle.runs.specs.Loops as spec;
 
 use crate::{NoPlace, Runnable};
-use mips_step::Kind;
+use machine::Kind;
 use word32::{page_of, word_at};
 
 /// The word that a fetch at a virtual address would give, where it would raise no exception and touch no page that is given to the balloon.

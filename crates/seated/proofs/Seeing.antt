@@ -4,8 +4,8 @@ use mathlib.Core.List.{IsPrefix}
 use Rattle.items.specs.declared.item.Item.{Item}
 use Rattle.items.specs.Entries.{steps_of}
 use Rattle.items.proofs.Runs.{steps_of-none}
-use Rattle.loghead.specs.Heads.{SeatIs}
-use Rattle.loghead.specs.Legal.{Legal}
+use Rattle.log_seats.specs.Heads.{SeatIs}
+use Rattle.log_seats.specs.Legal.{Legal}
 use Rattle.guest.specs.Guests.{GuestIs, LogsSteps, Logs}
 use Rattle.seated.specs.Acts.{Acts, Sees}
 

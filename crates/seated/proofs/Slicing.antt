@@ -4,7 +4,7 @@ use mathlib.Core.List.{IsPrefix}
 use Rattle.items.specs.declared.item.Item.{Item}
 use Rattle.items.specs.Entries.{steps_of}
 use Rattle.items.proofs.Runs.{steps_of-none, steps_of-join}
-use Rattle.loghead.specs.Heads.{SeatIs}
+use Rattle.log_seats.specs.Heads.{SeatIs}
 use Rattle.seated.specs.Acts.{Acts, Sees, Slice}
 
 prefix_on : (xs ys more zs : List Item) → IsPrefix xs ys → zs ≡ ys ++ more → IsPrefix xs zs

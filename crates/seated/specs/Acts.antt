@@ -3,9 +3,9 @@ use Rattle.std.specs.Prelude.{◌≡◌, ℕ, List, ◌++◌}
 use mathlib.Core.List.{IsPrefix}
 use Rattle.items.specs.declared.item.Item.{Item}
 use Rattle.items.specs.Entries.{steps_of}
-use Rattle.loghead.specs.Heads.{HeadId, SeatIs}
-use Rattle.loghead.specs.Legal.{Legal}
-use Rattle.mips_step.specs.Step.{Machine}
+use Rattle.log_seats.specs.Heads.{HeadId, SeatIs}
+use Rattle.log_seats.specs.Legal.{Legal}
+use Rattle.machine.specs.Step.{Machine}
 use Rattle.guest.specs.Guests.{GuestIs, Intact}
 
 -- The call found this log, for which the seat was legal, and added these items, which are the seat's own. The seat has seen the log as it

@@ -3,31 +3,31 @@ ghost use Rattle.std.specs.Prelude.{◌≡◌, ◌≢◌, ◌<◌, ◌≤◌, �
 ghost use Rattle.items.specs.Items.{is_step};
 ghost use Rattle.items.specs.Entries.{steps_of};
 ghost use Rattle.mips_tlb.specs.declared.kind.Kind.TheVariants.{Store};
-ghost use Rattle.mips_step.specs.Accesses.{accesses, first_lack};
-ghost use Rattle.mips_step.specs.Given.{step_given};
-ghost use Rattle.mips_step.specs.declared.access.Why.{Why};
-ghost use Rattle.flatvm.specs.Answers.{replied};
-ghost use Rattle.flatvm.specs.Items.{accepts, after, reply, run};
-ghost use Rattle.flatvm.specs.Replies.{bytes_at, SomePlaceIn};
+ghost use Rattle.machine.specs.Accesses.{accesses, first_lack};
+ghost use Rattle.machine.specs.Given.{step_given};
+ghost use Rattle.machine.specs.declared.access.Why.{Why};
+ghost use Rattle.machine.specs.Answers.{replied};
+ghost use Rattle.machine.specs.Items.{accepts, after, reply, run};
+ghost use Rattle.machine.specs.Replies.{bytes_at, SomePlaceIn};
 ghost use Rattle.items.specs.declared.item.What.TheVariants.{In};
 ghost use Rattle.devices.specs.Devices.{device_input_fed};
 ghost use Rattle.guest_log.specs.Logs.{HasItemRoom, IsFull};
 ghost use Rattle.guest_log.specs.declared.stop.Stop.{Stop};
-ghost use Rattle.physmap.specs.declared.page.Returned.{Returned};
-ghost use Rattle.physmap.specs.declared.page.PageKind.{PageKind};
-ghost use Rattle.physmap.specs.Pages.{kind_at};
-ghost use Rattle.physmap.specs.Outline.{outline};
-ghost use Rattle.paging.specs.Faith.{Kept};
-ghost use Rattle.paged_bus.specs.Lacking.{lacks_in};
-ghost use Rattle.paged_bus.specs.Writes.{WritesTo};
+ghost use Rattle.guest_pages.specs.declared.page.Returned.{Returned};
+ghost use Rattle.guest_pages.specs.declared.page.PageKind.{PageKind};
+ghost use Rattle.guest_pages.specs.Pages.{kind_at};
+ghost use Rattle.guest_pages.specs.Outline.{outline};
+ghost use Rattle.page_moves.specs.Faith.{Kept};
+ghost use Rattle.guest_bus.specs.Lacking.{lacks_in};
+ghost use Rattle.guest_bus.specs.Writes.{WritesTo};
 ghost use Rattle.guest.specs.declared.progress.Pause.{Pause};
 ghost use Rattle.guest.specs.Guests.{view_of, standing, Intact, HasPaused, last_given};
 ghost use Rattle.guest.specs.Views.{pages_seen};
 ghost use Rattle.seated.specs.Acts.{Acts, Sees, Stays};
 
-use flatvm::Reply;
 use guest::{Guest, Progress, Refused, Seat, Stop};
 use items::Item;
+use machine::Reply;
 
 /// At most `count` steps of the guest, with room made for them in the log, by `Guest::log_room` and `Guest::run`: none of them
 /// accesses a page that is lacking, and only the last may give one.

@@ -2,7 +2,7 @@
 ghost use Rattle.std.specs.Prelude.{ℕ, ◌+◌, List};
 ghost use Rattle.items.specs.declared.item.Item.{Item};
 ghost use Rattle.items.specs.Entries.{steps_of};
-ghost use Rattle.loghead.specs.Heads.{SeatIs};
+ghost use Rattle.log_seats.specs.Heads.{SeatIs};
 ghost use Rattle.seated.specs.Acts.{Acts, Sees, Slice};
 
 /// A law: where nothing is added a slice of no step was made, steps that are added at once are a slice, and one slice after another is a slice

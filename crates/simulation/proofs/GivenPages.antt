@@ -2,11 +2,11 @@
 use Rattle.std.proofs.Common.{◌≡◌, ◌∙◌, ◌+◌, ◌<◌, ◌≤◌, ℕ, List, [], ◌∷◌, ap, arith, length, sum_by, sym, take}
 use Rattle.std.proofs.lemmas.List.{take_more}
 use Rattle.std.proofs.lemmas.List.Sums.{sum_by-cons, sum_by_push}
-use Rattle.physmap.specs.Holdings.{one_private, one_shared, one_swapped, private_pages, shared_pages, swapped_pages}
-use Rattle.physmap.specs.Pages.{kind_at, kind_of, page_at}
-use Rattle.physmap.specs.declared.page.Page.{Page}
-use Rattle.physmap.specs.declared.page.Page.TheVariants.{Zero}
-use Rattle.physmap.specs.declared.page.Page.TheVariants as page
+use Rattle.guest_pages.specs.Holdings.{one_private, one_shared, one_swapped, private_pages, shared_pages, swapped_pages}
+use Rattle.guest_pages.specs.Pages.{kind_at, kind_of, page_at}
+use Rattle.guest_pages.specs.declared.page.Page.{Page}
+use Rattle.guest_pages.specs.declared.page.Page.TheVariants.{Zero}
+use Rattle.guest_pages.specs.declared.page.Page.TheVariants as page
 use Rattle.simulation.specs.Pages.{given_pages, one_given}
 
 pub given_more : (pages : List Page) (p given more : ℕ) → p < length pages → given ≡ given_pages (take p pages) → more ≡ one_given (kind_at pages p)

@@ -5,12 +5,12 @@ use Rattle.std.specs.declared.alloc.Global.{Global}
 use Rattle.std.specs.declared.string.String.{String}
 use Rattle.std.specs.declared.vec.Vec.{Vec}
 use Rattle.world.specs.All.{EvictError, Level, Refused, Reply, Why, for_room, stop_of}
-use Rattle.mips_step.specs.declared.access.Why.TheVariants.{First, Swapped, Copy}
-use Rattle.paging.specs.declared.scan.Scan.{Scan}
-use Rattle.paging.specs.declared.scan.Scan.TheVariants as scan
+use Rattle.machine.specs.declared.access.Why.TheVariants.{First, Swapped, Copy}
+use Rattle.page_moves.specs.declared.scan.Scan.{Scan}
+use Rattle.page_moves.specs.declared.scan.Scan.TheVariants as scan
 use Rattle.reclaim.specs.Levels.{level_name}
 use Rattle.guest_log.specs.declared.stop.Stop.{Stop}
-use Rattle.flatvm.specs.declared.reply.Reply.TheVariants as reply
+use Rattle.machine.specs.declared.reply.Reply.TheVariants as reply
 use Rattle.guest.specs.declared.refused.Refused.TheVariants as refusal
 use Rattle.world.specs.declared.events.Answer.{Answer}
 use Rattle.world.specs.declared.events.Answer.TheVariants as answer

@@ -1,9 +1,9 @@
 -- How many pages of a guest are given.
 use Rattle.std.specs.Prelude.{ℕ, List, sum_by}
-use Rattle.physmap.specs.Pages.{kind_of}
-use Rattle.physmap.specs.declared.page.Page.{Page}
-use Rattle.physmap.specs.declared.page.PageKind.{PageKind}
-use Rattle.physmap.specs.declared.page.PageKind.TheVariants.{Given}
+use Rattle.guest_pages.specs.Pages.{kind_of}
+use Rattle.guest_pages.specs.declared.page.Page.{Page}
+use Rattle.guest_pages.specs.declared.page.PageKind.{PageKind}
+use Rattle.guest_pages.specs.declared.page.PageKind.TheVariants.{Given}
 
 -- 1 for a page that is given to the balloon, 0 for each other
 abbrev pub one_given : PageKind → ℕ

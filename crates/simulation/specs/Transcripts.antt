@@ -7,7 +7,7 @@ use Rattle.world.specs.All.{AllStay, AreBooted, AreHeldByDigest, GuestPage, Happ
 use Rattle.rand_core.specs.Steps.{stream_of, steps_u32}
 use Rattle.rand_core.specs.Pcg32Seed.{pcg32_seed}
 use Rattle.rand_pcg.specs.Pcg.{pcg32, pcg32_of_seed}
-use Rattle.flatvm.specs.Boot.{boot_machine}
+use Rattle.machine.specs.Boot.{boot_machine}
 use Rattle.swapstore.specs.Memories.{Inverts}
 use Rattle.reclaim.specs.declared.level.Level.TheVariants.{High}
 use Rattle.dump.specs.Dumps.{dump_text}
@@ -31,7 +31,7 @@ use Rattle.simulation.specs.declared.transcript.SimError.TheVariants.{Boot, Memo
 use Rattle.simulation.specs.Acts.{IsHarmless, act_of}
 use Rattle.simulation.specs.Lines.{NumberedEvent, lines_of}
 use Rattle.simulation.specs.Pages.{given_pages}
-use Rattle.physmap.specs.declared.page.Page.{Page}
+use Rattle.guest_pages.specs.declared.page.Page.{Page}
 
 -- ---- one act
 

@@ -3,7 +3,7 @@ ghost use Rattle.std.specs.Prelude.{◌≡◌, ◌+◌, ◌<◌, ◌≤◌, leng
 ghost use Rattle.world.specs.All.{TenantIs, kind_at, pages_at, private_pages, shared_pages, swapped_pages};
 ghost use Rattle.simulation.specs.Pages.{given_pages, one_given};
 
-use physmap::PageKind;
+use guest_pages::PageKind;
 use swapstore::SwapStore;
 use word32::Ppn;
 use world::World;

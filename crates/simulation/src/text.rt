@@ -1,14 +1,13 @@
 //! The lines of what is answered to events.
 ghost use Rattle.std.specs.Prelude.{◌≡◌, ◌++◌, OnOk, codes, decimal, string_bytes};
-ghost use Rattle.paging.specs.declared.scan.Scan.{Scan};
+ghost use Rattle.page_moves.specs.declared.scan.Scan.{Scan};
 ghost use Rattle.simulation.specs.Lines as spec;
 
 use crate::{Act, PageCounts, Said};
 use dump::{push_digits, push_output_digits};
-use flatvm::Reply;
 use guest::{Refused, Stop};
-use mips_step::Why;
-use paging::Scan;
+use machine::{Reply, Why};
+use page_moves::Scan;
 use reclaim::Level;
 use sharetab::GuestPage;
 use std::alloc::AllocError;

@@ -16,22 +16,22 @@ use Rattle.elf32.specs.declared.image.Image.{Image}
 use Rattle.elf32.specs.Images.{IsWithin, FitsPages}
 use Rattle.items.specs.declared.item.Item.{Item}
 use Rattle.devices.specs.Devices.{fresh_devices}
-use Rattle.mips_step.specs.Step.{Machine}
-use Rattle.flatvm.specs.Items.{run}
-use Rattle.paged_bus.specs.Buses.{PagedBusIs}
-use Rattle.mips_step.proofs.Clearing.{length-zeros}
-use Rattle.flatvm.specs.Boot.{placed, boot_memory, boot_machine}
-use Rattle.physmap.specs.declared.page.Page.{Page}
-use Rattle.physmap.specs.declared.page.Page.TheVariants as page
-use Rattle.physmap.specs.declared.page.PageKind.TheVariants as kind
-use Rattle.physmap.specs.Pages.{kind_of, kind_at, page_at, shown, own_frame, slot_of}
-use Rattle.physmap.specs.Holdings.{frame_in, ticket_in, slot_in, slots_held, one_private, one_swapped}
-use Rattle.paging.specs.Moves.{Conserves, Reads}
+use Rattle.machine.specs.Step.{Machine}
+use Rattle.machine.specs.Items.{run}
+use Rattle.guest_bus.specs.Buses.{GuestBusIs}
+use Rattle.machine.proofs.Clearing.{length-zeros}
+use Rattle.machine.specs.Boot.{placed, boot_memory, boot_machine}
+use Rattle.guest_pages.specs.declared.page.Page.{Page}
+use Rattle.guest_pages.specs.declared.page.Page.TheVariants as page
+use Rattle.guest_pages.specs.declared.page.PageKind.TheVariants as kind
+use Rattle.guest_pages.specs.Pages.{kind_of, kind_at, page_at, shown, own_frame, slot_of}
+use Rattle.guest_pages.specs.Holdings.{frame_in, ticket_in, slot_in, slots_held, one_private, one_swapped}
+use Rattle.page_moves.specs.Moves.{Conserves, Reads}
 use Rattle.swapstore.specs.Holding.{AreHeld}
-use Rattle.paging.specs.Faith.{IsFaithful, Faithful, IsHeld, Kept}
-use Rattle.paging.specs.Supplies.{Supplies}
-use Rattle.paging.proofs.Booking.{below_one}
-use Rattle.paging.proofs.Exchanging.{frames_by_page, slots_by_page, tickets_by_page, same_bytes, new_at, other_at, same_length, reads_stay}
+use Rattle.page_moves.specs.Faith.{IsFaithful, Faithful, IsHeld, Kept}
+use Rattle.page_moves.specs.Supplies.{Supplies}
+use Rattle.page_moves.proofs.Booking.{below_one}
+use Rattle.page_moves.proofs.Exchanging.{frames_by_page, slots_by_page, tickets_by_page, same_bytes, new_at, other_at, same_length, reads_stay}
 use Rattle.guest.specs.Guests.{GuestIs, view_of, without_pages, Intact}
 use Rattle.guest.specs.Loading.{segment_reaches, Reaches, IsBeside}
 use Rattle.guest.specs.Views.{pages_seen}
@@ -303,13 +303,13 @@ boot_length : (image : Image) (count : ℕ) → FitsPages image count → length
 boot_length image count fits = fold_size image.segments.items (zeros (count * 4096)) (count * 4096) (length-zeros (count * 4096)) (λ k d h. fits k d h)
 
 pub booted_run : (held : ℕ → Option (List ℕ)) (image : Image) (count : ℕ) (g : GuestIs) → FitsPages image count → length g.bus.pages ≡ count
-    → g.boot ≡ boot_machine image count → g.log.items ≡ [] → g.cpu ≡ g.boot.cpu → g.bus.devices ≡ g.boot.world.devices
+    → g.boot ≡ boot_machine image count → g.log.items ≡ [] → g.cpu ≡ g.boot.cpu → g.bus.devices ≡ g.boot.board.devices
     → AreLoaded held image count count g.bus.pages → Intact g × Kept held (pages_seen (view_of g)) g.bus.pages
 booted_run held image count g fits size boot none cpu devices loaded =
     let view : view_of g ≡ boot_machine image count = ap (λ (items : List Item). run items g.boot) none ∙ boot in
     let faithful : Faithful (boot_page image count) g.bus.pages = λ p inside. loaded.faithful p (omega (arith, inside, size)) inside in (
       booted_intact g none cpu devices
-          (ap (λ (m : Machine). length m.world.memory) boot ∙ boot_length image count fits ∙ sym (ap (λ (n : ℕ). n * 4096) size))
+          (ap (λ (m : Machine). length m.board.memory) boot ∙ boot_length image count fits ∙ sym (ap (λ (n : ℕ). n * 4096) size))
           (subst (λ (m : Machine). Faithful (pages_seen m) g.bus.pages) (sym boot) faithful),
       subst (λ (m : Machine). Kept held (pages_seen m) g.bus.pages) (sym view) (record {
         faithful = faithful;
@@ -322,9 +322,9 @@ pub loaded_run : (held : ℕ → Option (List ℕ)) (image its_image loaded_imag
     → without_pages g' ≡ without_pages g → length g'.bus.pages ≡ length g.bus.pages
     → AreLoaded held loaded_image (length g.bus.pages) (length g.bus.pages) g'.bus.pages → Intact g' × Kept held (pages_seen (view_of g')) g'.bus.pages
 loaded_run held image its_image loaded_image count g g' fits its same cpu bus boot none beside size loaded =
-    let counted : length g.bus.pages ≡ count = ap (λ (b : PagedBusIs). length b.pages) bus ∙ length-replicate count page.Zero in
+    let counted : length g.bus.pages ≡ count = ap (λ (b : GuestBusIs). length b.pages) bus ∙ length-replicate count page.Zero in
     let boots : g'.boot ≡ boot_machine image count = ap (λ (h : GuestIs). h.boot) beside ∙ boot ∙ ap (λ (i : Image). boot_machine i count) its in
     booted_run held image count g' fits (size ∙ counted) boots (ap (λ (h : GuestIs). h.log.items) beside ∙ none)
     (ap (λ (h : GuestIs). h.cpu) beside ∙ cpu ∙ sym (ap (λ (h : GuestIs). h.boot.cpu) beside))
-    (ap (λ (h : GuestIs). h.bus.devices) beside ∙ ap (λ (b : PagedBusIs). b.devices) bus ∙ sym (ap (λ (m : Machine). m.world.devices) boots))
+    (ap (λ (h : GuestIs). h.bus.devices) beside ∙ ap (λ (b : GuestBusIs). b.devices) bus ∙ sym (ap (λ (m : Machine). m.board.devices) boots))
     (subst (λ (i : Image). AreLoaded held i count count g'.bus.pages) same (subst (λ (n : ℕ). AreLoaded held loaded_image n n g'.bus.pages) counted loaded))

@@ -4,20 +4,20 @@ use Rattle.std.proofs.lemmas.Bool.{cases_lt}
 use Rattle.std.proofs.lemmas.List.{set_past, get_or_past, map-set}
 use Rattle.frames.specs.FreeList.{FreeList}
 use Rattle.sharetab.specs.Entries.{EntriesAre, HasBytes, entry_at}
-use Rattle.physmap.specs.declared.page.Page.{Page}
-use Rattle.physmap.specs.declared.page.Page.TheVariants as page
-use Rattle.physmap.specs.declared.page.PageKind.TheVariants.{Shared}
-use Rattle.physmap.specs.declared.page.Returned.{Returned}
-use Rattle.physmap.specs.declared.page.Returned.TheVariants as returned
-use Rattle.physmap.specs.Pages.{kind_of, page_at, shown, ticket_of, handed_back}
-use Rattle.physmap.specs.Outline.{outlined, outline}
-use Rattle.physmap.specs.Holdings.{frames_held, slots_held, tickets_held, private_pages, swapped_pages}
-use Rattle.physmap.proofs.Outlines.{outline_at, outline_length, outline_frames, outline_slots, outline_tickets, outline_private, outline_swapped}
-use Rattle.paging.specs.Moves.{Conserves, Reads, Covered}
-use Rattle.paging.specs.Returns.{IsOut, GoesBack}
-use Rattle.paging.proofs.Exchanging.{reads_by_page, same_bytes, ticket_held}
-use Rattle.paging.proofs.GoingBack.{given_conserves}
-use Rattle.paged_bus.specs.Buses.{pages_settled, page_returned}
+use Rattle.guest_pages.specs.declared.page.Page.{Page}
+use Rattle.guest_pages.specs.declared.page.Page.TheVariants as page
+use Rattle.guest_pages.specs.declared.page.PageKind.TheVariants.{Shared}
+use Rattle.guest_pages.specs.declared.page.Returned.{Returned}
+use Rattle.guest_pages.specs.declared.page.Returned.TheVariants as returned
+use Rattle.guest_pages.specs.Pages.{kind_of, page_at, shown, ticket_of, handed_back}
+use Rattle.guest_pages.specs.Outline.{outlined, outline}
+use Rattle.guest_pages.specs.Holdings.{frames_held, slots_held, tickets_held, private_pages, swapped_pages}
+use Rattle.guest_pages.proofs.Outlines.{outline_at, outline_length, outline_frames, outline_slots, outline_tickets, outline_private, outline_swapped}
+use Rattle.page_moves.specs.Moves.{Conserves, Reads, Covered}
+use Rattle.page_moves.specs.Returns.{IsOut, GoesBack}
+use Rattle.page_moves.proofs.Exchanging.{reads_by_page, same_bytes, ticket_held}
+use Rattle.page_moves.proofs.GoingBack.{given_conserves}
+use Rattle.guest_bus.specs.Buses.{pages_settled, page_returned}
 use Rattle.guest.specs.declared.progress.Pause.{Pause}
 use Rattle.guest.specs.declared.progress.Pause.TheVariants as pause
 use Rattle.guest.specs.Guests.{Gives, HasPaused}

@@ -5,14 +5,14 @@ use Rattle.frames.specs.Counts.{count_of}
 use Rattle.frames.specs.FreeList.{FreeList}
 use Rattle.frames.proofs.Counting.{one_same}
 use Rattle.items.specs.declared.item.Item.{Item}
-use Rattle.mips_step.specs.Processor.{Processor}
-use Rattle.mips_step.specs.Step.{Machine}
-use Rattle.physmap.specs.declared.page.Page.{Page}
-use Rattle.physmap.specs.declared.page.Page.TheVariants as page
-use Rattle.physmap.specs.Pages.{page_at}
-use Rattle.physmap.specs.Holdings.{slot_in, slots_held}
-use Rattle.paging.specs.Faith.{IsHeld, Kept}
-use Rattle.paged_bus.specs.Buses.{PagedBusIs}
+use Rattle.machine.specs.Processor.{Processor}
+use Rattle.machine.specs.Step.{Machine}
+use Rattle.guest_pages.specs.declared.page.Page.{Page}
+use Rattle.guest_pages.specs.declared.page.Page.TheVariants as page
+use Rattle.guest_pages.specs.Pages.{page_at}
+use Rattle.guest_pages.specs.Holdings.{slot_in, slots_held}
+use Rattle.page_moves.specs.Faith.{IsHeld, Kept}
+use Rattle.guest_bus.specs.Buses.{GuestBusIs}
 use Rattle.guest.specs.Guests.{GuestIs, view_of, without_pages, LogsOnly}
 use Rattle.guest.specs.Views.{pages_seen}
 use Rattle.guest.proofs.Keeping.{same_view, still_intact, was_so, roomy_intact, roomy_kept}
@@ -39,7 +39,7 @@ still_kept held t t' only items k = record {
 }
 
 -- what is so of such a guest and of its seat 0 was so before
-pub seat_was_so : (So : ℕ → Processor → PagedBusIs → Machine → List Item → Type 0) (g g' : GuestIs) (seat : ℕ) → LogsOnly g g' → g'.log.items ≡ g.log.items → seat ≡ 0
+pub seat_was_so : (So : ℕ → Processor → GuestBusIs → Machine → List Item → Type 0) (g g' : GuestIs) (seat : ℕ) → LogsOnly g g' → g'.log.items ≡ g.log.items → seat ≡ 0
     → So seat g'.cpu g'.bus g'.boot g'.log.items → So 0 g.cpu g.bus g.boot g.log.items
 seat_was_so So g g' seat only items first so =
     was_so g g' only items (So 0) (subst (λ (n : ℕ). So n g'.cpu g'.bus g'.boot g'.log.items) first so)

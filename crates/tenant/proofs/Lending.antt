@@ -2,9 +2,9 @@
 use Rattle.std.proofs.Common.{ℕ, ◌<◌, List, length}
 use Rattle.frames.specs.FreeList.{FreeList}
 use Rattle.sharetab.specs.Entries.{EntriesAre}
-use Rattle.physmap.specs.declared.page.Page.{Page}
-use Rattle.paging.specs.Books.{Books, pages_of}
-use Rattle.paging.proofs.Booking.{covered, own_once, handed_back_out, came_free_out, swapped_out, slot_inside, slot_apart, free_slot_inside}
+use Rattle.guest_pages.specs.declared.page.Page.{Page}
+use Rattle.page_moves.specs.Books.{Books, pages_of}
+use Rattle.page_moves.proofs.Booking.{covered, own_once, handed_back_out, came_free_out, swapped_out, slot_inside, slot_apart, free_slot_inside}
 use Rattle.tenant.specs.Lent.{Lent}
 
 pub lent : (frames slots : ℕ) (all : List (List Page)) (es : EntriesAre) (pool book : FreeList) (i : ℕ)

@@ -4,17 +4,17 @@ use Rattle.std.specs.Option.{IsSome, option_to_list}
 use Rattle.frames.specs.Counts.{one_at, count_of}
 use Rattle.frames.specs.FreeList.{FreeList}
 use Rattle.sharetab.specs.Entries.{EntriesAre}
-use Rattle.physmap.specs.declared.page.Page.{Page}
-use Rattle.physmap.specs.declared.page.PageKind.TheVariants.{Swapped}
-use Rattle.physmap.specs.Pages.{page_at, kind_at, slot_of, digest_of}
+use Rattle.guest_pages.specs.declared.page.Page.{Page}
+use Rattle.guest_pages.specs.declared.page.PageKind.TheVariants.{Swapped}
+use Rattle.guest_pages.specs.Pages.{page_at, kind_at, slot_of, digest_of}
 use Rattle.frames.proofs.Counting.{one_same}
-use Rattle.paging.specs.Moves.{Takes, MovesFrames, MovesSlots, MovesTickets, Conserves}
-use Rattle.paging.specs.declared.supply.SupplyError.{SupplyError}
-use Rattle.paging.specs.declared.supply.SupplyError.TheVariants.{SwapDamaged}
-use Rattle.paging.specs.Faith.{Kept}
-use Rattle.paging.specs.Supplies.{WhyAway, IsDamaged}
-use Rattle.paging.proofs.Booking.{frame_given, slot_taken}
-use Rattle.paging.proofs.Keeping.{kept_is_sound}
+use Rattle.page_moves.specs.Moves.{Takes, MovesFrames, MovesSlots, MovesTickets, Conserves}
+use Rattle.page_moves.specs.declared.supply.SupplyError.{SupplyError}
+use Rattle.page_moves.specs.declared.supply.SupplyError.TheVariants.{SwapDamaged}
+use Rattle.page_moves.specs.Faith.{Kept}
+use Rattle.page_moves.specs.Supplies.{WhyAway, IsDamaged}
+use Rattle.page_moves.proofs.Booking.{frame_given, slot_taken}
+use Rattle.page_moves.proofs.Keeping.{kept_is_sound}
 
 pub frames_back : (pages pages' : List Page) (before pool pool' : FreeList) (es es' : EntriesAre) (number : ℕ)
     → ((k : ℕ) → count_of k pool'.free ≡ count_of k pool.free + one_at k number) → pool'.out + 1 ≡ pool.out

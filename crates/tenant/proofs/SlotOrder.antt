@@ -5,15 +5,15 @@ use Rattle.frames.specs.Counts.{one_at, count_of, below}
 use Rattle.frames.specs.FreeList.{FreeList}
 use Rattle.frames.proofs.Counting.{count_cons, one_same, one_other}
 use Rattle.elf32.specs.declared.image.Image.{Image}
-use Rattle.physmap.specs.declared.page.Page.{Page}
-use Rattle.physmap.specs.declared.page.Page.TheVariants as page
-use Rattle.physmap.specs.declared.page.PageKind.TheVariants as kind
-use Rattle.physmap.specs.Pages.{kind_of, kind_at, page_at, own_frame, slot_of}
-use Rattle.physmap.specs.Holdings.{slot_in, slots_held}
-use Rattle.paging.specs.Moves.{MovesSlots}
-use Rattle.paging.specs.Supplies.{Supplies}
-use Rattle.paging.proofs.Booking.{below_one}
-use Rattle.paging.proofs.Exchanging.{new_at, exchanged, holds_nothing}
+use Rattle.guest_pages.specs.declared.page.Page.{Page}
+use Rattle.guest_pages.specs.declared.page.Page.TheVariants as page
+use Rattle.guest_pages.specs.declared.page.PageKind.TheVariants as kind
+use Rattle.guest_pages.specs.Pages.{kind_of, kind_at, page_at, own_frame, slot_of}
+use Rattle.guest_pages.specs.Holdings.{slot_in, slots_held}
+use Rattle.page_moves.specs.Moves.{MovesSlots}
+use Rattle.page_moves.specs.Supplies.{Supplies}
+use Rattle.page_moves.proofs.Booking.{below_one}
+use Rattle.page_moves.proofs.Exchanging.{new_at, exchanged, holds_nothing}
 use Rattle.tenant.specs.Loading.{AreUntouched, TakesLowest, SlotsRise}
 use Rattle.tenant.proofs.Booting.{same_at}
 

@@ -3,12 +3,12 @@ use Rattle.std.specs.Prelude.{◌≡◌, ℕ, ◌<◌, List, [], ◌∷◌, Opti
 use Rattle.frames.specs.Counts.{count_of}
 use Rattle.frames.specs.FreeList.{FreeList}
 use Rattle.sharetab.specs.Entries.{EntriesAre}
-use Rattle.physmap.specs.declared.page.Page.{Page}
-use Rattle.physmap.specs.declared.page.PageKind.TheVariants.{Swapped}
-use Rattle.physmap.specs.Pages.{page_at, kind_at, slot_of, handed_back}
-use Rattle.physmap.specs.Holdings.{slots_held}
-use Rattle.paging.specs.Moves.{MovesFrames, Covered, OwnOnce}
-use Rattle.paging.specs.Returns.{IsOut}
+use Rattle.guest_pages.specs.declared.page.Page.{Page}
+use Rattle.guest_pages.specs.declared.page.PageKind.TheVariants.{Swapped}
+use Rattle.guest_pages.specs.Pages.{page_at, kind_at, slot_of, handed_back}
+use Rattle.guest_pages.specs.Holdings.{slots_held}
+use Rattle.page_moves.specs.Moves.{MovesFrames, Covered, OwnOnce}
+use Rattle.page_moves.specs.Returns.{IsOut}
 use Rattle.tenant.specs.declared.moves.EvictError.{EvictError}
 use Rattle.tenant.specs.declared.moves.EvictError.TheVariants.{NoSwap, SwapWrite}
 

@@ -2,15 +2,15 @@
 use Rattle.std.specs.Prelude.{◌≡◌, ℕ, ◌+◌, ◌<◌, ◌≤◌, List, [], Option, length}
 use Rattle.frames.specs.FreeList.{FreeList}
 use Rattle.elf32.specs.declared.image.Image.{Image}
-use Rattle.mips_step.specs.World.{page_bytes}
-use Rattle.flatvm.specs.Boot.{boot_machine, boot_memory}
-use Rattle.physmap.specs.declared.page.Page.{Page}
-use Rattle.physmap.specs.declared.page.Page.TheVariants.{Zero}
-use Rattle.physmap.specs.declared.page.PageKind.TheVariants.{Private, Swapped}
+use Rattle.machine.specs.Board.{page_bytes}
+use Rattle.machine.specs.Boot.{boot_machine, boot_memory}
+use Rattle.guest_pages.specs.declared.page.Page.{Page}
+use Rattle.guest_pages.specs.declared.page.Page.TheVariants.{Zero}
+use Rattle.guest_pages.specs.declared.page.PageKind.TheVariants.{Private, Swapped}
 use Rattle.frames.specs.Counts.{count_of}
-use Rattle.physmap.specs.Pages.{page_at, kind_of, kind_at, slot_of}
-use Rattle.physmap.specs.Holdings.{slot_in}
-use Rattle.paging.specs.Faith.{IsFaithful, IsHeld}
+use Rattle.guest_pages.specs.Pages.{page_at, kind_of, kind_at, slot_of}
+use Rattle.guest_pages.specs.Holdings.{slot_in}
+use Rattle.page_moves.specs.Faith.{IsFaithful, IsHeld}
 use Rattle.guest.specs.Guests.{GuestIs}
 use Rattle.guest.specs.Loading.{IsBeside}
 use Rattle.tenant.specs.declared.loading.BootError.{BootError}

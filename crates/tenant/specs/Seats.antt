@@ -1,6 +1,6 @@
 -- The seats of a guest.
 use Rattle.std.specs.Prelude.{◌≡◌, ℕ, []}
-use Rattle.loghead.specs.Heads.{SeatIs}
+use Rattle.log_seats.specs.Heads.{SeatIs}
 use Rattle.guest.specs.Guests.{GuestIs}
 use Rattle.tenant.specs.declared.seats.Seats.{Seats}
 

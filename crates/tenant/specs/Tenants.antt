@@ -4,17 +4,17 @@ use Rattle.std.proofs.Common.{lit<}
 use Rattle.items.specs.declared.item.Item.{Item}
 use Rattle.items.specs.Entries.{steps_of}
 use Rattle.elf32.specs.declared.image.Image.{Image}
-use Rattle.flatvm.specs.Boot.{boot_machine}
-use Rattle.physmap.specs.declared.page.Page.{Page}
-use Rattle.physmap.specs.declared.page.Page.TheVariants.{Zero}
-use Rattle.physmap.specs.Pages.{page_at}
-use Rattle.physmap.specs.Holdings.{resident_pages}
+use Rattle.machine.specs.Boot.{boot_machine}
+use Rattle.guest_pages.specs.declared.page.Page.{Page}
+use Rattle.guest_pages.specs.declared.page.Page.TheVariants.{Zero}
+use Rattle.guest_pages.specs.Pages.{page_at}
+use Rattle.guest_pages.specs.Holdings.{resident_pages}
 use Rattle.dev_balloon.specs.Balloon.{given_count}
 use Rattle.rand_core.specs.Stream.{Stream}
 use Rattle.taxpolicy.specs.Sample.{drawn}
 use Rattle.taxpolicy.specs.declared.stat.Stat.{Stat}
 use Rattle.sampling.specs.declared.sample.Sample.{Sample}
-use Rattle.paging.specs.Faith.{Kept}
+use Rattle.page_moves.specs.Faith.{Kept}
 use Rattle.guest.specs.Guests.{GuestIs, view_of, Intact, without_pages}
 use Rattle.guest.specs.Loading.{IsBeside}
 use Rattle.guest.specs.Views.{pages_seen}

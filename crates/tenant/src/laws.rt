@@ -2,8 +2,8 @@
 ghost use Rattle.std.specs.Prelude.{ℕ, ◌<◌, List, length};
 ghost use Rattle.frames.specs.FreeList.{FreeList};
 ghost use Rattle.sharetab.specs.Entries.{EntriesAre};
-ghost use Rattle.physmap.specs.declared.page.Page.{Page};
-ghost use Rattle.paging.specs.Books.{Books, pages_of};
+ghost use Rattle.guest_pages.specs.declared.page.Page.{Page};
+ghost use Rattle.page_moves.specs.Books.{Books, pages_of};
 ghost use Rattle.tenant.specs.Lent.{Lent};
 
 /// A law: exact books of several owners say of the pages of each, and of what lies around them, all that a move of these pages asks for.

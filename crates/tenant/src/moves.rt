@@ -7,20 +7,20 @@ ghost use Rattle.frames.specs.FreeList.{FreeList};
 ghost use Rattle.sharetab.specs.Entries.{EntriesAre};
 ghost use Rattle.swapstore.specs.Failures.{one_more};
 ghost use Rattle.swapstore.specs.Holding.{AreHeld};
-ghost use Rattle.physmap.specs.declared.page.Page.{Page};
-ghost use Rattle.physmap.specs.declared.page.PageKind.{PageKind};
-ghost use Rattle.physmap.specs.Pages.{page_at, kind_at, is_resident, shown, slot_of, digest_of};
-ghost use Rattle.paging.specs.Moves.{SameNumbers, MovesFrames, Conserves, Reads, Covered, OwnOnce};
-ghost use Rattle.paging.specs.Faith.{Faithful, Kept};
-ghost use Rattle.paging.specs.Scans.{Answered, Comes, HintsAfter};
-ghost use Rattle.paging.specs.Supplies.{WhyAway, IsDamaged};
+ghost use Rattle.guest_pages.specs.declared.page.Page.{Page};
+ghost use Rattle.guest_pages.specs.declared.page.PageKind.{PageKind};
+ghost use Rattle.guest_pages.specs.Pages.{page_at, kind_at, is_resident, shown, slot_of, digest_of};
+ghost use Rattle.page_moves.specs.Moves.{SameNumbers, MovesFrames, Conserves, Reads, Covered, OwnOnce};
+ghost use Rattle.page_moves.specs.Faith.{Faithful, Kept};
+ghost use Rattle.page_moves.specs.Scans.{Answered, Comes, HintsAfter};
+ghost use Rattle.page_moves.specs.Supplies.{WhyAway, IsDamaged};
 ghost use Rattle.tenant.specs.Lent.{Lent, UsedStay, WhyStays};
 
 use crate::supplying::{supply_copy_from, supply_first_from, supply_swapped_from};
 use framepool::Pool;
 use frames::FrameNo;
-use paging::{Pages, Scan, SupplyError, evict_in, scan_in, store_first};
-use physmap::PageKind;
+use guest_pages::PageKind;
+use page_moves::{Pages, Scan, SupplyError, evict_in, scan_in, store_first};
 use sharetab::{GuestNo, Shares};
 use std::alloc::Global;
 use swapstore::{SlotBook, SwapStore};
@@ -144,7 +144,7 @@ pub fn store_page<P: Pages, S: SwapStore>(
 }
 
 /// A page gets a frame of its own, with its bytes: zeros where it was never touched or was given to the balloon, those of the
-/// frame that it shares, or those of its slot. A page that has one keeps it. The errors are those of `paging`'s supplies; where
+/// frame that it shares, or those of its slot. A page that has one keeps it. The errors are those of `page_moves`'s supplies; where
 /// one comes, no page and no slot has changed, and the same frames are free.
 pub fn supply_page<P: Pages, S: SwapStore>(
     alloc: Global,
@@ -192,7 +192,7 @@ pub fn supply_page<P: Pages, S: SwapStore>(
     }
 }
 
-/// A page is scanned, as `paging`'s `scan_in` has it, and the frame that came free is free again.
+/// A page is scanned, as `page_moves`'s `scan_in` has it, and the frame that came free is free again.
 pub fn scan_page<P: Pages>(
     pages: &mut P,
     guest: GuestNo,

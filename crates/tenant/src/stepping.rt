@@ -1,25 +1,25 @@
 //! A step of a guest, with what lies around its pages.
 ghost use Rattle.std.specs.Prelude.{◌≡◌, ◌≢◌, ◌↔◌, ◌+◌, ◌<◌, ◌≤◌, ℕ, List, length, Option, None, Some, IfOk, OnErr, IsErrOf, IsSome};
 ghost use Rattle.items.specs.Entries.{step_by, steps_of};
-ghost use Rattle.flatvm.specs.Items.{run};
+ghost use Rattle.machine.specs.Items.{run};
 ghost use Rattle.guest_log.specs.Logs.{IsFull};
-ghost use Rattle.mips_step.specs.Accesses.{accesses, first_lack};
-ghost use Rattle.mips_step.specs.Answer.{need_of};
-ghost use Rattle.mips_step.specs.Given.{step_given};
-ghost use Rattle.physmap.specs.Outline.{outline};
-ghost use Rattle.paging.specs.Moves.{Conserves, Reads};
-ghost use Rattle.paged_bus.specs.Lacking.{lacks_in};
-ghost use Rattle.paged_bus.specs.Buses.{pages_settled};
+ghost use Rattle.machine.specs.Accesses.{accesses, first_lack};
+ghost use Rattle.machine.specs.Answer.{need_of};
+ghost use Rattle.machine.specs.Given.{step_given};
+ghost use Rattle.guest_pages.specs.Outline.{outline};
+ghost use Rattle.page_moves.specs.Moves.{Conserves, Reads};
+ghost use Rattle.guest_bus.specs.Lacking.{lacks_in};
+ghost use Rattle.guest_bus.specs.Buses.{pages_settled};
 ghost use Rattle.guest.specs.Guests.{view_of, last_given};
 ghost use Rattle.tenant.specs.Lent.{Lent};
-ghost use Rattle.mips_step.specs.declared.access.Why.{Why};
+ghost use Rattle.machine.specs.declared.access.Why.{Why};
 ghost use Rattle.tenant.specs.Tenants.{pages_in, IsKept, Stays, Adds, AddsSteps, NothingHappens};
 
 use crate::Tenant;
 use framepool::Pool;
 use guest::{Pause, Progress, Stepped, Stop};
-use mips_step::{StepOut, Why};
-use paging::give_back;
+use machine::{StepOut, Why};
+use page_moves::give_back;
 use sharetab::Shares;
 use swapstore::SlotBook;
 use word32::Ppn;

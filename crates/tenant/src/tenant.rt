@@ -2,13 +2,12 @@
 ghost use Rattle.std.specs.Prelude.{◌≡◌};
 
 use crate::{Cause, MoveCounts, PolicyState, Seats};
-use flatvm::Reply;
 use frames::{Frame, SharePage, ShareTicket, SlotTicket};
 use guest::{Guest, Progress, Refused, Stepped, Stop};
+use guest_pages::{PageKind, Returned};
 use items::Item;
-use mips_step::Why;
-use paging::Pages;
-use physmap::{PageKind, Returned};
+use machine::{Reply, Why};
+use page_moves::Pages;
 use rand_core::Rng;
 use sampling::Sample;
 use sharetab::Shares;
@@ -47,18 +46,18 @@ impl Tenant {
     ghost use Rattle.items.specs.Items.{is_step};
     ghost use Rattle.items.specs.Entries.{step_by, steps_of};
     ghost use Rattle.guest_log.specs.Logs.{IsFull};
-    ghost use Rattle.mips_step.specs.Given.{step_given};
-    ghost use Rattle.mips_step.specs.Accesses.{accesses, first_lack};
-    ghost use Rattle.flatvm.specs.Answers.{replied};
-    ghost use Rattle.flatvm.specs.Items.{accepts, reply, run};
+    ghost use Rattle.machine.specs.Given.{step_given};
+    ghost use Rattle.machine.specs.Accesses.{accesses, first_lack};
+    ghost use Rattle.machine.specs.Answers.{replied};
+    ghost use Rattle.machine.specs.Items.{accepts, reply, run};
     ghost use Rattle.mips_tlb.specs.declared.kind.Kind.TheVariants.{Store};
-    ghost use Rattle.physmap.specs.Pages.{kind_at, is_resident, NoneInFrame};
-    ghost use Rattle.physmap.specs.Holdings.{private_pages, shared_pages, swapped_pages, resident_pages};
-    ghost use Rattle.physmap.specs.Outline.{outline};
-    ghost use Rattle.paged_bus.specs.Lacking.{lacks_in};
-    ghost use Rattle.paged_bus.specs.Writes.{WritesTo};
-    ghost use Rattle.mips_step.specs.declared.access.Why.{Why};
-    ghost use Rattle.physmap.specs.declared.page.Returned.{Returned};
+    ghost use Rattle.guest_pages.specs.Pages.{kind_at, is_resident, NoneInFrame};
+    ghost use Rattle.guest_pages.specs.Holdings.{private_pages, shared_pages, swapped_pages, resident_pages};
+    ghost use Rattle.guest_pages.specs.Outline.{outline};
+    ghost use Rattle.guest_bus.specs.Lacking.{lacks_in};
+    ghost use Rattle.guest_bus.specs.Writes.{WritesTo};
+    ghost use Rattle.machine.specs.declared.access.Why.{Why};
+    ghost use Rattle.guest_pages.specs.declared.page.Returned.{Returned};
     ghost use Rattle.guest.specs.Guests.{view_of, standing, need_of, Intact, HandsBack, last_given, HasPaused};
     ghost use Rattle.guest.specs.declared.progress.Pause.{Pause};
     ghost use Rattle.tenant.specs.Tenants.{TenantIs, pages_in, IsKept, Stays, Adds, AddsSteps, NothingHappens};
@@ -168,7 +167,7 @@ impl Tenant {
     }
 
     /// The first of its pages from a number on that is in a frame, its own or a shared one; None where there is none. It costs what
-    /// `PhysMap::next_resident` does.
+    /// `GuestPages::next_resident` does.
     pub fn next_resident(&self, from: u32) -> Option<Ppn>
         ensures within { IfSome result (λ p. (from ≤ p) × (p < length (pages_in self.now))) }
         ensures resident { IfSome result (λ p. is_resident (kind_at (pages_in self.now) p) ≡ true) }

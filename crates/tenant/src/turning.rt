@@ -33,7 +33,7 @@ impl Aim {
 impl Tenant {
     ghost use Rattle.std.specs.Prelude.{◌≡◌, ◌↔◌, ℕ, Option, List, OnOk, OnErr, IsErrOf};
     ghost use Rattle.guest_log.specs.Logs.{IsFull};
-    ghost use Rattle.physmap.specs.Outline.{outline};
+    ghost use Rattle.guest_pages.specs.Outline.{outline};
     ghost use Rattle.tenant.specs.Tenants.{pages_in, IsKept, Stays, Adds, NothingHappens};
     ghost use Rattle.tenant.specs.Turns.{target_by_policy, IsAimed, StaysInTurn};
 

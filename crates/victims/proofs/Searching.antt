@@ -4,10 +4,10 @@ use Rattle.std.proofs.lemmas.Bool.{cases_lt, cases_eq}
 use Rattle.std.proofs.lemmas.List.{get_or-set_other}
 use Rattle.std.proofs.lemmas.List.Sums.{sum_by-cons}
 use Rattle.std.specs.List.{sum_by}
-use Rattle.physmap.specs.declared.page.Page.{Page}
-use Rattle.physmap.specs.declared.page.Page.TheVariants as page
-use Rattle.physmap.specs.Pages.{kind_of, page_at, kind_at, is_resident, NoneInFrame}
-use Rattle.physmap.specs.Holdings.{one_private, one_shared, resident_pages}
+use Rattle.guest_pages.specs.declared.page.Page.{Page}
+use Rattle.guest_pages.specs.declared.page.Page.TheVariants as page
+use Rattle.guest_pages.specs.Pages.{kind_of, page_at, kind_at, is_resident, NoneInFrame}
+use Rattle.guest_pages.specs.Holdings.{one_private, one_shared, resident_pages}
 use Rattle.victims.specs.Victims.{is_one_of, may_leave, NoneResident}
 
 -- ---- resident pages

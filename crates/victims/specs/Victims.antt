@@ -1,7 +1,7 @@
 -- Which page of a guest leaves its frame.
 use Rattle.std.specs.Prelude.{◌≡◌, ℕ, ◌<◌, ◌≤◌, ◌⊎◌, Bool, true, false, ◌==◌, ◌&&◌, ◌||◌, not, if◌then◌else◌, List, Option, Some, None, length}
-use Rattle.physmap.specs.declared.page.Page.{Page}
-use Rattle.physmap.specs.Pages.{kind_at, is_resident}
+use Rattle.guest_pages.specs.declared.page.Page.{Page}
+use Rattle.guest_pages.specs.Pages.{kind_at, is_resident}
 use Rattle.victims.specs.declared.spared.Spared.{Spared}
 
 -- whether a page is one of two

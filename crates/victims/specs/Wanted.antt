@@ -1,7 +1,7 @@
 -- Which pages a debugger's accesses want.
 use Rattle.std.specs.Prelude.{Bool, true, false}
-use Rattle.physmap.specs.declared.page.PageKind.{PageKind}
-use Rattle.physmap.specs.declared.page.PageKind.TheVariants.{Private, Swapped}
+use Rattle.guest_pages.specs.declared.page.PageKind.{PageKind}
+use Rattle.guest_pages.specs.declared.page.PageKind.TheVariants.{Private, Swapped}
 use Rattle.victims.specs.declared.wanted.Access.{Access}
 use Rattle.victims.specs.declared.wanted.Access.TheVariants as access
 

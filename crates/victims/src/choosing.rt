@@ -1,6 +1,6 @@
 //! The page that leaves its frame.
 ghost use Rattle.std.specs.Prelude.{◌≡◌, ◌%◌, ◌<◌, ◌≤◌, true, IfSome, IfNone, length};
-ghost use Rattle.physmap.specs.Holdings.{resident_pages};
+ghost use Rattle.guest_pages.specs.Holdings.{resident_pages};
 ghost use Rattle.victims.specs.Victims.{may_leave, NoneResident, IsNextResident};
 
 use crate::spared::is_one_of;

@@ -1,9 +1,9 @@
 //! Pages that a debugger's accesses want.
 ghost use Rattle.std.specs.Prelude.{◌≡◌};
-ghost use Rattle.physmap.specs.declared.page.PageKind.{PageKind};
+ghost use Rattle.guest_pages.specs.declared.page.PageKind.{PageKind};
 ghost use Rattle.victims.specs.Wanted.{is_wanted};
 
-use physmap::PageKind;
+use guest_pages::PageKind;
 
 /// What a debugger does to bytes.
 #[derive(Clone, Copy, Debug, PartialEq, Eq)]

@@ -4,8 +4,8 @@ use Rattle.std.proofs.lemmas.List.Sums.{sum_by-cons}
 use Rattle.std.proofs.lemmas.List.Elements.{All-head, All-tail}
 use Rattle.frames.specs.Frames.{SharedIs}
 use Rattle.world.specs.All.{Action, Aim, AllFit, Answer, AreTurned, Changes, DebugError, End, EntriesAre, Event, FailsOnce, FaultError, FindsRoom, Fits, FreeList, GuestsStay, IfStop, IfStopped, IsAccessWithRoom, IsAdmitted, IsAnswered, IsEligible, IsEndWithRoom, IsForRoom, IsNoRoom, IsNoRoomIn, IsSoundWorld, IsTurn, LimitsStay, OnlyPagesMove, OnlySamplesChange, Page, PagesMove, RunStop, Sound, Stays, StoreFacts, TenantIs, Turn, WhyLacking, WhyStopped, WhyUnsupplied, WorldIs, actions_in, all_resident, boot_of, entry_at, entry_count, one_entry, one_private, one_shared, one_swapped, pages_in, private_pages, resident_pages, shared_pages, stat_of, swapped_pages, ticket_count, tickets_of}
-use Rattle.physmap.specs.declared.page.Page.TheVariants as page
-use Rattle.paging.proofs.Totals.{frames_add_up, slots_add_up, tickets_add_up}
+use Rattle.guest_pages.specs.declared.page.Page.TheVariants as page
+use Rattle.page_moves.proofs.Totals.{frames_add_up, slots_add_up, tickets_add_up}
 use Rattle.tenant.specs.declared.turning.Aim.TheVariants as aim
 use Rattle.world.specs.declared.events.Answer.TheVariants as answer
 use Rattle.world.specs.declared.events.Event.TheVariants as event

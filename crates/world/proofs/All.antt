@@ -10,7 +10,7 @@ pub use Rattle.world.proofs.Worlds.{all_more, any_default, around_books, around_
 pub use Rattle.world.proofs.Worlds.{step_logs, steps_logs, tenants_of, why_away}
 pub use Rattle.world.specs.All.{Action, Aim, AllHappen, Answer, Answered, AreBooted, AreCutShort, AreFewer, AreHeldByDigest, AreSampled, AreTurned, AreWithinLimits, AroundStays, Changes, Comes, Config, EntriesAre, Event, EvictError, FramesComeFirst, FreeList, GoesByWords, GuestIs}
 pub use Rattle.world.specs.All.{GuestsStay, HasDamage, HoldsImage, In, Intact, IsAccessed, IsAnswered, IsBooted, IsDamagedPage, IsEligible, IsFull, IsKept, IsNeeded, IsNextResident, IsProper, IsSampled, IsSized, IsTurned, IsWithinLimits, Item, Level, LieIn, LimitsStay}
-pub use Rattle.world.specs.All.{LosesPages, Machine, MayLose, NewGuest, NoneNeeds, OnlyBooksChange, OnlyPagesMove, OnlySamplesChange, PagedBusIs, Private, RunStop, SameAround, SameFrom, SharesAre, SlotsComeInOrder, SomePlaceIn, Sound, SparedStay, Stays, StopsBy, StoreFacts, StoreStays, SwapOuts, SwapOutsEnd}
+pub use Rattle.world.specs.All.{LosesPages, Machine, MayLose, NewGuest, NoneNeeds, OnlyBooksChange, OnlyPagesMove, OnlySamplesChange, GuestBusIs, Private, RunStop, SameAround, SameFrom, SharesAre, SlotsComeInOrder, SomePlaceIn, Sound, SparedStay, Stays, StopsBy, StoreFacts, StoreStays, SwapOuts, SwapOutsEnd}
 pub use Rattle.world.specs.All.{TenantIs, Why, WhyAway, WhyHalted, WhyStays, WorldIs, Write, WritesTo, accepts, accesses, actions_of, after_words, all_resident, below, boot_of, bytes_at, count_of, first_lack, guest_in, input_items, inputs_for, is_resident, item_for, kind_at, lacks_in}
 pub use Rattle.world.specs.All.{log_at, may_leave, moment_of, need_of, needed_by, next_level_of, next_u32, one_more, outline, own, page_at, pages_at, pages_in, pages_seen, private_pages, replied, reply, resident_pages, run, shared_pages, spared_of, standing, stat_of, steps_for}
 pub use Rattle.world.specs.All.{steps_of, swapped_pages, ticket_count, victim_of, view_at, view_of, with_seats, without_pages, write_of, written_items}

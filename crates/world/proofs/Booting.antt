@@ -3,7 +3,7 @@ use Rattle.std.proofs.Common.{ℕ, suc, false, ◌≡◌, ◌+◌, ◌-◌, ◌<
 use Rattle.std.proofs.lemmas.Bool.{cases_lt}
 use Rattle.std.proofs.lemmas.List.{drop-drop, get_or-drop, get_or-map, get_or_append_left, length-map}
 use Rattle.std.proofs.lemmas.List.Sums.{sum_by-cons}
-use Rattle.paging.specs.Faith.{Kept}
+use Rattle.page_moves.specs.Faith.{Kept}
 use Rattle.booting.specs.Boots.{AreAtBoot, IsWithinLimits, KeepsPages}
 use Rattle.booting.specs.Boots as booting
 use Rattle.tenant.specs.Loading.{IsAtBoot}

@@ -2,7 +2,7 @@
 use Rattle.std.proofs.Common.{ℕ, ◌≡◌, ◌∙◌, inl, inr, All, List, Option, Result, Ok, Err, IfErr, refl, ap, subst, sym, map}
 use Rattle.std.proofs.lemmas.List.Elements.{All-weaker}
 use Rattle.world.specs.All.{AllStay, AroundStays, Books, End, EntriesAre, FaultError, FindsDamage, FreeList, HasDamage, IfStop, IsKept, IsSoundWorld, Sound, StoreFacts, TenantIs, WhyHalted, WhyUnsupplied, WorldIs, one_more, pages_in, pages_seen, stop_of, view_of}
-use Rattle.paging.proofs.Keeping.{all_kept}
+use Rattle.page_moves.proofs.Keeping.{all_kept}
 use Rattle.world.specs.declared.faulting.FaultError.TheVariants as lacking
 use Rattle.world.specs.declared.running.End.TheVariants as end
 use Rattle.world.specs.declared.running.RunStop.TheVariants as stop

@@ -4,7 +4,7 @@ use Rattle.std.proofs.lemmas.Bool.{cases_eq}
 use Rattle.std.proofs.lemmas.List.{set-get_or}
 use Rattle.world.specs.All.{IsReady, Machine, OnlyPagesAndRoom, OnlyPagesMove, OtherSparedStay, Page, PageKind, Private, TenantIs, Write, accepts, bytes_at, is_one_of, is_wanted, kind_at, kind_of, lack_of, page_at, pages_in, spared_of}
 use Rattle.mips_tlb.specs.declared.kind.Kind.TheVariants.{Store}
-use Rattle.physmap.specs.declared.page.PageKind.TheVariants.{Swapped}
+use Rattle.guest_pages.specs.declared.page.PageKind.TheVariants.{Swapped}
 use Rattle.victims.specs.declared.wanted.Access.{Access}
 use Rattle.victims.specs.declared.wanted.Access.TheVariants as access
 

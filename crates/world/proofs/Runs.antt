@@ -2,8 +2,8 @@
 use Rattle.std.proofs.Common.{ℕ, suc, ◌≡◌, ◌+◌, ◌<◌, if◌then◌else◌, ◌==◌, List, [], ◌∷◌, ◌++◌, length, get_or, map, replicate, refl, sym, ap, subst, ◌∙◌, arith, append_assoc, ◌≢◌, Option, Some, None, Result, Ok, Err, OnErr}
 use Rattle.std.specs.List.{Contains}
 use Rattle.std.proofs.lemmas.List.{append-nil, length-map, replicate-append-replicate, set-get_or}
-use Rattle.world.specs.All.{Changes, End, IsFull, IsSupplied, Item, Machine, NothingHappens, OnlyPagesMove, Page, PageKind, PagedBusIs, Private, Stays, TenantIs, Why, accesses, beside_pages, boot_of, first_lack, kind_at, lack_of, lacks_in, log_at, pages_in, run, step_by, steps_for, view_of}
-use Rattle.mips_step.specs.Accesses.{Access}
+use Rattle.world.specs.All.{Changes, End, IsFull, IsSupplied, Item, Machine, NothingHappens, OnlyPagesMove, Page, PageKind, GuestBusIs, Private, Stays, TenantIs, Why, accesses, beside_pages, boot_of, first_lack, kind_at, lack_of, lacks_in, log_at, pages_in, run, step_by, steps_for, view_of}
+use Rattle.machine.specs.Accesses.{Access}
 use Rattle.mips_tlb.specs.declared.kind.Kind.{Kind}
 use Rattle.world.specs.declared.running.End.TheVariants as end
 use Rattle.world.specs.declared.running.RunStop.TheVariants as stop
@@ -144,7 +144,7 @@ ready_stays g ts ts' d n s r =
     record {
       page = r.page;
       accessed = subst (λ (v : Machine). Contains (map (λ (a : Access). a.page) (accesses v)) r.page) (sym (same_view t t' (n.so d) (s.so d))) r.accessed;
-      private = ap (λ (b : PagedBusIs). kind_at b.pages r.page) (n.so d).bus ∙ r.private;
+      private = ap (λ (b : GuestBusIs). kind_at b.pages r.page) (n.so d).bus ∙ r.private;
     }
 
 pub ready_supplied : (t : TenantIs) (p : ℕ) (why : Why) → first_lack (lacks_in (pages_in t)) (accesses (view_of t.guest)) ≡ Some (p, why) → IsReady t → IsSupplied p t

@@ -6,7 +6,7 @@ use Rattle.std.proofs.lemmas.List.{get_or-set_other, get_or_past, get_or_append_
 use Rattle.std.specs.List.{AllZip}
 use Rattle.std.specs.Result.{result_err}
 use Rattle.world.specs.All.{Action, Aim, AreCutShort, AreFewer, AreSwappedOut, AreTurned, Changes, EvictError, FreeList, IsAimed, IsEvicted, IsTurn, IsTurned, Item, Level, LosesPages, MayLose, OnlyPagesMove, Page, PagesMove, SameFrom, SameNumbers, Stat, TenantIs, Turn, WhyStays, WorldIs, action_of, actions_by, actions_in, actions_of, aim_items, boot_of, items_of, log_at, next_level_of, outline, pages_in, private_pages, resident_pages, shared_pages, stat_of, turn_items}
-use Rattle.physmap.proofs.Outlines.{outline_private, outline_shared}
+use Rattle.guest_pages.proofs.Outlines.{outline_private, outline_shared}
 use Rattle.taxpolicy.specs.Targets.{IsTarget, targets_of}
 use Rattle.reclaim.specs.declared.level.Level.TheVariants as level
 use Rattle.tenant.specs.declared.moves.EvictError.TheVariants.{NoSwap, SwapWrite}

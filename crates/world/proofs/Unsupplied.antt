@@ -3,8 +3,8 @@ use Rattle.std.proofs.Common.{IfOk, Result, Ok, Err, ℕ, zero, suc, ◌≡◌, 
 use Rattle.std.proofs.lemmas.Bool.{cases_lt}
 use Rattle.std.proofs.lemmas.List.{map-set}
 use Rattle.world.specs.All.{AddsSteps, Given, Item, Machine, NoneNeeds, Page, Stays, TenantIs, Why, accesses, first_lack, lacks_in, last_given, outline, outlined, pages_after, pages_settled, run, step_given, steps_of, view_of}
-use Rattle.mips_step.specs.Bus.{Lacks}
-use Rattle.flatvm.proofs.Runs.{run_append}
+use Rattle.machine.specs.Bus.{Lacks}
+use Rattle.machine.proofs.Runs.{run_append}
 use Rattle.guest_log.specs.declared.stop.Stop.{Stop}
 use Rattle.guest.proofs.Quiet.{run_join, lacks_alike}
 

@@ -6,8 +6,8 @@ use Rattle.std.proofs.lemmas.Option.{same_Some, get_or_from_slice_get}
 use Rattle.std.proofs.lemmas.List.Sums.{sum_by-set}
 use Rattle.world.specs.All.{Changes, FreeList, IsEligible, IsEvicted, IsLeast, Item, OnlyPagesMove, OtherSparedStay, Page, PagesMove, SameNumbers, Spared, SparedStay, Stat, TenantIs, Why, all_resident, beside_pages, count_of, is_one_of, items_of, log_at, may_leave, one_private, one_shared, page_at, pages_in, resident_pages, spared_of, stat_of}
 use Rattle.frames.proofs.Counting.{count_cons, one_same}
-use Rattle.physmap.specs.declared.page.Page.TheVariants as page
-use Rattle.paging.proofs.Exchanging.{exchanged}
+use Rattle.guest_pages.specs.declared.page.Page.TheVariants as page
+use Rattle.page_moves.proofs.Exchanging.{exchanged}
 use Rattle.victims.proofs.Searching.{counted_once, leaves_apart}
 
 -- ---- resident pages

@@ -6,9 +6,9 @@ use Rattle.std.proofs.lemmas.List.Elements.{All-get_or, All-from_get_or}
 use Rattle.world.specs.All.{Adds, AddsSteps, AllHappen, Answer, AroundStays, Books, Changes, Conserves, EntriesAre, Event, FreeList, GuestIs, Happens, IsKept, Item, Lent, NothingHappens, OnlyBooksChange, Page, Reads, Refused, Reply, SameAround, SharesAre, Sound, Stays, StepOut, StoreFacts, Stream, SupplyError, TenantIs, UsedStay, WhyAway, WorldIs, beside_pages, boot_of, count_of, input_items, item_for, items_of, log_at, need_of, outline, own, own_items, pages_in, pages_of, slots_held, step_by, step_items, steps_for}
 use Rattle.items.specs.Entries.{steps_of}
 use Rattle.guest_log.specs.declared.stop.Stop.{Stop}
-use Rattle.mips_step.specs.declared.access.StepOut.TheVariants as out
-use Rattle.paging.specs.declared.supply.SupplyError.TheVariants.{SwapDamaged}
-use Rattle.paging.proofs.Booking.{books_after, reads_each}
+use Rattle.machine.specs.declared.access.StepOut.TheVariants as out
+use Rattle.page_moves.specs.declared.supply.SupplyError.TheVariants.{SwapDamaged}
+use Rattle.page_moves.proofs.Booking.{books_after, reads_each}
 use Rattle.tenant.proofs.Lending.{lent as books_lend}
 use Rattle.tenant.proofs.Giving.{outline_conserves, outline_reads}
 use Rattle.tenant.proofs.Keeping.{used_kept}

@@ -24,7 +24,7 @@ pub use Rattle.world.specs.declared.running.RunStop.{RunStop}
 pub use Rattle.world.specs.declared.turns.Turn.{Turn}
 pub use Rattle.world.specs.declared.world.Evicted.{Evicted}
 pub use Rattle.world.specs.Below.{Action, Adds, AddsSteps, Aim, AllFit, AllStay, Answered, AreHeldByDigest, Books, BootError, Comes, Conserves, EntriesAre, EvictError, Fits, FreeList, Given, GuestIs, GuestPage, HintsAfter, In, Intact}
-pub use Rattle.world.specs.Below.{IsAimed, IsBooted, IsDamaged, IsEligible, IsFull, IsKept, IsLeast, IsNextResident, IsSampled, IsSized, Item, Lent, Level, Machine, NothingHappens, Page, PageKind, PagedBusIs, Private, Reads, Refused, Reply, SameNumbers}
+pub use Rattle.world.specs.Below.{IsAimed, IsBooted, IsDamaged, IsEligible, IsFull, IsKept, IsLeast, IsNextResident, IsSampled, IsSized, Item, Lent, Level, Machine, NothingHappens, Page, PageKind, GuestBusIs, Private, Reads, Refused, Reply, SameNumbers}
 pub use Rattle.world.specs.Below.{SharesAre, SomePlaceIn, Spared, Stat, Stays, StaysInTurn, StepOut, Stream, SupplyError, TenantIs, UsedStay, What, Why, WhyAway, WhyStays, Write, WritesTo, accepts, accesses, action_of, actions_by, actions_of}
 pub use Rattle.world.specs.Below.{after_words, at_page, below, beside_pages, bytes_at, count_of, digest_of, entry_at, entry_count, first_lack, is_left_out, is_one_of, is_resident, is_step, is_wanted, kind_at, kind_of, lack_of, lacks_in, last_given, may_leave, need_of, next_level_of, next_u32}
 pub use Rattle.world.specs.Below.{one_entry, one_more, one_private, one_shared, one_swapped, outline, outlined, page_at, pages_in, pages_of, pages_seen, pages_settled, private_pages, replied, reply, resident_pages, run, sha256, shared_pages, shown, slot_in, slot_of, slots_held, spared_of}

@@ -4,7 +4,7 @@ use Rattle.world.specs.Below.{Answered, Comes, EvictError, FreeList, HintsAfter,
 use Rattle.guest_log.specs.declared.stop.Stop.{Stop}
 use Rattle.guest_log.specs.declared.stop.Stop.TheVariants as halt
 use Rattle.mips_tlb.specs.declared.kind.Kind.TheVariants.{Store}
-use Rattle.paging.specs.declared.scan.Scan.{Scan}
+use Rattle.page_moves.specs.declared.scan.Scan.{Scan}
 use Rattle.guest.specs.declared.refused.Refused.TheVariants as refusal
 use Rattle.world.specs.declared.events.Event.{Event}
 use Rattle.world.specs.declared.events.Event.TheVariants as event

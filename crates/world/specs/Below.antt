@@ -1,8 +1,8 @@
 -- What definitions and proofs of this crate name of the crates below it.
-pub use Rattle.flatvm.specs.Answers.{replied}
-pub use Rattle.flatvm.specs.Items.{accepts, reply, run}
-pub use Rattle.flatvm.specs.Replies.{SomePlaceIn, bytes_at}
-pub use Rattle.flatvm.specs.declared.reply.Reply.{Reply}
+pub use Rattle.machine.specs.Answers.{replied}
+pub use Rattle.machine.specs.Items.{accepts, reply, run}
+pub use Rattle.machine.specs.Replies.{SomePlaceIn, bytes_at}
+pub use Rattle.machine.specs.declared.reply.Reply.{Reply}
 pub use Rattle.frames.specs.Counts.{below, count_of}
 pub use Rattle.frames.specs.FreeList.{FreeList}
 pub use Rattle.guest.specs.Guests.{GuestIs, Intact, IsSized, last_given, standing, view_of, without_pages}
@@ -14,27 +14,27 @@ pub use Rattle.items.specs.Items.{is_step}
 pub use Rattle.items.specs.declared.item.Item.{Item}
 pub use Rattle.items.specs.declared.item.What.{What}
 pub use Rattle.items.specs.declared.item.What.TheVariants.{In, Write}
-pub use Rattle.mips_step.specs.Accesses.{accesses, first_lack}
-pub use Rattle.mips_step.specs.Answer.{need_of}
-pub use Rattle.mips_step.specs.Given.{step_given}
-pub use Rattle.mips_step.specs.Step.{Machine}
-pub use Rattle.mips_step.specs.declared.access.StepOut.{StepOut}
-pub use Rattle.mips_step.specs.declared.access.Why.{Why}
-pub use Rattle.paged_bus.specs.Buses.{PagedBusIs, pages_settled}
-pub use Rattle.paged_bus.specs.Lacking.{lack_of, lacks_in}
-pub use Rattle.paged_bus.specs.Writes.{WritesTo}
-pub use Rattle.paging.specs.Books.{Books, pages_of}
-pub use Rattle.paging.specs.Moves.{Conserves, Reads, SameNumbers}
-pub use Rattle.paging.specs.Scans.{Answered, Comes, HintsAfter}
-pub use Rattle.paging.specs.Supplies.{IsDamaged, WhyAway}
-pub use Rattle.paging.specs.declared.supply.SupplyError.{SupplyError}
-pub use Rattle.physmap.specs.Holdings.{one_private, one_shared, one_swapped, private_pages, resident_pages, shared_pages, slot_in, slots_held, swapped_pages}
-pub use Rattle.physmap.specs.Outline.{outline, outlined}
-pub use Rattle.physmap.specs.Pages.{digest_of, is_resident, kind_at, kind_of, page_at, shown, slot_of}
-pub use Rattle.physmap.specs.declared.page.Page.{Page}
-pub use Rattle.physmap.specs.declared.page.Page.TheVariants.{Given}
-pub use Rattle.physmap.specs.declared.page.PageKind.{PageKind}
-pub use Rattle.physmap.specs.declared.page.PageKind.TheVariants.{Private}
+pub use Rattle.machine.specs.Accesses.{accesses, first_lack}
+pub use Rattle.machine.specs.Answer.{need_of}
+pub use Rattle.machine.specs.Given.{step_given}
+pub use Rattle.machine.specs.Step.{Machine}
+pub use Rattle.machine.specs.declared.access.StepOut.{StepOut}
+pub use Rattle.machine.specs.declared.access.Why.{Why}
+pub use Rattle.guest_bus.specs.Buses.{GuestBusIs, pages_settled}
+pub use Rattle.guest_bus.specs.Lacking.{lack_of, lacks_in}
+pub use Rattle.guest_bus.specs.Writes.{WritesTo}
+pub use Rattle.page_moves.specs.Books.{Books, pages_of}
+pub use Rattle.page_moves.specs.Moves.{Conserves, Reads, SameNumbers}
+pub use Rattle.page_moves.specs.Scans.{Answered, Comes, HintsAfter}
+pub use Rattle.page_moves.specs.Supplies.{IsDamaged, WhyAway}
+pub use Rattle.page_moves.specs.declared.supply.SupplyError.{SupplyError}
+pub use Rattle.guest_pages.specs.Holdings.{one_private, one_shared, one_swapped, private_pages, resident_pages, shared_pages, slot_in, slots_held, swapped_pages}
+pub use Rattle.guest_pages.specs.Outline.{outline, outlined}
+pub use Rattle.guest_pages.specs.Pages.{digest_of, is_resident, kind_at, kind_of, page_at, shown, slot_of}
+pub use Rattle.guest_pages.specs.declared.page.Page.{Page}
+pub use Rattle.guest_pages.specs.declared.page.Page.TheVariants.{Given}
+pub use Rattle.guest_pages.specs.declared.page.PageKind.{PageKind}
+pub use Rattle.guest_pages.specs.declared.page.PageKind.TheVariants.{Private}
 pub use Rattle.rand_core.specs.Stream.{Stream, next_u32}
 pub use Rattle.reclaim.specs.Levels.{next_level_of}
 pub use Rattle.reclaim.specs.Plans.{action_of, actions_by, actions_of}

@@ -1,7 +1,7 @@
 -- Pages that are damaged in their slots.
 use Rattle.std.specs.Prelude.{◌≡◌, ℕ, Some, List, Contains, map, slice_index_or}
 use Rattle.world.specs.Below.{IsDamaged, Page, SomePlaceIn, TenantIs, Why, accesses, digest_of, page_at, pages_in, slot_of, standing}
-use Rattle.mips_step.specs.Accesses.{Access}
+use Rattle.machine.specs.Accesses.{Access}
 use Rattle.world.specs.Worlds.{StoreFacts, WorldIs, StoreStays, IsSoundWorld, guest_at, view_at, needed_by}
 
 -- bytes that a store may give for the slot of a page have another SHA-256 than the page

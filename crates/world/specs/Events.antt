@@ -3,8 +3,8 @@ use Rattle.std.specs.Prelude.{◌≡◌, ℕ, ◌<◌, ◌≤◌, length, ◌==�
 use Rattle.world.specs.Below.{FreeList, In, Item, Private, Refused, Reply, Stat, StepOut, TenantIs, accesses, is_step, kind_at, pages_in, stat_of, step_by, view_of}
 use Rattle.guest_log.specs.declared.stop.Stop.{Stop}
 use Rattle.guest_log.specs.declared.stop.Stop.TheVariants as halt
-use Rattle.mips_step.specs.declared.access.StepOut.TheVariants as out
-use Rattle.mips_step.specs.Accesses.{Access}
+use Rattle.machine.specs.declared.access.StepOut.TheVariants as out
+use Rattle.machine.specs.Accesses.{Access}
 use Rattle.world.specs.declared.events.Event.{Event}
 use Rattle.world.specs.declared.events.Event.TheVariants as event
 use Rattle.world.specs.declared.events.Answer.{Answer}

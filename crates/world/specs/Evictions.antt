@@ -1,7 +1,7 @@
 -- What becomes of a page that is to leave its frame.
 use Rattle.std.specs.Prelude.{◌≡◌, ℕ, ◌≤◌, ◌<◌, true, false, List, All, length, slice_set}
 use Rattle.world.specs.Below.{FreeList, Page, is_resident, kind_at, page_at, sha256, shown, slot_of}
-use Rattle.physmap.specs.declared.page.Page.TheVariants.{Swapped}
+use Rattle.guest_pages.specs.declared.page.Page.TheVariants.{Swapped}
 use Rattle.world.specs.declared.world.Evicted.{Evicted}
 use Rattle.world.specs.declared.world.Evicted.TheVariants.{Done, Skipped}
 

@@ -4,7 +4,7 @@ use crate::running::stop_of;
 use crate::{FaultError, RunStop, World};
 use guest::{Refused, Stop};
 use items::{Item, SeatNo, What, WriteBytes};
-use paging::Pages;
+use page_moves::Pages;
 use rand_core::Rng;
 use std::alloc::Global;
 use swapstore::SwapStore;

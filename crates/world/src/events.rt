@@ -1,11 +1,10 @@
 //! What may happen in a world, and what is answered.
 use crate::running::{for_room, stop_of};
 use crate::{DebugError, Evicted, FaultError, Ran, RunStop, Turn};
-use flatvm::Reply;
 use guest::{Refused, Stop};
 use items::Item;
-use mips_step::StepOut;
-use paging::{Scan, SupplyError};
+use machine::{Reply, StepOut};
+use page_moves::{Scan, SupplyError};
 use std::alloc::AllocError;
 use tenant::EvictError;
 use word32::Ppn;

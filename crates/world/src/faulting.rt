@@ -3,7 +3,7 @@ ghost use Rattle.std.specs.Prelude.{◌≡◌, ◌%◌, ◌<◌, ℕ, IfOk, leng
 ghost use Rattle.world.specs.Below.{IsNextResident, TenantIs, next_u32, pages_in, resident_pages, stat_of};
 
 use crate::World;
-use paging::{Pages, SupplyError};
+use page_moves::{Pages, SupplyError};
 use rand_core::Rng;
 use std::alloc::{AllocError, Global};
 use swapstore::SwapStore;

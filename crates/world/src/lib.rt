@@ -13,7 +13,7 @@
 //! (`specs/Choices.antt`): the policy's victims, by the tax and the generator's words in turn, and none while a frame is free; and which
 //! words each event goes by is `GoesByWords` (`specs/Words.antt`).
 //!
-//! Each event works on lent parts, with one guest's pages, by `paging`; `specs/Lent.antt` has what exact books say of those.
+//! Each event works on lent parts, with one guest's pages, by `page_moves`; `specs/Lent.antt` has what exact books say of those.
 #![tactic(auto)]
 
 mod applying;

@@ -4,7 +4,7 @@ ghost use Rattle.world.specs.Events.{stop_of, for_room};
 
 use crate::{FaultError, World};
 use guest::Stop;
-use mips_step::Why;
+use machine::Why;
 use rand_core::Rng;
 use std::alloc::Global;
 use swapstore::SwapStore;

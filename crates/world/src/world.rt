@@ -1,13 +1,12 @@
 //! A world of guests.
 ghost use Rattle.std.specs.Prelude.{◌≡◌, ◌≢◌, ◌<◌};
 
-use flatvm::Reply;
 use framepool::Pool;
 use guest::{Refused, Stop};
+use guest_pages::PageKind;
 use items::Item;
-use mips_step::StepOut;
-use paging::{Pages, Scan, SupplyError};
-use physmap::PageKind;
+use machine::{Reply, StepOut};
+use page_moves::{Pages, Scan, SupplyError};
 use reclaim::Level;
 use sharetab::{GuestNo, Shares};
 use std::alloc::Global;
@@ -306,7 +305,7 @@ impl<S: SwapStore> World<S> {
     }
 
     /// Scans a page of a guest: it joins the entry that has its bytes; else, where another page was last noted with its digest, its
-    /// own frame becomes an entry; else its digest is noted (`paging::scan_in`). A frame that came free is free again.
+    /// own frame becomes an entry; else its digest is noted (`page_moves::scan_in`). A frame that came free is free again.
     pub fn scan(&mut self, g: usize, p: Ppn) -> Scan
         requires guest { g < length self.old.tenants }
         requires small { g < 2 ^ 32 }

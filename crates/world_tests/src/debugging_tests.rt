@@ -3,7 +3,7 @@
 use crate::event_tests::{
     TAX, apply, booted, evict, expect, kind, log_len, room, share, started, supply,
 };
-use physmap::PageKind;
+use guest_pages::PageKind;
 use rand_pcg::Pcg32;
 use std::alloc::Global;
 use std::process::Abort;

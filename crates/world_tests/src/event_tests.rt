@@ -4,10 +4,10 @@ ghost use Rattle.std.specs.Prelude.{All};
 ghost use Rattle.world.specs.Events.{IsProper};
 
 use elf32::Image;
+use guest_pages::PageKind;
 use items::{Item, SeatNo, What};
-use mips_step::{StepOut, Why};
-use paging::{Scan, SupplyError};
-use physmap::PageKind;
+use machine::{StepOut, Why};
+use page_moves::{Scan, SupplyError};
 use rand_pcg::Pcg32;
 use std::alloc::Global;
 use std::fmt::Debug;

@@ -191,7 +191,7 @@ fn check_books(rt: &impl Abort, world: &World<MemStore>) {
     assert!(rt; books.swapped == u64::from(world.slots_used()), "{books:?}");
 }
 
-/// What a log says happens to the table machine.
+/// What a log says happens to the reference machine.
 fn replay(rt: &impl Abort, flat: &mut Flat, log: &Log) {
     for entry in log.entries() {
         replay_entry(rt, flat, entry);
@@ -210,12 +210,12 @@ fn replay_entry(rt: &impl Abort, flat: &mut Flat, entry: &Entry) {
         }
         Entry::One(item) => match flat.input(&item.what) {
             Ok(reply) => drop(reply),
-            Err(_) => panic!(rt; "the table machine refuses an item"),
+            Err(_) => panic!(rt; "the reference machine refuses an item"),
         },
     }
 }
 
-/// The guest is in the state that the table machine is in after its log.
+/// The guest is in the state that the reference machine is in after its log.
 fn compare(rt: &impl Abort, alloc: Global, world: &World<MemStore>, g: usize) {
     if g >= world.count() {
         panic!(rt; "there is no guest {g}");
@@ -226,7 +226,7 @@ fn compare(rt: &impl Abort, alloc: Global, world: &World<MemStore>, g: usize) {
         panic!(rt; "the image has no room");
     }
     let Ok(mut flat) = Flat::boot(alloc, &image, PAGES) else {
-        panic!(rt; "no memory for the table machine");
+        panic!(rt; "no memory for the reference machine");
     };
     replay(rt, &mut flat, guest.log());
     let steps = steps_in(guest.log());

@@ -1,7 +1,7 @@
 //! Runs of steps of guests of three pages, which make a step, load from page 1, store to page 2, and then make steps of no effect.
 
 use crate::event_tests::{TAX, apply, booted, evict, expect, input, log_len, room, started};
-use mips_step::Why;
+use machine::Why;
 use rand_pcg::Pcg32;
 use std::alloc::Global;
 use std::process::Abort;

@@ -1,4 +1,4 @@
-//! The table machine's own calls: images of one and of two segments, and its replies.
+//! The reference machine's own calls: images of one and of two segments, and its replies.
 use super::code::Code;
 use super::code::Code::*;
 use super::expect;

@@ -1,4 +1,4 @@
-//! Steps that a world of one guest makes many at once, beside the table machine, which makes them one by one. After each slice of steps
+//! Steps that a world of one guest makes many at once, beside the reference machine, which makes them one by one. After each slice of steps
 //! all that the two processors have is compared, and the devices, and at the end all of memory.
 mod clock;
 mod fields;
@@ -12,10 +12,11 @@ use super::expect;
 use super::run::{MOST_PAGES, boot_world, guest_of, make_steps, raw_image};
 use devices::Devices;
 use elf32::Image;
-use flatvm::{FlatBus, debug};
+use flatvm::FlatBus;
 use guest::Guest;
+use machine::{Ppn, StepOut};
 use mips_instr::Reg;
-use mips_step::{Cpu, Ppn, StepOut};
+use mips_step::{Cpu, debug};
 use mips_tlb::ENTRIES;
 use std::process::Abort;
 use std::test::Fail;
@@ -34,7 +35,7 @@ struct Program<'a> {
     steps: u32,
 }
 
-/// The table machine in its parts, since its memory is to be read.
+/// The reference machine in its parts, since its memory is to be read.
 #[derive(Drop)]
 struct Table {
     cpu: Cpu,

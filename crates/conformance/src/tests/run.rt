@@ -43,7 +43,7 @@ pub struct Run<'a> {
     pub system: [u32; 4],
 }
 
-/// Makes the steps of each run on the table machine and in a world of one guest.
+/// Makes the steps of each run on the reference machine and in a world of one guest.
 pub fn check_runs<R: AllocGlobal + Abort>(rt: &R, runs: &[Run]) -> Result<(), Fail> {
     for run in runs {
         check_run(rt, run)?;
@@ -51,7 +51,7 @@ pub fn check_runs<R: AllocGlobal + Abort>(rt: &R, runs: &[Run]) -> Result<(), Fa
     Ok(())
 }
 
-/// Makes the steps on the table machine and in a world of one guest.
+/// Makes the steps on the reference machine and in a world of one guest.
 pub fn check_run<R: AllocGlobal + Abort>(rt: &R, run: &Run) -> Result<(), Fail> {
     let image = raw_image(rt, run.name, run.code)?;
     check_table_machine(rt, run, &image)?;
@@ -65,7 +65,7 @@ fn check_table_machine<R: AllocGlobal + Abort>(
 ) -> Result<(), Fail> {
     let mut flat = boot_table_machine(rt, run.name, image, run.pages)?;
     step_table_machine(&mut flat, run.steps);
-    check_cpu(rt, flat.view().cpu, run, "table machine");
+    check_cpu(rt, flat.view().cpu, run, "reference machine");
     Ok(())
 }
 
@@ -96,7 +96,7 @@ pub fn raw_image<R: AllocGlobal + Abort>(rt: &R, name: &str, code: &[Code]) -> R
     Ok(Image::raw(rt.alloc(), bytes)?)
 }
 
-/// A table machine of so many pages, which has to hold the image.
+/// A reference machine of so many pages, which has to hold the image.
 pub fn boot_table_machine<R: AllocGlobal + Abort>(
     rt: &R,
     name: &str,

@@ -1,8 +1,8 @@
 //! The program counter.
 ghost use Rattle.std.specs.Prelude.{◌≡◌, None, Some, is_some};
 ghost use Rattle.mips_instr.specs.Targets.{slot_address, branch_target};
-ghost use Rattle.mips_step.specs.Processor.{Processor, at_counter, follower, after_slot};
-ghost use Rattle.mips_step.specs.Operations.{branched};
+ghost use Rattle.machine.specs.Processor.{Processor, at_counter, follower, after_slot};
+ghost use Rattle.machine.specs.Operations.{branched};
 
 use crate::sign::extended;
 use std::marker::Model;
@@ -14,12 +14,15 @@ pub struct Counter {
     pc: u32,
     next: u32,
     in_slot: bool,
+    // So that a copy of a counter has no gaps between its fields, which the compiler would set to zero one by one.
+    gap_of_one: u8,
+    gap_of_two: u16,
 }
 
 impl Model for Counter {
     ghost use Rattle.std.specs.Prelude.{◌≡◌, false, if◌then◌else◌, None, Some};
     ghost use Rattle.mips_instr.specs.Targets.{slot_address};
-    ghost use Rattle.mips_step.specs.Processor.{CounterIs};
+    ghost use Rattle.machine.specs.Processor.{CounterIs};
 
     ghost Value = { CounterIs };
 
@@ -31,25 +34,29 @@ impl Model for Counter {
 impl Counter {
     /// At an address, which stands in no delay slot.
     #[inline(always)]
-    pub(crate) fn at(pc: u32) -> Counter
+    pub fn at(pc: u32) -> Counter
         ensures { result ≡ record { pc = pc; slot = None } }
     {
         Counter {
             pc,
             next: pc.wrapping_add(4),
             in_slot: false,
+            gap_of_one: 0,
+            gap_of_two: 0,
         }
     }
 
     /// The same counter once more.
     #[inline(always)]
-    pub(crate) fn again(&self) -> Counter
+    pub fn again(&self) -> Counter
         ensures { result ≡ self.now }
     {
         Counter {
             pc: self.pc,
             next: self.next,
             in_slot: self.in_slot,
+            gap_of_one: 0,
+            gap_of_two: 0,
         }
     }
 
@@ -71,7 +78,7 @@ impl Counter {
 
     /// Whether PC stands in a delay slot.
     #[inline(always)]
-    pub(crate) fn is_in_slot(&self) -> bool
+    pub fn is_in_slot(&self) -> bool
         ensures { result ≡ is_some self.now.slot }
     {
         self.in_slot
@@ -79,7 +86,7 @@ impl Counter {
 
     /// The address after the delay slot of the instruction at PC.
     #[inline(always)]
-    pub(crate) fn after_slot(&self) -> u32
+    pub fn after_slot(&self) -> u32
         ensures { result ≡ after_slot self.now.pc }
     {
         self.pc.wrapping_add(8)
@@ -87,7 +94,7 @@ impl Counter {
 
     /// Goes on to what follows.
     #[inline(always)]
-    pub(crate) fn advance(&mut self)
+    pub fn advance(&mut self)
         ensures { self.new ≡ record { pc = follower self.old.slot self.old.pc; slot = None } }
     {
         self.pc = self.next;
@@ -97,7 +104,7 @@ impl Counter {
 
     /// Goes on to the delay slot, which a target follows.
     #[inline(always)]
-    pub(crate) fn jump(&mut self, target: u32)
+    pub fn jump(&mut self, target: u32)
         ensures { self.new ≡ record { pc = slot_address self.old.pc; slot = Some target } }
     {
         self.pc = self.pc.wrapping_add(4);
@@ -118,7 +125,7 @@ impl Counter {
 
     /// Goes on as a branch does, of which only a likely one that is not taken executes no delay slot.
     #[inline(always)]
-    pub(crate) fn branch(&mut self, taken: bool, likely: bool, offset: u16)
+    pub fn branch(&mut self, taken: bool, likely: bool, offset: u16)
         ensures { (cpu : Processor) → at_counter self.new cpu ≡ branched taken likely offset (at_counter self.old cpu) }
     {
         if taken {

@@ -1,6 +1,6 @@
 //! What a debugger does to the registers.
 ghost use Rattle.std.specs.Prelude.{◌≡◌};
-ghost use Rattle.mips_step.specs.Poking.{poked};
+ghost use Rattle.machine.specs.Poking.{poked};
 
 use super::Cpu;
 use super::counter::Counter;

@@ -1,7 +1,7 @@
 //! The instructions on HI and LO, LLbit, the system registers and the TLB.
 ghost use Rattle.std.specs.Prelude.{◌≡◌};
 ghost use Rattle.mips_cp0.specs.Status.{is_usable};
-ghost use Rattle.mips_step.specs.Operations.{moved_from, moved_to, with_hi_lo, cp0_moved, tlb_done, exception_returned};
+ghost use Rattle.machine.specs.Operations.{moved_from, moved_to, with_hi_lo, cp0_moved, tlb_done, exception_returned};
 
 use super::Cpu;
 use super::counter::Counter;
@@ -11,7 +11,7 @@ use mips_instr::{Cp0MoveOp, MoveFromOp, MoveToOp, Reg, Select, TlbOp};
 
 impl Cpu {
     /// HI and LO together.
-    pub(crate) fn hi_lo(&self) -> HiLo
+    pub fn hi_lo(&self) -> HiLo
         ensures { result ≡ record { hi = self.now.hi; lo = self.now.lo } }
     {
         HiLo {
@@ -41,7 +41,7 @@ impl Cpu {
         self.advance();
     }
 
-    pub(crate) fn set_hi_lo(&mut self, value: HiLo)
+    pub fn set_hi_lo(&mut self, value: HiLo)
         ensures { self.new ≡ record self.old { hi = value.hi; lo = value.lo } }
     {
         self.hi = value.hi;

@@ -2,8 +2,9 @@
 use super::expect;
 use super::sparse::Sparse;
 use items::DebugRegister;
+use machine::StepOut;
 use mips_isa::Reg;
-use mips_step::{Cpu, StepOut};
+use mips_step::Cpu;
 use std::process::Abort;
 use std::test::Fail;
 

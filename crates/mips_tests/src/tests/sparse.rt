@@ -2,13 +2,13 @@
 ghost use Rattle.std.specs.Prelude.{◌≡◌, ◌+◌, ◌*◌, ◌≤◌, ◌<◌, ◌==◌, if◌then◌else◌, length, Some, None};
 ghost use Rattle.word32.specs.Pages.{page_number};
 ghost use Rattle.word32.specs.Zeros.{zeros};
-ghost use Rattle.mips_step.specs.World.{first_byte, bytes_of, value_in, limit_of, bytes_after, page_cleared, device_reach};
-ghost use Rattle.mips_step.specs.Bus.{ready_answer};
-ghost use Rattle.mips_step.specs.declared.access.Why.TheVariants.{First};
+ghost use Rattle.machine.specs.Board.{first_byte, bytes_of, value_in, limit_of, bytes_after, page_cleared, device_reach};
+ghost use Rattle.machine.specs.Bus.{ready_answer};
+ghost use Rattle.machine.specs.declared.access.Why.TheVariants.{First};
 
 use devices::{DeviceRegister, Devices};
+use machine::{Kind, PhysBus, Ppn, Refusal, Size, Why};
 use mips_alu::{store_left, store_right};
-use mips_step::{Kind, PhysBus, Ppn, Refusal, Size, Why};
 use std::marker::Model;
 use std::test::Fail;
 use word32::{half_at, page_of, put_half, put_word, word_at};
@@ -26,9 +26,9 @@ pub struct Sparse {
 
 impl Model for Sparse {
     ghost use Rattle.std.specs.Prelude.{◌≡◌, ◌*◌, ℕ, length};
-    ghost use Rattle.mips_step.specs.World.{World};
+    ghost use Rattle.machine.specs.Board.{Board};
 
-    ghost Value = { World × ℕ };
+    ghost Value = { Board × ℕ };
 
     ghost view = { λ s. (record { memory = s.bytes.items; devices = s.devices }, s.absent) };
 
@@ -155,7 +155,7 @@ fn clear_page(bytes: &mut [u8], page: Ppn)
 impl PhysBus for Sparse {
     type Kept = u32;
 
-    ghost world = { λ s. s.0 };
+    ghost board = { λ s. s.0 };
 
     ghost kept = { λ s. s.1 };
 
@@ -209,7 +209,7 @@ impl PhysBus for Sparse {
         value_at(&self.bytes, size, at)
     }
 
-    #[tactic(auto, using(mips_step::proofs::Shown::plain_memory_stored))]
+    #[tactic(auto, using(machine::proofs::Plain::plain_memory_stored))]
     fn store_plain(&mut self, at: u32, size: Size, value: u32) {
         put_value(&mut self.bytes, size, at, value);
     }

@@ -1,9 +1,10 @@
 //! Steps over a bus that may lack a page: what a step needs is answered, and nothing has changed; and steps at a register.
 use super::expect;
 use super::sparse::Sparse;
+use machine::{Ppn, StepOut, Why};
 use mips_cp0::SystemRegister;
 use mips_isa::Reg;
-use mips_step::{Cpu, Ppn, StepOut, Why};
+use mips_step::Cpu;
 use std::process::Abort;
 use std::test::Fail;
 

@@ -1,5 +1,5 @@
 use Rattle.std.proofs.Common.{ap}
-use Rattle.physmap.specs.Pages.{page_at}
+use Rattle.guest_pages.specs.Pages.{page_at}
 use Rattle.accounts.proofs.Telling.{slots_tells, slots_inside, with_used, with_inside, with_apart, slot_kind}
 use Rattle.accounts.proofs.guest_and_slots.meet_slots.Goals as goal
 

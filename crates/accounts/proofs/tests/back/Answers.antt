@@ -1,5 +1,5 @@
 use Rattle.std.proofs.Common.{ℕ, ◌<◌, [], ◌∷◌, sym, subst, ◌∙◌}
-use Rattle.physmap.specs.Pages.{slot_of, page_at}
+use Rattle.guest_pages.specs.Pages.{slot_of, page_at}
 use Rattle.accounts.proofs.Settled.{swapped_moved}
 use Rattle.accounts.proofs.tests.back.Goals as goal
 

@@ -1,9 +1,9 @@
 use Rattle.std.proofs.Common.{List, [], ◌∷◌, None, replicate, sym, subst}
 use Rattle.sharetab.specs.Entries.{EntriesAre}
-use Rattle.physmap.specs.declared.page.Page.{Page}
-use Rattle.physmap.specs.declared.page.Page.TheVariants.{Zero}
-use Rattle.paging.specs.Books.{Books}
-use Rattle.paging.proofs.Starting.{books_of_nothing, books_with_owner}
+use Rattle.guest_pages.specs.declared.page.Page.{Page}
+use Rattle.guest_pages.specs.declared.page.Page.TheVariants.{Zero}
+use Rattle.page_moves.specs.Books.{Books}
+use Rattle.page_moves.proofs.Starting.{books_of_nothing, books_with_owner}
 use Rattle.accounts.proofs.tests.new_parts.Goals as goal
 
 pub returns-clause-exact : goal.returns-clause-exact

@@ -1,5 +1,5 @@
 use Rattle.std.proofs.Common.{ℕ, ◌≡◌, Err, List, [], map, sum_by, sym, ap, subst, ◌∙◌, arith}
-use Rattle.paging.specs.Books.{Books}
+use Rattle.page_moves.specs.Books.{Books}
 use Rattle.booting.specs.Boots.{pages_in}
 use Rattle.booting.specs.declared.asked.NewGuest.{NewGuest}
 use Rattle.booting.proofs.Refusing.{ArePassed, admitted_find_room}

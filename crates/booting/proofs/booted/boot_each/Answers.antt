@@ -2,8 +2,8 @@ use Rattle.std.proofs.Common.{◌≡◌, ◌+◌, ◌<◌, ◌++◌, ◌∷◌, 
 use Rattle.std.proofs.lemmas.List.Elements.{All-push}
 use Rattle.std.proofs.lemmas.List.Sums.{sum_by_push}
 use Rattle.elf32.specs.declared.image.Image.{Image}
-use Rattle.physmap.specs.Holdings.{slots_held}
-use Rattle.paging.specs.Books.{Books}
+use Rattle.guest_pages.specs.Holdings.{slots_held}
+use Rattle.page_moves.specs.Books.{Books}
 use Rattle.guest.specs.Guests.{GuestIs, Intact}
 use Rattle.tenant.specs.Loading.{IsAtBoot}
 use Rattle.booting.specs.Boots.{AreAtBoot, KeepsPages, pages_in}

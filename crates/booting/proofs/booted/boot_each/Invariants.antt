@@ -1,7 +1,7 @@
 use Rattle.std.proofs.Common.{◌≡◌, ◌+◌, ◌≤◌, ℕ, All, [], length, map, sum_by, take, vec_len, vec_capacity}
 use Rattle.frames.specs.Counts.{below, count_of}
 use Rattle.sharetab.specs.Entries.{EntriesAre}
-use Rattle.paging.specs.Books.{Books}
+use Rattle.page_moves.specs.Books.{Books}
 use Rattle.guest.specs.Guests.{Intact}
 use Rattle.booting.specs.Boots.{AreAtBoot, KeepsPages, pages_in}
 use Rattle.booting.specs.Places.{FramesComeFirst, SlotsComeInOrder}

@@ -1,7 +1,7 @@
 use Rattle.std.proofs.Common.{List, length, Some, sym, ap, ◌∙◌}
 use Rattle.items.specs.declared.item.Item.{Item}
-use Rattle.flatvm.specs.Items.{run}
-use Rattle.flatvm.specs.Replies.{bytes_at}
+use Rattle.machine.specs.Items.{run}
+use Rattle.machine.specs.Replies.{bytes_at}
 use Rattle.lasting_truth.specs.Truths.{KeeperIs}
 use Rattle.cell.specs.Sitting.{front_boot}
 use Rattle.cell.proofs.Supplied.{seen_ok, seen_none}

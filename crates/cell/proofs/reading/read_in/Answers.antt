@@ -1,6 +1,6 @@
 use Rattle.std.proofs.Common.{◌≡◌, Err, ap, subst}
-use Rattle.physmap.specs.declared.page.PageKind.TheVariants as kind
-use Rattle.physmap.specs.Pages.{kind_at}
+use Rattle.guest_pages.specs.declared.page.PageKind.TheVariants as kind
+use Rattle.guest_pages.specs.Pages.{kind_at}
 use Rattle.guest.specs.Guests.{GuestIs}
 use Rattle.cell.proofs.Supplied.{away_is_there}
 use Rattle.cell.proofs.reading.read_in.Goals as goal

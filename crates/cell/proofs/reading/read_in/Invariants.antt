@@ -1,5 +1,5 @@
 use Rattle.std.proofs.Common.{◌≡◌, ◌≤◌, ◌+◌}
-use Rattle.physmap.specs.Holdings.{swapped_pages}
+use Rattle.guest_pages.specs.Holdings.{swapped_pages}
 use Rattle.cell.specs.Sitting.{Sits}
 use Rattle.cell.proofs.reading.read_in.Given as goal
 

@@ -1,6 +1,6 @@
 use Rattle.std.proofs.Common.{refl, ap}
 use Rattle.std.specs.Box.{with_value}
-use Rattle.physmap.specs.Outline.{outline}
+use Rattle.guest_pages.specs.Outline.{outline}
 use Rattle.cell.specs.declared.cell.Locked.{Locked}
 use Rattle.cell.proofs.Sitting.{sits_through}
 use Rattle.cell.proofs.turning.input_in.Goals as goal

@@ -1,5 +1,5 @@
 use Rattle.std.proofs.Common.{◌≡◌, ℕ, List, Option}
-use Rattle.paging.specs.Faith.{Kept}
+use Rattle.page_moves.specs.Faith.{Kept}
 use Rattle.guest.specs.Guests.{view_of, Intact}
 use Rattle.guest.specs.Views.{pages_seen}
 use Rattle.seated.specs.Acts.{Stays}

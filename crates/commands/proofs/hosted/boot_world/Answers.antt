@@ -1,7 +1,5 @@
 use Rattle.std.proofs.Common.{List, ap, length, ◌∙◌, arith}
-use Rattle.elf32.specs.declared.image.Image.{Image}
 use Rattle.swapstore.specs.Memories.{sound_are_told, StoredIs}
-use Rattle.flatvm.specs.Boot.{boot_machine}
 use Rattle.commands.proofs.Hosting.{booted, booted_alone, booted_one}
 use Rattle.commands.proofs.hosted.boot_world.Goals as goal
 
@@ -17,7 +15,6 @@ returns-in-Ok-clause-alone c =
 pub returns-in-Ok-clause-machine : goal.returns-in-Ok-clause-machine
 returns-in-Ok-clause-machine c =
     (booted 1048576 c.in_ok-guests.guests.items _ c.in-Ok.world.tenants c.in_ok-guests.ensures.items c.in-Ok.ensures.booted).machine
-    ∙ ap (λ (i : Image). boot_machine i c.args.pages) c.in_ok-image.ensures.ok
 
 pub returns-in-Ok-clause-log : goal.returns-in-Ok-clause-log
 returns-in-Ok-clause-log c = (booted 1048576 c.in_ok-guests.guests.items _ c.in-Ok.world.tenants c.in_ok-guests.ensures.items c.in-Ok.ensures.booted).items

@@ -1,6 +1,6 @@
 use Rattle.std.proofs.Common.{◌∙◌, Err, ap, sym}
 use Rattle.guest.specs.Guests.{GuestIs}
-use Rattle.physmap.specs.Pages.{kind_at}
+use Rattle.guest_pages.specs.Pages.{kind_at}
 use Rattle.tenant.specs.Tenants.{TenantIs}
 use Rattle.commands.proofs.Hosting.{first_tenant, none_away}
 use Rattle.commands.proofs.hosted.read_bytes.Goals as goal

@@ -1,10 +1,10 @@
 use Rattle.std.proofs.Common.{List, ◌∙◌, ap, length, arith}
 use Rattle.std.proofs.lemmas.Result.{err_from_is_err_and}
-use Rattle.mips_step.proofs.OtherPages.{step_stays}
-use Rattle.mips_step.specs.Step.{Machine, step}
+use Rattle.machine.proofs.OtherPages.{step_stays}
+use Rattle.machine.specs.Step.{Machine, step}
 use Rattle.swapstore.specs.Memories.{MemoryIs, sound_are_told}
-use Rattle.physmap.specs.Holdings.{private_pages}
-use Rattle.physmap.specs.declared.page.Page.{Page}
+use Rattle.guest_pages.specs.Holdings.{private_pages}
+use Rattle.guest_pages.specs.declared.page.Page.{Page}
 use Rattle.tenant.specs.Tenants.{Stays}
 use Rattle.commands.specs.Hosted.{HostedIs, first_pages, hosted_of}
 use Rattle.commands.proofs.Hosting.{alone_after, done_then, few_kinds, its_need, lacking, lacking_still, need_then, not_full, one_left, pages_unmoved, refused_full, same_error, step_added, unmoved}
@@ -19,7 +19,7 @@ loop-world-preserved c =
     let same = unmoved ts ts' alone.one nothing c.step.ensures.stays in
     record {
       alone = alone_after c.supply.new.world c.step.new.self alone (one_left Stays ts ts' alone.one c.step.ensures.stays)
-          (ap (λ (m : Machine). length m.world.memory) same) c.step.ensures.around.frames (ap (λ (s : MemoryIs). length s.pages) c.step.ensures.around.store)
+          (ap (λ (m : Machine). length m.board.memory) same) c.step.ensures.around.frames (ap (λ (s : MemoryIs). length s.pages) c.step.ensures.around.store)
           (ap (λ (s : MemoryIs). s.damaged) c.step.ensures.around.store ∙ alone.sound);
       lacking = lacking_still ts ts' c.in-Need.next alone.one nothing
           (lacking _ _ _ _ _ _ _ ts c.in-Need.next _ alone.one (sound_are_told c.supply.new.world.store alone.sound) c.is_sound.ensures
@@ -50,7 +50,7 @@ returns-in-Done-clause-alone c =
     let alone = c.supply.ensures.alone in
     let made = step_added ts ts' alone.one (done_then _ c.in-Done.is c.in_ok-step.ensures.adds) c.step.ensures.stays in
     alone_after c.supply.new.world c.step.new.self alone (one_left Stays ts ts' alone.one c.step.ensures.stays)
-    (ap (λ (m : Machine). length m.world.memory) made ∙ (step_stays (hosted_of ts).machine 0).size) c.step.ensures.around.frames (ap (λ (s : MemoryIs). length s.pages) c.step.ensures.around.store)
+    (ap (λ (m : Machine). length m.board.memory) made ∙ (step_stays (hosted_of ts).machine 0).size) c.step.ensures.around.frames (ap (λ (s : MemoryIs). length s.pages) c.step.ensures.around.store)
     (ap (λ (s : MemoryIs). s.damaged) c.step.ensures.around.store ∙ alone.sound)
 
 pub returns-in-Done-clause-made : goal.returns-in-Done-clause-made
@@ -67,7 +67,7 @@ returns-in_err-step-clause-alone c =
     let alone = c.supply.ensures.alone in
     let same = unmoved ts ts' alone.one c.in_err-step.ensures.unchanged.0 c.step.ensures.stays in
     alone_after c.supply.new.world c.step.new.self alone (one_left Stays ts ts' alone.one c.step.ensures.stays)
-    (ap (λ (m : Machine). length m.world.memory) same) c.step.ensures.around.frames (ap (λ (s : MemoryIs). length s.pages) c.step.ensures.around.store)
+    (ap (λ (m : Machine). length m.board.memory) same) c.step.ensures.around.frames (ap (λ (s : MemoryIs). length s.pages) c.step.ensures.around.store)
     (ap (λ (s : MemoryIs). s.damaged) c.step.ensures.around.store ∙ alone.sound)
 
 pub returns-in_err-step-clause-stopped : goal.returns-in_err-step-clause-stopped

@@ -1,6 +1,6 @@
 use Rattle.std.proofs.Common.{◌≡◌, ◌-◌, length}
 use Rattle.guest_log.specs.Logs.{IsFull}
-use Rattle.physmap.specs.Holdings.{private_pages}
+use Rattle.guest_pages.specs.Holdings.{private_pages}
 use Rattle.commands.specs.Hosted.{first_pages, hosted_of, IsAlone, IsLacking}
 use Rattle.commands.proofs.hosted.step_supplied.Given as goal
 

@@ -23,7 +23,7 @@ returns-in-Ok-clause-alone c =
     let ts' = c.supply.new.self.tenants in
     let alone = c.requires.alone in
     alone_after c.args.world.now c.supply.new.self alone (one_left PagesMove ts ts' alone.one c.supply.ensures.moves)
-    (ap (λ (h : HostedIs). length h.machine.world.memory) (moved ts ts' alone.one c.supply.ensures.moves)) c.supply.ensures.around.frames c.supply.ensures.around.store.slots
+    (ap (λ (h : HostedIs). length h.machine.board.memory) (moved ts ts' alone.one c.supply.ensures.moves)) c.supply.ensures.around.frames c.supply.ensures.around.store.slots
     (c.supply.ensures.around.store.honest.1 alone.sound)
 
 pub returns-in-Ok-clause-same : goal.returns-in-Ok-clause-same

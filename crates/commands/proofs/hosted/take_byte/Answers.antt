@@ -1,5 +1,5 @@
 use Rattle.std.proofs.Common.{Err, refl, length, ap, ◌∙◌}
-use Rattle.mips_step.specs.Step.{Machine}
+use Rattle.machine.specs.Step.{Machine}
 use Rattle.swapstore.specs.Memories.{MemoryIs, sound_are_told}
 use Rattle.guest.specs.declared.refused.Refused.TheVariants as refused
 use Rattle.tenant.specs.Tenants.{Stays}
@@ -24,7 +24,7 @@ returns-in-Ok-clause-alone c =
     let ts' = c.input.new.self.tenants in
     let alone = c.requires.alone in
     alone_after c.args.world.now c.input.new.self alone (one_left Stays ts ts' alone.one c.input.ensures.stays)
-    (ap (λ (m : Machine). length m.world.memory) (added ts ts' _ alone.one c.in-Ok.ensures.adds c.input.ensures.stays))
+    (ap (λ (m : Machine). length m.board.memory) (added ts ts' _ alone.one c.in-Ok.ensures.adds c.input.ensures.stays))
     c.input.ensures.around.frames (ap (λ (s : MemoryIs). length s.pages) c.input.ensures.around.store)
     (ap (λ (s : MemoryIs). s.damaged) c.input.ensures.around.store ∙ alone.sound)
 
@@ -43,7 +43,7 @@ returns-in-Err-Stop-clause-alone c =
     let ts' = c.input.new.self.tenants in
     let alone = c.requires.alone in
     alone_after c.args.world.now c.input.new.self alone (one_left Stays ts ts' alone.one c.input.ensures.stays)
-    (ap (λ (m : Machine). length m.world.memory) (unmoved ts ts' alone.one c.in-Err-Stop.ensures.unchanged c.input.ensures.stays))
+    (ap (λ (m : Machine). length m.board.memory) (unmoved ts ts' alone.one c.in-Err-Stop.ensures.unchanged c.input.ensures.stays))
     c.input.ensures.around.frames (ap (λ (s : MemoryIs). length s.pages) c.input.ensures.around.store)
     (ap (λ (s : MemoryIs). s.damaged) c.input.ensures.around.store ∙ alone.sound)
 

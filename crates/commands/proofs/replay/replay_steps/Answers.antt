@@ -1,7 +1,7 @@
 use Rattle.std.proofs.Common.{List, sym, ap}
 use Rattle.items.specs.declared.item.Item.{Item}
 use Rattle.items.proofs.Runs.{steps_of-none}
-use Rattle.flatvm.specs.Items.{run}
+use Rattle.machine.specs.Items.{run}
 use Rattle.commands.proofs.Replaying.{steps_run, steps_accepted}
 use Rattle.commands.proofs.replay.replay_steps.Goals as goal
 

@@ -1,6 +1,6 @@
 use Rattle.std.proofs.Common.{◌≡◌}
 use Rattle.items.specs.Entries.{steps_of}
-use Rattle.flatvm.specs.Items.{run}
+use Rattle.machine.specs.Items.{run}
 use Rattle.commands.proofs.replay.replay_steps.Given as goal
 
 -- the steps so far are made

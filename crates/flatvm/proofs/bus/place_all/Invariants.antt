@@ -1,5 +1,5 @@
 use Rattle.std.proofs.Common.{◌≡◌, length, fold, drop}
-use Rattle.flatvm.specs.Boot.{placed}
+use Rattle.machine.specs.Boot.{placed}
 use Rattle.flatvm.proofs.bus.place_all.Given as goal
 
 -- what is left to place leads to the memory that is wanted

@@ -6,5 +6,5 @@ pub returns : goal.returns
 returns c =
     let b = c.args.bus.now in
     page_loaded b c.fill.new.self c.args.p (c.number.result * 4096) c.load_image_page.new.bytes _ c.sound.ensures.whole c.whole.ensures c.requires.settled c.fill.ensures.settled
-    c.requires.there c.requires.private c.fill.ensures.outline (ap (λ (n : ℕ). n * 4096) c.number.ensures.value) c.fill.ensures.world c.load_image_page.ensures.length
+    c.requires.there c.requires.private c.fill.ensures.outline (ap (λ (n : ℕ). n * 4096) c.number.ensures.value) c.fill.ensures.board c.load_image_page.ensures.length
     (c.load_image_page.ensures.bytes (length b.pages) c.requires.there c.requires.fits)

@@ -1,6 +1,6 @@
 use Rattle.std.proofs.Common.{◌≡◌, ℕ, ◌+◌, ◌*◌, ◌≤◌, All, List, length, drop}
 use Rattle.elf32.specs.Images.{IsWithin}
-use Rattle.mips_step.specs.World.{page_bytes}
+use Rattle.machine.specs.Board.{page_bytes}
 use Rattle.guest.proofs.BootPages.{Loads}
 use Rattle.guest.proofs.loading.load_segments.Given as goal
 

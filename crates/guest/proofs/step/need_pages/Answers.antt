@@ -1,8 +1,8 @@
 use Rattle.std.proofs.Common.{ap, ◌∙◌}
-use Rattle.mips_step.specs.Bus.{Lacks}
-use Rattle.mips_step.specs.Accesses.{accesses, first_lack}
-use Rattle.mips_step.specs.Step.{in_world}
-use Rattle.paged_bus.specs.Buses.{world_of}
+use Rattle.machine.specs.Bus.{Lacks}
+use Rattle.machine.specs.Accesses.{accesses, first_lack}
+use Rattle.machine.specs.Step.{machine_with}
+use Rattle.guest_bus.specs.Buses.{board_of}
 use Rattle.guest.proofs.Reaching.{need_inside}
 use Rattle.guest.proofs.Stepping.{same_lacks}
 use Rattle.guest.proofs.step.need_pages.Goals as goal
@@ -11,4 +11,4 @@ pub returns-clause-there : goal.returns-clause-there
 returns-clause-there c =
     let b = c.args.bus.now in
     need_inside c.args.cpu.now b c.need.result c.whole.ensures c.requires.settled
-    (c.need.ensures ∙ ap (λ (lacks : Lacks). first_lack lacks (accesses (in_world c.args.cpu.now (world_of b)))) (same_lacks b.pages))
+    (c.need.ensures ∙ ap (λ (lacks : Lacks). first_lack lacks (accesses (machine_with c.args.cpu.now (board_of b)))) (same_lacks b.pages))

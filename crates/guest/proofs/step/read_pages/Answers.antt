@@ -1,8 +1,8 @@
 use Rattle.std.proofs.Common.{length, subst, ◌∙◌}
-use Rattle.mips_step.specs.Bus.{Lacks}
-use Rattle.mips_step.specs.Step.{in_world}
-use Rattle.flatvm.specs.Replies.{EachPlace, CanLook}
-use Rattle.paged_bus.specs.Buses.{world_of}
+use Rattle.machine.specs.Bus.{Lacks}
+use Rattle.machine.specs.Step.{machine_with}
+use Rattle.machine.specs.Replies.{EachPlace, CanLook}
+use Rattle.guest_bus.specs.Buses.{board_of}
 use Rattle.guest.proofs.Looking.{read_same, none_same, some_place_same}
 use Rattle.guest.proofs.Stepping.{same_lacks}
 use Rattle.guest.proofs.step.read_pages.Goals as goal
@@ -12,7 +12,7 @@ returns-in-Ok-clause-read c = λ m s.
     let cpu = c.args.cpu.now in
     let b = c.args.bus.now in
     let count = length c.args.bytes.now in
-    let can = subst (λ (lacks : Lacks). EachPlace (in_world cpu (world_of b)) c.args.address count (CanLook lacks)) (same_lacks b.pages) c.in-Ok.ensures.there in
+    let can = subst (λ (lacks : Lacks). EachPlace (machine_with cpu (board_of b)) c.args.address count (CanLook lacks)) (same_lacks b.pages) c.in-Ok.ensures.there in
     read_same m cpu b c.whole.ensures c.requires.settled s c.args.address count can ∙ c.in-Ok.ensures.read
 
 pub returns-in-Ok-clause-no_place : goal.returns-in-Ok-clause-no_place

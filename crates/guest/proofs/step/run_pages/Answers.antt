@@ -1,11 +1,11 @@
 use Rattle.std.proofs.Common.{ℕ, ◌≡◌, ◌+◌, ◌<◌, Some, None, sym, subst, ◌∙◌, arith}
 use Rattle.items.specs.Entries.{steps_of}
-use Rattle.mips_step.specs.Processor.{Processor}
-use Rattle.mips_step.specs.Step.{Machine, in_world}
-use Rattle.flatvm.specs.Items.{run}
-use Rattle.flatvm.proofs.Given.{run_zeros}
-use Rattle.paging.specs.Faith.{Kept}
-use Rattle.paged_bus.specs.Buses.{PagedBusIs, world_of}
+use Rattle.machine.specs.Processor.{Processor}
+use Rattle.machine.specs.Step.{Machine, machine_with}
+use Rattle.machine.specs.Items.{run}
+use Rattle.machine.proofs.GivenPages.{run_zeros}
+use Rattle.page_moves.specs.Faith.{Kept}
+use Rattle.guest_bus.specs.Buses.{GuestBusIs, board_of}
 use Rattle.guest.specs.Guests.{last_given, HasPaused}
 use Rattle.guest.specs.Views.{pages_seen, Shows}
 use Rattle.guest.proofs.Pausing.{gone_lacking, gone_given, gone_paused, pause_lacking, pause_given, pause_paused}
@@ -55,7 +55,7 @@ returns-then-made-count-clause-paused c = λ seat.
     let told = c.run_quietly-made.ensures in
     let gone = gone_further c.args.cpu.now c.loop-made.cpu c.run_quietly-made.new.cpu c.args.bus.now c.loop-made.bus c.run_quietly-made.new.bus c.loop-made.made c.run_quietly-made.result
     c.loop-made.invariant.gone (record { shows = told.shows; kept = told.kept; moves = told.moves; quiet = told.quiet; same = told.same; settled = told.settled; at_first = told.unchanged }) in
-    subst (λ (n : ℕ). HasPaused (last_given seat n (in_world c.args.cpu.now (world_of c.args.bus.now))) c.args.bus.now.pages None c.run_quietly-made.new.bus.pages) c.if-made-count.true
+    subst (λ (n : ℕ). HasPaused (last_given seat n (machine_with c.args.cpu.now (board_of c.args.bus.now))) c.args.bus.now.pages None c.run_quietly-made.new.bus.pages) c.if-made-count.true
     (gone_paused c.args.cpu.now c.run_quietly-made.new.cpu c.args.bus.now c.run_quietly-made.new.bus (c.loop-made.made + c.run_quietly-made.result) gone seat)
 
 pub returns-in-Some-clause-shows : goal.returns-in-Some-clause-shows
@@ -68,7 +68,7 @@ returns-in-Some-clause-shows c = λ seat m zeros s.
     let shows = gone.shows seat m zeros s in
     let zeros_now = run_zeros (steps_of seat (c.loop-made.made + c.run_quietly-made.result)) m zeros in
     subst (λ (steps : ℕ). Shows (run (steps_of seat (c.loop-made.made + c.run_quietly-made.result + steps)) m) c.step_or_pause.new.cpu c.step_or_pause.new.bus) (sym c.steps.ensures)
-    (at_pause (λ (n : Machine) (cpu : Processor) (bus : PagedBusIs). Shows n cpu bus) seat (c.loop-made.made + c.run_quietly-made.result) m c.run_quietly-made.new.cpu
+    (at_pause (λ (n : Machine) (cpu : Processor) (bus : GuestBusIs). Shows n cpu bus) seat (c.loop-made.made + c.run_quietly-made.result) m c.run_quietly-made.new.cpu
     c.step_or_pause.new.cpu c.run_quietly-made.new.bus c.step_or_pause.new.bus c.in-Some.pause (λ is. paused.shows is now zeros_now shows) paused.unchanged shows)
 
 pub returns-in-Some-clause-kept : goal.returns-in-Some-clause-kept
@@ -82,7 +82,7 @@ returns-in-Some-clause-kept c = λ seat m zeros s held k.
     let zeros_now = run_zeros (steps_of seat (c.loop-made.made + c.run_quietly-made.result)) m zeros in
     let kept = gone.kept seat m zeros s held k in
     subst (λ (steps : ℕ). Kept held (pages_seen (run (steps_of seat (c.loop-made.made + c.run_quietly-made.result + steps)) m)) c.step_or_pause.new.bus.pages) (sym c.steps.ensures)
-    (at_pause (λ (n : Machine) (cpu : Processor) (bus : PagedBusIs). Kept held (pages_seen n) bus.pages) seat (c.loop-made.made + c.run_quietly-made.result) m
+    (at_pause (λ (n : Machine) (cpu : Processor) (bus : GuestBusIs). Kept held (pages_seen n) bus.pages) seat (c.loop-made.made + c.run_quietly-made.result) m
     c.run_quietly-made.new.cpu c.step_or_pause.new.cpu c.run_quietly-made.new.bus c.step_or_pause.new.bus c.in-Some.pause
     (λ is. paused.kept is now zeros_now shows held kept) paused.unchanged kept)
 
@@ -113,7 +113,7 @@ returns-in-Some-clause-paused c = λ seat.
     let gone = gone_further c.args.cpu.now c.loop-made.cpu c.run_quietly-made.new.cpu c.args.bus.now c.loop-made.bus c.run_quietly-made.new.bus c.loop-made.made c.run_quietly-made.result
     c.loop-made.invariant.gone (record { shows = told.shows; kept = told.kept; moves = told.moves; quiet = told.quiet; same = told.same; settled = told.settled; at_first = told.unchanged }) in
     let made = c.loop-made.made + c.run_quietly-made.result in
-    subst (λ (n : ℕ). HasPaused (last_given seat (made + n) (in_world c.args.cpu.now (world_of c.args.bus.now))) c.args.bus.now.pages (Some c.in-Some.pause) c.step_or_pause.new.bus.pages) (sym c.steps.ensures)
+    subst (λ (n : ℕ). HasPaused (last_given seat (made + n) (machine_with c.args.cpu.now (board_of c.args.bus.now))) c.args.bus.now.pages (Some c.in-Some.pause) c.step_or_pause.new.bus.pages) (sym c.steps.ensures)
     (pause_paused c.args.cpu.now c.run_quietly-made.new.cpu c.args.bus.now c.run_quietly-made.new.bus (c.loop-made.made + c.run_quietly-made.result) gone
     c.step_or_pause.new.cpu c.step_or_pause.new.bus c.in-Some.pause c.in-Some.ensures.paused c.in-Some.ensures.unchanged seat)
 
@@ -164,7 +164,7 @@ returns-clause-gives_last c = λ seat k below.
 pub returns-clause-paused : goal.returns-clause-paused
 returns-clause-paused c = λ seat.
     let all : c.loop-made.made ≡ c.args.count = omega (arith, c.loop-made-test.false, c.loop-made.invariant.few) in
-    subst (λ (n : ℕ). HasPaused (last_given seat n (in_world c.args.cpu.now (world_of c.args.bus.now))) c.args.bus.now.pages None c.loop-made.bus.pages) all
+    subst (λ (n : ℕ). HasPaused (last_given seat n (machine_with c.args.cpu.now (board_of c.args.bus.now))) c.args.bus.now.pages None c.loop-made.bus.pages) all
     (gone_paused c.args.cpu.now c.loop-made.cpu c.args.bus.now c.loop-made.bus c.loop-made.made c.loop-made.invariant.gone seat)
 
 pub returns-clause-unchanged : goal.returns-clause-unchanged

@@ -1,9 +1,9 @@
 use Rattle.std.proofs.Common.{ap, ◌∙◌, subst}
-use Rattle.mips_step.specs.Bus.{Lacks}
-use Rattle.mips_step.specs.Step.{Machine, in_world}
-use Rattle.paged_bus.specs.Buses.{world_of}
-use Rattle.paged_bus.proofs.Same.{same_buses}
-use Rattle.mips_run.specs.Runs.{steps, AreQuiet}
+use Rattle.machine.specs.Bus.{Lacks}
+use Rattle.machine.specs.Step.{Machine, machine_with}
+use Rattle.guest_bus.specs.Buses.{board_of}
+use Rattle.guest_bus.proofs.Same.{same_buses}
+use Rattle.mips_fast.specs.Runs.{steps, AreQuiet}
 use Rattle.guest.proofs.Quiet.{quiet_shows, quiet_kept}
 use Rattle.guest.proofs.Stepping.{same_lacks}
 use Rattle.guest.proofs.step.run_quietly.Goals as goal
@@ -23,11 +23,11 @@ returns-clause-kept c = λ seat m zeros s held k.
 pub returns-clause-unchanged : goal.returns-clause-unchanged
 returns-clause-unchanged c = λ none.
     let told = c.run-made.ensures in
-    let same = told.moves ∙ ap (λ n. steps n (in_world c.args.cpu.now (world_of c.args.bus.now))) none in (
+    let same = told.moves ∙ ap (λ n. steps n (machine_with c.args.cpu.now (board_of c.args.bus.now))) none in (
       ap (λ (m : Machine). m.cpu) same,
-      same_buses c.run-made.new.bus c.args.bus.now c.whole-2.ensures c.whole.ensures told.settled c.requires.settled told.kept (ap (λ (m : Machine). m.world) same),
+      same_buses c.run-made.new.bus c.args.bus.now c.whole-2.ensures c.whole.ensures told.settled c.requires.settled told.kept (ap (λ (m : Machine). m.board) same),
     )
 
 pub returns-clause-quiet : goal.returns-clause-quiet
 returns-clause-quiet c =
-    subst (λ (lacks : Lacks). AreQuiet lacks c.run-made.result (in_world c.args.cpu.now (world_of c.args.bus.now))) (same_lacks c.args.bus.now.pages) c.run-made.ensures.quiet
+    subst (λ (lacks : Lacks). AreQuiet lacks c.run-made.result (machine_with c.args.cpu.now (board_of c.args.bus.now))) (same_lacks c.args.bus.now.pages) c.run-made.ensures.quiet

@@ -1,6 +1,6 @@
 use Rattle.std.proofs.Common.{ap, sym, ◌∙◌}
-use Rattle.physmap.specs.Holdings.{tickets_held}
-use Rattle.physmap.proofs.Outlines.{outline_tickets}
+use Rattle.guest_pages.specs.Holdings.{tickets_held}
+use Rattle.guest_pages.proofs.Outlines.{outline_tickets}
 use Rattle.guest.proofs.tests.refusal.Goals as goal
 
 pub returns-in-Ok-clause-tickets : goal.returns-in-Ok-clause-tickets

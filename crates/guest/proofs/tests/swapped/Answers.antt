@@ -1,5 +1,5 @@
 use Rattle.std.proofs.Common.{ℕ, ◌≡◌, subst, sym}
-use Rattle.physmap.specs.Holdings.{tickets_held}
+use Rattle.guest_pages.specs.Holdings.{tickets_held}
 use Rattle.guest.specs.Guests.{GuestIs}
 use Rattle.guest.proofs.tests.swapped.Goals as goal
 

@@ -1,9 +1,9 @@
 use Rattle.std.proofs.Common.{List, length, map, replicate, refl, sym, subst, ap, ◌∙◌}
 use Rattle.frames.specs.Counts.{below}
-use Rattle.physmap.specs.declared.page.Page.{Page}
-use Rattle.physmap.specs.declared.page.Page.TheVariants as page
-use Rattle.paging.specs.Books.{Books}
-use Rattle.paging.proofs.OneOwner.{begun}
+use Rattle.guest_pages.specs.declared.page.Page.{Page}
+use Rattle.guest_pages.specs.declared.page.Page.TheVariants as page
+use Rattle.page_moves.specs.Books.{Books}
+use Rattle.page_moves.proofs.OneOwner.{begun}
 use Rattle.host_policy.proofs.policy_tests.started.Goals as goal
 
 pub new-requires-clause-exact : goal.new-requires-clause-exact

@@ -1,4 +1,4 @@
-use Rattle.physmap.specs.Pages.{page_at, shown}
+use Rattle.guest_pages.specs.Pages.{page_at, shown}
 use Rattle.lent_pages.proofs.noting.note_written.Given as goal
 
 abbrev pub ghosts-note_as : goal.ghosts-note_as

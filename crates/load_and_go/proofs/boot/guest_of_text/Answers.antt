@@ -1,6 +1,6 @@
 use Rattle.std.proofs.Common.{ap}
 use Rattle.elf32.specs.declared.image.Image.{Image}
-use Rattle.flatvm.specs.Boot.{boot_machine}
+use Rattle.machine.specs.Boot.{boot_machine}
 use Rattle.load_and_go.proofs.Told.{held_by}
 use Rattle.load_and_go.proofs.boot.guest_of_text.Goals as goal
 

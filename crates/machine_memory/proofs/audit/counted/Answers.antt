@@ -1,6 +1,6 @@
 use Rattle.std.proofs.Common.{arith, ap, ◌∙◌}
 use Rattle.std.specs.List.{sum_by}
-use Rattle.physmap.specs.Holdings.{private_pages, shared_pages, swapped_pages}
+use Rattle.guest_pages.specs.Holdings.{private_pages, shared_pages, swapped_pages}
 use Rattle.machine_memory.specs.Gathered.{GatheredIs}
 use Rattle.machine_memory.proofs.Auditing.{few_frames, is_count}
 use Rattle.machine_memory.proofs.audit.counted.Goals as goal

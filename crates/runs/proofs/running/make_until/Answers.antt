@@ -1,5 +1,5 @@
 use Rattle.std.proofs.Common.{◌≡◌, ◌∙◌, ap, sym, None, ℕ, rules, arith}
-use Rattle.mips_step.specs.Step.{Machine, step}
+use Rattle.machine.specs.Step.{Machine, step}
 use Rattle.runs.specs.Endings.{step_ending}
 use Rattle.runs.specs.Runs.{after_steps}
 use Rattle.runs.proofs.Ends.{ends_next, none_more, one_more}

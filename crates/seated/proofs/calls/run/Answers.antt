@@ -1,9 +1,9 @@
 use Rattle.std.proofs.Common.{arith, ◌≡◌, List, sym, ap, ◌∙◌, subst}
 use Rattle.items.specs.declared.item.Item.{Item}
 use Rattle.items.specs.Entries.{steps_of}
-use Rattle.loghead.specs.Heads.{SeatIs}
-use Rattle.loghead.specs.Legal.{Legal}
-use Rattle.paging.specs.Faith.{Kept}
+use Rattle.log_seats.specs.Heads.{SeatIs}
+use Rattle.log_seats.specs.Legal.{Legal}
+use Rattle.page_moves.specs.Faith.{Kept}
 use Rattle.guest.specs.Guests.{GuestIs, view_of}
 use Rattle.guest.specs.Views.{pages_seen}
 use Rattle.seated.specs.Acts.{Acts}

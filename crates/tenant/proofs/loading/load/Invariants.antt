@@ -1,6 +1,6 @@
 use Rattle.std.proofs.Common.{◌≡◌, ◌↔◌, ◌+◌, ◌≤◌, [], length}
 use Rattle.sharetab.specs.Entries.{EntriesAre}
-use Rattle.paging.specs.Moves.{Conserves, Reads}
+use Rattle.page_moves.specs.Moves.{Conserves, Reads}
 use Rattle.tenant.specs.Lent.{UsedStay}
 use Rattle.tenant.specs.Loading.{AreUntouched, AreLoaded, FramesFirst, SlotsRise, NonePrivate}
 use Rattle.guest.specs.Guests.{without_pages}

@@ -1,7 +1,7 @@
 use Rattle.std.proofs.Common.{ℕ, length, refl, ap}
 use Rattle.word32.specs.Zeros.{zeros}
 use Rattle.frames.specs.Frames.{FrameIs}
-use Rattle.physmap.specs.Pages.{page_at, own_frame}
+use Rattle.guest_pages.specs.Pages.{page_at, own_frame}
 use Rattle.tenant.specs.Loading.{boot_page}
 use Rattle.tenant.proofs.Booting.{loaded_conserves, loaded_page, supplied_length}
 use Rattle.tenant.proofs.loading.load_in_frame.Goals as goal

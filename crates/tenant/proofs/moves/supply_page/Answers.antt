@@ -1,6 +1,6 @@
 use Rattle.std.proofs.Common.{◌≡◌, sym, ◌∙◌}
-use Rattle.physmap.specs.declared.page.PageKind.TheVariants.{Swapped}
-use Rattle.physmap.specs.Pages.{page_at, kind_at, slot_of}
+use Rattle.guest_pages.specs.declared.page.PageKind.TheVariants.{Swapped}
+use Rattle.guest_pages.specs.Pages.{page_at, kind_at, slot_of}
 use Rattle.swapstore.specs.Failures.{one_more}
 use Rattle.tenant.proofs.Moving.{never_damaged}
 use Rattle.tenant.proofs.moves.supply_page.Goals as goal

@@ -1,7 +1,7 @@
 use Rattle.std.proofs.Common.{◌≡◌, subst}
-use Rattle.mips_step.specs.Accesses.{accesses, first_lack}
-use Rattle.mips_step.specs.Given.{step_given}
-use Rattle.paged_bus.specs.Lacking.{lacks_in}
+use Rattle.machine.specs.Accesses.{accesses, first_lack}
+use Rattle.machine.specs.Given.{step_given}
+use Rattle.guest_bus.specs.Lacking.{lacks_in}
 use Rattle.guest.specs.declared.stepped.Stepped.{Stepped}
 use Rattle.guest.specs.Guests.{need_of, standing, view_of, HandsBack}
 use Rattle.tenant.specs.Tenants.{pages_in}

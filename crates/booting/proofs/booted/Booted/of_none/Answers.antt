@@ -1,8 +1,8 @@
 use Rattle.std.proofs.Common.{ℕ, ◌≡◌, [], sym, subst}
 use Rattle.frames.specs.Counts.{below, count_of}
 use Rattle.sharetab.specs.Entries.{EntriesAre}
-use Rattle.paging.specs.Books.{Books}
-use Rattle.paging.proofs.Starting.{books_of_nothing}
+use Rattle.page_moves.specs.Books.{Books}
+use Rattle.page_moves.proofs.Starting.{books_of_nothing}
 use Rattle.booting.proofs.booted.Booted.of_none.Goals as goal
 
 pub returns-clause-exact : goal.returns-clause-exact

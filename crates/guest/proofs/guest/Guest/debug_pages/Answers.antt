@@ -1,5 +1,5 @@
 use Rattle.std.proofs.Common.{ℕ, ◌≡◌, ◌↔◌, ◌⊎◌, IfSome, subst}
-use Rattle.flatvm.specs.Replies.{SomePlaceIn}
+use Rattle.machine.specs.Replies.{SomePlaceIn}
 use Rattle.guest.specs.Guests.{GuestIs, standing}
 use Rattle.guest.proofs.guest.Guest.debug_pages.Goals as goal
 

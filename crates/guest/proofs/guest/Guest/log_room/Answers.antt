@@ -1,6 +1,6 @@
 use Rattle.std.proofs.Common.{ℕ, List, Option, refl, subst}
-use Rattle.flatvm.specs.Boot.{boot_machine}
-use Rattle.paging.specs.Faith.{Kept}
+use Rattle.machine.specs.Boot.{boot_machine}
+use Rattle.page_moves.specs.Faith.{Kept}
 use Rattle.guest.specs.Guests.{GuestIs, guest_of, view_of, LogsOnly, Intact}
 use Rattle.guest.specs.Views.{pages_seen}
 use Rattle.guest.proofs.Keeping.{roomy_intact, roomy_kept}
@@ -10,7 +10,7 @@ pub returns-clause-intact : goal.returns-clause-intact
 returns-clause-intact c =
     let g = c.self.inside in
     let boot = boot_machine g.image.value g.pages in
-    let now = guest_of g.cpu g.bus boot g.journal in
+    let now = guest_of g.cpu g.bus boot g.owned_log in
     let after = guest_of g.cpu g.bus boot c.make_room.new.self in
     let told = c.make_room.ensures in
     let only : LogsOnly now after = record { cpu = refl; bus = refl; boot = refl; head = told.head.0; seats = told.head.1 } in
@@ -20,7 +20,7 @@ pub returns-clause-kept : goal.returns-clause-kept
 returns-clause-kept c =
     let g = c.self.inside in
     let boot = boot_machine g.image.value g.pages in
-    let now = guest_of g.cpu g.bus boot g.journal in
+    let now = guest_of g.cpu g.bus boot g.owned_log in
     let after = guest_of g.cpu g.bus boot c.make_room.new.self in
     let told = c.make_room.ensures in
     let only : LogsOnly now after = record { cpu = refl; bus = refl; boot = refl; head = told.head.0; seats = told.head.1 } in

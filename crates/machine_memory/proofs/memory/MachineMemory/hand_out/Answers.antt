@@ -1,5 +1,5 @@
 use Rattle.std.proofs.Common.{◌<◌, length, arith, ap, ◌∙◌, refl, map}
-use Rattle.physmap.specs.Outline.{outline}
+use Rattle.guest_pages.specs.Outline.{outline}
 use Rattle.accounts.specs.declared.account.Account.TheVariants.{Guest, Frame}
 use Rattle.shared_pool.specs.Pools.{PassIs}
 use Rattle.machine_memory.specs.declared.stake.Stake.{Stake}

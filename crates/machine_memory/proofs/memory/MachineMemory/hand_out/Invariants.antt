@@ -1,5 +1,5 @@
 use Rattle.std.proofs.Common.{◌≡◌, ◌+◌, ◌<◌, ◌++◌, length, map, take, drop, vec_len, vec_capacity}
-use Rattle.physmap.specs.Outline.{outline}
+use Rattle.guest_pages.specs.Outline.{outline}
 use Rattle.accounts.specs.declared.account.Account.TheVariants.{Guest, Frame}
 use Rattle.machine_memory.specs.Dealt.{guest_part, Each, IsFound}
 use Rattle.machine_memory.specs.Memories.{IsPassOf, AreLevel}

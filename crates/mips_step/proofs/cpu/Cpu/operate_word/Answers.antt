@@ -1,17 +1,17 @@
 use Rattle.std.proofs.Common.{Some, sym, ap, ◌∙◌}
-use Rattle.mips_step.specs.Operations.{Operation, word_operation}
-use Rattle.mips_step.specs.Step.{in_world, performed}
-use Rattle.mips_step.proofs.Operations.{performed_operation, word_reads}
+use Rattle.machine.specs.Operations.{Operation, word_operation}
+use Rattle.machine.specs.Step.{machine_with, performed}
+use Rattle.machine.proofs.Operations.{performed_operation, word_reads}
 use Rattle.mips_step.proofs.cpu.Cpu.operate_word.Goals as goal
 
--- the operation is done on the processor that has ticked, in the world that was fetched from
+-- the operation is done on the processor that has ticked, with the board that was fetched from
 pub returns-in-Some-clause-moves : goal.returns-in-Some-clause-moves
 returns-in-Some-clause-moves g c =
     let word = c.args.word in
     let instr = c.in-Some.instr in
     let cpu = c.begin.new.self in
-    let world = g.B.PhysBus.world c.begin.new.bus in
-    let done = performed_operation instr c.lines.result cpu c.operate.new.self world c.in-Some.ensures.operation c.lines.ensures c.operate.ensures in
+    let board = g.B.PhysBus.board c.begin.new.bus in
+    let done = performed_operation instr c.lines.result cpu c.operate.new.self board c.in-Some.ensures.operation c.lines.ensures c.operate.ensures in
     done
-    ∙ ap (λ (o : Operation). performed o (in_world cpu world)) (sym (word_reads word (Some instr) c.in-Some.ensures.value))
-    ∙ (λ i. performed (word_operation word) (in_world (c.begin.ensures.cpu i) (c.begin.ensures.world i)))
+    ∙ ap (λ (o : Operation). performed o (machine_with cpu board)) (sym (word_reads word (Some instr) c.in-Some.ensures.value))
+    ∙ (λ i. performed (word_operation word) (machine_with (c.begin.ensures.cpu i) (c.begin.ensures.board i)))

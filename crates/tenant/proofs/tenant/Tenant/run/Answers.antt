@@ -2,13 +2,13 @@ use Rattle.std.proofs.Common.{◌≡◌, ◌++◌, ℕ, ◌+◌, ◌<◌, ◌∙
 use Rattle.std.proofs.lemmas.Bool.{cases_lt}
 use Rattle.items.specs.declared.item.Item.{Item}
 use Rattle.items.specs.Entries.{steps_of}
-use Rattle.mips_step.specs.Processor.{Processor}
-use Rattle.mips_step.specs.Step.{Machine, in_world}
-use Rattle.mips_step.specs.Accesses.{accesses, first_lack}
-use Rattle.mips_step.specs.Given.{step_given}
-use Rattle.flatvm.specs.Items.{run}
-use Rattle.paged_bus.specs.Buses.{PagedBusIs, world_of}
-use Rattle.paged_bus.specs.Lacking.{lacks_in}
+use Rattle.machine.specs.Processor.{Processor}
+use Rattle.machine.specs.Step.{Machine, machine_with}
+use Rattle.machine.specs.Accesses.{accesses, first_lack}
+use Rattle.machine.specs.Given.{step_given}
+use Rattle.machine.specs.Items.{run}
+use Rattle.guest_bus.specs.Buses.{GuestBusIs, board_of}
+use Rattle.guest_bus.specs.Lacking.{lacks_in}
 use Rattle.items.proofs.Runs.{steps_of-none}
 use Rattle.guest.specs.Guests.{GuestIs, view_of, standing, last_given, HasPaused}
 use Rattle.tenant.specs.Tenants.{TenantIs, pages_in, IsKept}
@@ -45,7 +45,7 @@ returns-clause-quiet c = λ held.
     subst (λ (t : TenantIs). IsKept held t → (k : ℕ) → k < steps → first_lack (lacks_in (pages_in t)) (accesses (run (steps_of 0 k) (view_of t.guest))) ≡ None) c.self.view_is
     (λ (k : IsKept held old).
     let before : IsKept held roomy = still_kept held old roomy c.log_room.ensures.unchanged c.log_room.ensures.taken.items k in
-    seat_was_so (λ (seat : ℕ) (cpu : Processor) (b : PagedBusIs) (m : Machine) (xs : List Item). (k : ℕ) → k < steps → first_lack (lacks_in b.pages) (accesses (run (steps_of seat k) (run xs m))) ≡ None) c.self.inside.guest c.log_room.new.self c.self.inside.seats.runner.number c.log_room.ensures.unchanged c.log_room.ensures.taken.items c.self.invariant.0.runner.its_number
+    seat_was_so (λ (seat : ℕ) (cpu : Processor) (b : GuestBusIs) (m : Machine) (xs : List Item). (k : ℕ) → k < steps → first_lack (lacks_in b.pages) (accesses (run (steps_of seat k) (run xs m))) ≡ None) c.self.inside.guest c.log_room.new.self c.self.inside.seats.runner.number c.log_room.ensures.unchanged c.log_room.ensures.taken.items c.self.invariant.0.runner.its_number
     (c.run.ensures.quiet before.intact))
 
 pub returns-clause-gives_last : goal.returns-clause-gives_last
@@ -56,7 +56,7 @@ returns-clause-gives_last c = λ held.
     subst (λ (t : TenantIs). IsKept held t → (k : ℕ) → k + 1 < steps → step_given (run (steps_of 0 k) (view_of t.guest)) ≡ None) c.self.view_is
     (λ (k : IsKept held old).
     let before : IsKept held roomy = still_kept held old roomy c.log_room.ensures.unchanged c.log_room.ensures.taken.items k in
-    seat_was_so (λ (seat : ℕ) (cpu : Processor) (b : PagedBusIs) (m : Machine) (xs : List Item). (k : ℕ) → k + 1 < steps → step_given (run (steps_of seat k) (run xs m)) ≡ None) c.self.inside.guest c.log_room.new.self c.self.inside.seats.runner.number c.log_room.ensures.unchanged c.log_room.ensures.taken.items c.self.invariant.0.runner.its_number
+    seat_was_so (λ (seat : ℕ) (cpu : Processor) (b : GuestBusIs) (m : Machine) (xs : List Item). (k : ℕ) → k + 1 < steps → step_given (run (steps_of seat k) (run xs m)) ≡ None) c.self.inside.guest c.log_room.new.self c.self.inside.seats.runner.number c.log_room.ensures.unchanged c.log_room.ensures.taken.items c.self.invariant.0.runner.its_number
     (c.run.ensures.gives_last before.intact))
 
 pub returns-clause-given : goal.returns-clause-given
@@ -67,12 +67,12 @@ returns-clause-given c = λ held.
     subst (λ (t : TenantIs). IsKept held t → last_given 0 steps (standing t.guest) ≡ last_given 0 steps (view_of t.guest)) c.self.view_is
     (λ (k : IsKept held old).
     let before : IsKept held roomy = still_kept held old roomy c.log_room.ensures.unchanged c.log_room.ensures.taken.items k in
-    seat_was_so (λ (seat : ℕ) (cpu : Processor) (b : PagedBusIs) (m : Machine) (xs : List Item). last_given seat steps (in_world cpu (world_of b)) ≡ last_given seat steps (run xs m)) c.self.inside.guest c.log_room.new.self c.self.inside.seats.runner.number c.log_room.ensures.unchanged c.log_room.ensures.taken.items c.self.invariant.0.runner.its_number
+    seat_was_so (λ (seat : ℕ) (cpu : Processor) (b : GuestBusIs) (m : Machine) (xs : List Item). last_given seat steps (machine_with cpu (board_of b)) ≡ last_given seat steps (run xs m)) c.self.inside.guest c.log_room.new.self c.self.inside.seats.runner.number c.log_room.ensures.unchanged c.log_room.ensures.taken.items c.self.invariant.0.runner.its_number
     (c.run.ensures.given before.intact))
 
 pub returns-clause-paused : goal.returns-clause-paused
 returns-clause-paused c =
     let steps = c.run.result.steps in
     subst (λ (t : TenantIs). HasPaused (last_given 0 steps (standing t.guest)) (pages_in t) c.run.result.pause c.run.new.self.bus.pages) c.self.view_is
-    (seat_was_so (λ (seat : ℕ) (cpu : Processor) (b : PagedBusIs) (m : Machine) (xs : List Item). HasPaused (last_given seat steps (in_world cpu (world_of b))) b.pages c.run.result.pause c.run.new.self.bus.pages)
+    (seat_was_so (λ (seat : ℕ) (cpu : Processor) (b : GuestBusIs) (m : Machine) (xs : List Item). HasPaused (last_given seat steps (machine_with cpu (board_of b))) b.pages c.run.result.pause c.run.new.self.bus.pages)
     c.self.inside.guest c.log_room.new.self c.self.inside.seats.runner.number c.log_room.ensures.unchanged c.log_room.ensures.taken.items c.self.invariant.0.runner.its_number c.run.ensures.paused)

@@ -1,6 +1,6 @@
 use Rattle.std.proofs.Common.{List, map, sum_by, sym, ap, ◌∙◌, arith}
 use Rattle.world.proofs.All.{TenantIs, WorldIs, pages_in, private_pages, shared_pages, ticket_count}
-use Rattle.paging.proofs.Totals.{frames_add_up, slots_out_add_up, tickets_add_up}
+use Rattle.page_moves.proofs.Totals.{frames_add_up, slots_out_add_up, tickets_add_up}
 use Rattle.world.proofs.world.World.books.Goals as goal
 
 pub overflow_cast-result : goal.overflow_cast-result

@@ -1,5 +1,5 @@
 use Rattle.std.proofs.Common.{ℕ, ◌≡◌, List, map, sym, ap, subst, ◌∙◌}
-use Rattle.physmap.specs.declared.page.Page.{Page}
+use Rattle.guest_pages.specs.declared.page.Page.{Page}
 use Rattle.booting.specs.Boots.{AreAtBoot}
 use Rattle.world.specs.All.{AreBooted, Books, FramesComeFirst, IsAdmitted, NewGuest, SlotsComeInOrder, TenantIs, pages_in}
 use Rattle.world.proofs.Booting.{booted_admitted, seated_kept, seated_pages}

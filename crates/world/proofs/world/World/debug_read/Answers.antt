@@ -1,6 +1,6 @@
 use Rattle.std.proofs.Common.{◌≡◌, Err, Some, None, get_or, length, refl, sym, ap, subst, ◌∙◌}
 use Rattle.world.proofs.All.{GuestIs, Intact, Machine, SomePlaceIn, bytes_at, guest_of, kept_of, kind_at, pages_in, standing, still_inside, view_of}
-use Rattle.physmap.specs.declared.page.PageKind.TheVariants.{Swapped}
+use Rattle.guest_pages.specs.declared.page.PageKind.TheVariants.{Swapped}
 use Rattle.world.proofs.Reached.{not_away}
 use Rattle.world.proofs.Runs.{moved_same}
 use Rattle.world.proofs.world.World.debug_read.Goals as goal

@@ -1,5 +1,5 @@
 use Rattle.std.proofs.Common.{ℕ, ◌≡◌, ◌++◌, get_or, refl, ap, subst, ◌∙◌, arith}
-use Rattle.world.proofs.All.{NoneNeeds, PagedBusIs, around_books, log_at, moment_of, pages_at, same_logs, steps_for, steps_logs, view_at}
+use Rattle.world.proofs.All.{NoneNeeds, GuestBusIs, around_books, log_at, moment_of, pages_at, same_logs, steps_for, steps_logs, view_at}
 use Rattle.world.proofs.Choices.{booked_where}
 use Rattle.world.proofs.Runs.{steps_none}
 use Rattle.world.proofs.Unsupplied.{view_moves, no_steps}
@@ -23,7 +23,7 @@ returns-in-Err-clause-none g c = λ words.
       words = refl;
       logs = λ h. same_logs c.args.g w.tenants w'.tenants c.requires.guest c.in-Err.ensures.unchanged.0 h ∙ steps_none h c.args.g (log_at w.tenants h);
       stays = e.stays;
-      needs_none = λ trust t. no_steps (view_at w c.args.g t) (pages_at w c.args.g t) (pages_at w' c.args.g t) (ap (λ (b : PagedBusIs). b.pages) (c.in-Err.ensures.unchanged.0.so t).bus);
+      needs_none = λ trust t. no_steps (view_at w c.args.g t) (pages_at w c.args.g t) (pages_at w' c.args.g t) (ap (λ (b : GuestBusIs). b.pages) (c.in-Err.ensures.unchanged.0.so t).bus);
       booked = booked_where {facts = s} (around_books e.around) (moment_of words w') c.is_sound.ensures.books;
     }
 

@@ -1,5 +1,5 @@
 use Rattle.std.proofs.Common.{◌∙◌, Err, ap, refl, sym, subst, arith}
-use Rattle.world.proofs.All.{Machine, NoneNeeds, PagedBusIs, books_then, log_at, pages_at, same_boots, same_logs, view_at}
+use Rattle.world.proofs.All.{Machine, NoneNeeds, GuestBusIs, books_then, log_at, pages_at, same_boots, same_logs, view_at}
 use Rattle.guest.proofs.Running.{no_step}
 use Rattle.world.proofs.Runs.{stays_there, steps_join, steps_none, stays_none, stays_then}
 use Rattle.world.proofs.Unsupplied.{no_steps, then_more, same_places, view_on}
@@ -44,7 +44,7 @@ pub returns-in-Err-clause-needs_none : goal.returns-in-Err-clause-needs_none
 returns-in-Err-clause-needs_none g c = λ trust t.
     let at = c.loop-made in
     same_places at.made (view_at c.args.self.now c.args.g t) (pages_at c.args.self.now c.args.g t) (pages_at at.self c.args.g t) (pages_at c.some_steps.new.self c.args.g t)
-    (at.invariant.needs_none trust t) (ap (λ (b : PagedBusIs). b.pages) (c.in-Err.ensures.nothing.0.so t).bus)
+    (at.invariant.needs_none trust t) (ap (λ (b : GuestBusIs). b.pages) (c.in-Err.ensures.nothing.0.so t).bus)
 
 pub loop-made-init : goal.loop-made-init
 loop-made-init g c = record {

@@ -1,7 +1,0 @@
-use Rattle.mips_step.specs.Step.{in_world}
-use Rattle.flatvm.specs.Replies.{EachPlace, CanLook}
-use Rattle.flatvm.proofs.debug.first_away_to_look.Given as goal
-
--- the places so far can be looked at
-abbrev pub invariant-loop-k : goal.invariant-loop-k
-invariant-loop-k g l = EachPlace (in_world l.cpu (g.B.PhysBus.world l.bus)) l.address l.k (CanLook (g.B.PhysBus.lacks (g.B.PhysBus.kept l.bus)))

@@ -1,7 +1,0 @@
-use Rattle.mips_step.specs.Step.{in_world}
-use Rattle.flatvm.specs.Replies.{EachPlace, CanStore}
-use Rattle.flatvm.proofs.debug.first_away_to_store.Given as goal
-
--- the places so far can be stored to
-abbrev pub invariant-loop-k : goal.invariant-loop-k
-invariant-loop-k g l = EachPlace (in_world l.cpu (g.B.PhysBus.world l.bus)) l.address l.k (CanStore (g.B.PhysBus.lacks (g.B.PhysBus.kept l.bus)))

@@ -1,4 +1,0 @@
-pub mod Answers
-pub mod Boot
-pub mod Items
-pub mod Replies

@@ -1,0 +1,18 @@
+use Rattle.std.proofs.Common.{refl, sym, ap, ◌∙◌}
+use Rattle.word32.specs.Words.{half_in}
+use Rattle.word32.specs.Pages.{page_offset}
+use Rattle.guest_pages.proofs.Accesses.{half_found, zero_half_found}
+use Rattle.guest_pages.proofs.map.GuestPages.read_half.Goals as goal
+
+pub returns-in-Some : goal.returns-in-Some
+returns-in-Some c =
+    c.half_at.ensures ∙ ap (λ bytes. half_in bytes c.offset_of.result) c.in-Some.ensures.bytes
+    ∙ half_found c.args.self.now c.self.inside.pages.items c.number.result c.args.at c.offset_of.result c.index.result.now c.requires.aligned
+    (record { seen = c.self.view_is; whole = c.self.invariant.whole; there = c.requires.there; number = c.number.ensures.value ∙ c.page_of.ensures; offset = c.offset_of.ensures; found = c.index.ensures })
+
+pub returns-in-None : goal.returns-in-None
+returns-in-None c =
+    sym (
+    zero_half_found c.args.self.now c.self.inside.pages.items c.number.result c.args.at (page_offset c.args.at) c.index.result.now c.in-None.ensures.zeros c.requires.aligned
+    (record { seen = c.self.view_is; whole = c.self.invariant.whole; there = c.requires.there; number = c.number.ensures.value ∙ c.page_of.ensures; offset = refl; found = c.index.ensures })
+    )

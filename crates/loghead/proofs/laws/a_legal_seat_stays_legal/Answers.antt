@@ -1,8 +1,0 @@
-use Rattle.loghead.proofs.Seats.{legal_own, legal_others}
-use Rattle.loghead.proofs.laws.a_legal_seat_stays_legal.Goals as goal
-
-pub returns-clause-own : goal.returns-clause-own
-returns-clause-own c = legal_own
-
-pub returns-clause-others : goal.returns-clause-others
-returns-clause-others c = legal_others

@@ -1,6 +1,0 @@
-use Rattle.std.proofs.Common.{arith}
-use Rattle.loghead.proofs.Plays.{publishes}
-use Rattle.loghead.proofs.tokens.publish.Goals as goal
-
-pub store-requires : goal.store-requires
-store-requires c = (c.requires.word.1, omega arith, publishes _ _ _ _ c.requires.present c.requires.count)

@@ -1,6 +1,0 @@
-use Rattle.std.proofs.Common.{arith}
-use Rattle.loghead.proofs.Moves.{leave_pen}
-use Rattle.loghead.proofs.tokens.take_back.Goals as goal
-
-pub split_seat-requires : goal.split_seat-requires
-split_seat-requires c = (c.requires.word.1, omega arith, leave_pen _ _ c.requires.present.1)

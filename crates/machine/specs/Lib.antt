@@ -1,0 +1,16 @@
+pub mod Accesses
+pub mod Agreeing
+pub mod Answer
+pub mod Answers
+pub mod Board
+pub mod Boot
+pub mod Bus
+pub mod Given
+pub mod Items
+pub mod Meaning
+pub mod Operations
+pub mod Places
+pub mod Poking
+pub mod Processor
+pub mod Replies
+pub mod Step

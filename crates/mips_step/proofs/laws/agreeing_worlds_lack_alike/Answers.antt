@@ -1,5 +1,0 @@
-use Rattle.mips_step.proofs.Lacking.{lack_alike}
-use Rattle.mips_step.proofs.laws.agreeing_worlds_lack_alike.Goals as goal
-
-pub returns : goal.returns
-returns c = λ these lacks cpu a b agree covers. lack_alike these lacks cpu a b agree covers

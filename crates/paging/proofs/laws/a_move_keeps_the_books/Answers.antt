@@ -1,5 +1,0 @@
-use Rattle.paging.proofs.Booking.{books_after}
-use Rattle.paging.proofs.laws.a_move_keeps_the_books.Goals as goal
-
-pub returns : goal.returns
-returns c = books_after

@@ -1,6 +1,0 @@
-use Rattle.std.proofs.Common.{◌*◌}
-use Rattle.physmap.specs.Marks.{NoneMarked}
-use Rattle.physmap.proofs.bits.Bits.next.Given as goal
-
-abbrev pub invariant-loop-place : goal.invariant-loop-place
-invariant-loop-place l = NoneMarked l.self l.from (l.place * 64)
