@@ -2,7 +2,7 @@
 _vmhost() {
     local word=${COMP_WORDS[COMP_CWORD]} before=${COMP_WORDS[COMP_CWORD - 1]} words
     if [ "$COMP_CWORD" = 1 ]; then
-        words='asm dis exec replay sim run help --help --version'
+        words='asm dis exec replay sim run fuzz help --help --version'
     else
         case $before in
             --pages | --steps | --in | --memory | --frames | --slots | --port | --seed) return ;;
@@ -14,7 +14,8 @@ _vmhost() {
             asm | dis) words='--help' ;;
             sim) words='--lines --logs --help' ;;
             run) words='--frames --slots --swap --port --seed --logs --admit --help' ;;
-            help) words='asm dis exec replay sim run' ;;
+            fuzz) words='--raw --pages --steps --until --out --logs --help' ;;
+            help) words='asm dis exec replay sim run fuzz' ;;
         esac
     fi
     if [ "$COMP_CWORD" = 1 ] || [ "${COMP_WORDS[1]}" = help ] || [ "${word#-}" != "$word" ]; then

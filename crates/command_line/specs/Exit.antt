@@ -24,3 +24,7 @@ HasNoSim words = All (λ (word : String Global). bytes_eq (string_bytes word) (c
 -- no word of a command line is `run`
 abbrev pub HasNoRun : List (String Global) → Type 0
 HasNoRun words = All (λ (word : String Global). bytes_eq (string_bytes word) (codes "run") ≡ false) words
+
+-- no word of a command line is `fuzz`
+abbrev pub HasNoFuzz : List (String Global) → Type 0
+HasNoFuzz words = All (λ (word : String Global). bytes_eq (string_bytes word) (codes "fuzz") ≡ false) words

@@ -6,6 +6,7 @@ use commands::image_file::{elf_file, whole_file};
 use commands::log_file::is_log;
 use commands::{Asm, Dis, Exec, Fault, Replay};
 use diagnosis::{Excerpt, Memory, Words, boot, elf, file, log, raw, script_line, source};
+use fuzz_command::FuzzOrder;
 use output_file::is_one_file;
 use run_command::{GuestOrder, RunOrder};
 use script::{GuestLine, Header, Script};
@@ -32,6 +33,8 @@ pub enum Subject<'a> {
     Script(&'a str, Option<&'a str>),
     /// Guests were to be run.
     Run(&'a RunOrder<'a>),
+    /// An image was to be run on many inputs.
+    Fuzz(&'a FuzzOrder<'a>),
 }
 
 /// Words for a fault of what was asked for.
@@ -99,6 +102,7 @@ fn own_reason<R: Files + AllocGlobal>(
         Subject::Asm(order) => reason_of_asm(rt, order),
         Subject::Exec(order) => reason_of_exec(rt, order),
         Subject::Run(order) => reason_of_run(rt, order, name),
+        Subject::Fuzz(order) => reason_of_fuzz(rt, order, name),
         Subject::Script(text, Some(logs)) => reason_of_script(rt, text, logs, name),
         _ => None,
     }
@@ -136,6 +140,49 @@ fn reason_of_run<R: Files + AllocGlobal>(
         reason_of_logs(rt, order.logs, order.guests.len(), name)
     }
 }
+
+fn reason_of_fuzz<R: Files + AllocGlobal>(
+    rt: &R,
+    order: &FuzzOrder<'_>,
+    name: &str,
+) -> Option<&'static str> {
+    let directory = order.logs.unwrap_or("");
+    if name == directory {
+        return match fs::metadata(rt, directory) {
+            Ok(found) if !found.is_dir() => Some(NO_DIRECTORY),
+            _ => None,
+        };
+    }
+    let found = fs::metadata(rt, name).ok()?;
+    if !found.is_file() {
+        return None;
+    }
+    if is_input(order, name) && found.len() > MOST_INPUT {
+        return Some(LONG_INPUT);
+    }
+    match order.logs {
+        Some(_) if File::open(rt, name).is_ok() => Some(LOG_IS_FUZZED),
+        _ => None,
+    }
+}
+
+/// Whether an order has an input in the file of this name.
+fn is_input(order: &FuzzOrder<'_>, name: &str) -> bool {
+    for input in &order.inputs {
+        if input.place == name {
+            return true;
+        }
+    }
+    false
+}
+
+/// The greatest number of bytes of an input.
+const MOST_INPUT: u64 = 256;
+
+const LONG_INPUT: &str = "it has more than the 256 bytes that the input of a run has at most";
+
+const LOG_IS_FUZZED: &str =
+    "the log of an input would be written over it: give the logs another directory";
 
 fn reason_of_script<R: Files + AllocGlobal>(
     rt: &R,
@@ -282,6 +329,12 @@ fn executable_words<R: Files + AllocGlobal>(
         Subject::Dis(order) => image_words(rt, order.image, Memory::Kseg0, fault),
         Subject::Script(text, _) => guest_words(rt, text, fault),
         Subject::Run(order) => run_guest_words(rt, order, fault),
+        Subject::Fuzz(order) => {
+            let memory = Memory::Exec {
+                pages: order.run.pages,
+            };
+            image_words(rt, order.run.image, memory, fault)
+        }
         Subject::Asm(_) | Subject::ScriptFile => None,
     }
 }
@@ -346,6 +399,12 @@ fn log_pages<R: Files + AllocGlobal>(rt: &R, order: Replay<'_>) -> Option<u32> {
 fn raw_words<R: Files + AllocGlobal>(rt: &R, subject: Subject<'_>) -> Option<Words> {
     let (name, memory) = match subject {
         Subject::Exec(order) => (order.image, Memory::Exec { pages: order.pages }),
+        Subject::Fuzz(order) => (
+            order.run.image,
+            Memory::Exec {
+                pages: order.run.pages,
+            },
+        ),
         Subject::Replay(order) => {
             let pages = log_pages(rt, order)?;
             (order.image, Memory::Replay { pages })
@@ -407,6 +466,7 @@ fn run_boot_words(alloc: Global, order: &RunOrder<'_>, number: u32) -> Option<Wo
 fn boot_words<R: Files + AllocGlobal>(rt: &R, subject: Subject<'_>, number: u32) -> Option<Words> {
     match subject {
         Subject::Exec(order) => boot::of_machine(rt.alloc(), number, order.pages).ok()?,
+        Subject::Fuzz(order) => boot::of_machine(rt.alloc(), number, order.run.pages).ok()?,
         Subject::Replay(order) => {
             boot::of_machine(rt.alloc(), number, log_pages(rt, order)?).ok()?
         }

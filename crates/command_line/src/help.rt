@@ -6,7 +6,8 @@ Status:
   0  done
   1  an input was refused, or an output could not be written: a line on standard error says which
   2  the command line was refused
-  3  the guest stopped before its last step: the line stop of its dump says why; of run: the last slice of a guest was stopped
+  3  the guest stopped before its last step: the line stop of its dump says why; of run: the last slice of a guest was stopped;
+     of fuzz: a guest stopped, as its line says
 
 The lines of an input that was refused:
   vmhost: file NAME      the file can't be read or written
@@ -16,6 +17,7 @@ The lines of an input that was refused:
   vmhost: boot N         a machine, or a script's guests
   vmhost: log N          a log
   vmhost: script line L  a script: the first line that is refused
+  vmhost: input line L   of fuzz: the first line that is no input
   vmhost: port N         no connections can be waited for at the port
   vmhost: memory         the host has no memory left
 
@@ -70,6 +72,26 @@ The lines behind the dump:
   llbit B, slot W                      whether an SC would store, what follows the delay slot that PC stands in,
   tlb N hi W lo0 W lo1 W               and the entries of the TLB as EntryHi, EntryLo0 and EntryLo1
   mem W HEX                            with --memory its bytes, 16 a line; mem W no place where one has no place in memory";
+
+/// What is printed of an input.
+pub const LINE: &str = "\
+It prints one line for each input, in their order, as soon as its run is over:
+  NAME steps N END out DIGEST
+
+NAME is the input's file as it was given, or the number of its line, from 1. N is how many steps were made.
+
+END:
+  steps                all steps were made
+  loop PC              a branch or jump to itself with a NOP behind it, which no interrupt leaves
+  exception CODE EPC   the last step has entered an exception while EXL was clear
+  address PC           PC is an address of --until
+  stop 5, stop 6       the guest stopped: the host has no memory left, or the log is full
+
+DIGEST is the SHA-256 digest of the console's output, or with --out the output itself, two hexadecimal digits a byte (- where there is none).
+PC, EPC and outputs are hexadecimal, N and CODE decimal.
+
+A line on standard input is an input of two hexadecimal digits a byte, at most 256 bytes; an empty line is an input of none. Where a line is
+no input, vmhost: input line L stands on standard error, and nothing behind that line is run.";
 
 /// What lines of the monitor say, and what is replied.
 pub const MONITOR: &str = "\

@@ -1,8 +1,9 @@
 //! The command line.
-use crate::help::{DUMP, EVENTS, MONITOR, REFUSALS, RUN};
+use crate::help::{DUMP, EVENTS, LINE, MONITOR, REFUSALS, RUN};
 use clap::error::ErrorKind;
 use clap::{Arg, ArgAction, ArgMatches, Command, Error, value_parser};
 use commands::{Asm, ConsoleInput, Dis, Exec, Format, MachineKind, Replay, Sim};
+use fuzz_command::{FuzzOrder, InputFile, Shown};
 use hex::FromHexError;
 use inspection::{Extras, LONGEST_REGION, Region};
 use run_command::{GuestOrder, RunOrder, guest_of};
@@ -24,6 +25,8 @@ pub enum Order<'a> {
     Sim(Sim<'a>),
     /// Run several guests on threads of their own, at a person's hand.
     Run(RunOrder<'a>),
+    /// Run an image on many inputs, and print a line for each.
+    Fuzz(FuzzOrder<'a>),
 }
 
 /// What a run is given beside its order.
@@ -46,6 +49,7 @@ enum Asked<'a> {
     Replay(Replay<'a>),
     Sim(Sim<'a>),
     Run,
+    Fuzz(Exec<'a>),
     Refused(&'static str),
 }
 
@@ -76,6 +80,10 @@ fn order_in<'a>(
             Ok(run) => Ok(Order::Run(run)),
             Err(reason) => Err(command.error(ErrorKind::ValueValidation, reason)?),
         },
+        Some(Asked::Fuzz(run)) => match fuzz_of(alloc, &matches, run)? {
+            Ok(fuzz) => Ok(Order::Fuzz(fuzz)),
+            Err(reason) => Err(command.error(ErrorKind::ValueValidation, reason)?),
+        },
         Some(Asked::Refused(reason)) => Err(command.error(ErrorKind::ValueValidation, reason)?),
         None => Err(command.error(ErrorKind::MissingSubcommand, "no command")?),
     }
@@ -104,6 +112,56 @@ fn settings_of(
         until,
         extras: Extras { all, memory },
     }))
+}
+
+/// What the matches of `fuzz` ask for beside how a run is made, or what is wrong with it.
+fn fuzz_of<'a>(
+    alloc: Global,
+    matches: &ArgMatches<'a>,
+    run: Exec<'a>,
+) -> Result<Result<FuzzOrder<'a>, &'static str>, AllocError> {
+    let Some((_, of_fuzz)) = matches.subcommand() else {
+        return Ok(Err("no command"));
+    };
+    let Some(until) = until_of(alloc, of_fuzz.get_strs(UNTIL).unwrap_or(&[]))? else {
+        return Ok(Err(UNTIL_REFUSED));
+    };
+    let inputs = input_files(alloc, of_fuzz.get_strs(INPUTS).unwrap_or(&[]))?;
+    if inputs.is_empty() && run.image == STANDARD_INPUT {
+        return Ok(Err(FUZZ_REFUSED));
+    }
+    Ok(Ok(FuzzOrder {
+        run,
+        until,
+        shown: shown_of(of_fuzz),
+        logs: of_fuzz.get_str(LOGS),
+        inputs,
+    }))
+}
+
+/// What is wrong where `fuzz` is to read both its image and its inputs from standard input.
+const FUZZ_REFUSED: &str =
+    "the image is standard input, and so are the inputs; name the file of one";
+
+/// The files of inputs, by these words.
+fn input_files<'a>(alloc: Global, words: &[&'a str]) -> Result<Vec<InputFile<'a>>, AllocError> {
+    let mut files = Vec::new(alloc);
+    for &name in words {
+        files.push(InputFile {
+            name,
+            place: file_of(name),
+        })?;
+    }
+    Ok(files)
+}
+
+/// How the output is to be shown.
+fn shown_of(matches: &ArgMatches<'_>) -> Shown {
+    if matches.get_flag(OUT) {
+        Shown::Digits
+    } else {
+        Shown::Digest
+    }
 }
 
 /// What the matches of `run` ask for, or what is wrong with it.
@@ -248,6 +306,7 @@ fn asked_of<'a>(matches: &ArgMatches<'a>) -> Option<Asked<'a>> {
         (REPLAY, of_replay) => Some(Asked::Replay(replay_of(of_replay)?)),
         (SIM, of_sim) => Some(Asked::Sim(sim_of(of_sim)?)),
         (RUN_GUESTS, _) => Some(Asked::Run),
+        (FUZZ, of_fuzz) => fuzz_asked(of_fuzz),
         (_, of_exec) => exec_asked(of_exec),
     }
 }
@@ -257,15 +316,31 @@ const PAGES_REFUSED: &str = "the value of '--pages <P>' is not decimal digits al
 
 const STEPS_REFUSED: &str = "the value of '--steps <N>' is not decimal digits alone";
 
-/// What the matches of `exec` ask for, or which of its numbers is refused.
-fn exec_asked<'a>(matches: &ArgMatches<'a>) -> Option<Asked<'a>> {
+/// Which of the numbers of `exec` or `fuzz` is refused, if one is.
+fn refused_number(matches: &ArgMatches<'_>) -> Option<&'static str> {
     if !is_digits(matches.get_str(PAGES)?) {
-        return Some(Asked::Refused(PAGES_REFUSED));
+        return Some(PAGES_REFUSED);
     }
     if !is_digits(matches.get_str(STEPS)?) {
-        return Some(Asked::Refused(STEPS_REFUSED));
+        return Some(STEPS_REFUSED);
     }
-    Some(Asked::Exec(exec_of(matches)?))
+    None
+}
+
+/// What the matches of `exec` ask for, or which of its numbers is refused.
+fn exec_asked<'a>(matches: &ArgMatches<'a>) -> Option<Asked<'a>> {
+    match refused_number(matches) {
+        Some(reason) => Some(Asked::Refused(reason)),
+        None => Some(Asked::Exec(exec_of(matches)?)),
+    }
+}
+
+/// What the matches of `fuzz` ask for, or which of its numbers is refused.
+fn fuzz_asked<'a>(matches: &ArgMatches<'a>) -> Option<Asked<'a>> {
+    match refused_number(matches) {
+        Some(reason) => Some(Asked::Refused(reason)),
+        None => Some(Asked::Fuzz(fuzzed_run(matches)?)),
+    }
 }
 
 /// Whether a text is decimal digits alone.
@@ -288,6 +363,8 @@ const REPLAY: &str = "replay";
 const SIM: &str = "sim";
 
 const RUN_GUESTS: &str = "run";
+
+const FUZZ: &str = "fuzz";
 
 /// The option that gives console input.
 const INPUT: &str = "in";
@@ -324,13 +401,19 @@ const ADMIT: &str = "admit";
 
 const GUEST: &str = "guest";
 
+/// The option of `fuzz` that has outputs shown themselves, and its inputs.
+const OUT: &str = "out";
+
+const INPUTS: &str = "input";
+
 fn whole_command<'a>(alloc: Global) -> Result<Command<'a>, AllocError> {
     let command = with_subcommand(bare_command(alloc)?, asm_command(alloc))?;
     let command = with_subcommand(command, dis_command(alloc))?;
     let command = with_subcommand(command, exec_command(alloc))?;
     let command = with_subcommand(command, replay_command(alloc))?;
     let command = with_subcommand(command, sim_command(alloc))?;
-    with_subcommand(command, guests_command(alloc))
+    let command = with_subcommand(command, guests_command(alloc))?;
+    with_subcommand(command, fuzz_command(alloc))
 }
 
 /// The command without its subcommands, of which it demands one.
@@ -427,6 +510,38 @@ fn guests_command<'a>(alloc: Global) -> Result<Command<'a>, AllocError> {
         .arg(guests(alloc))
 }
 
+fn fuzz_command<'a>(alloc: Global) -> Result<Command<'a>, AllocError> {
+    let command = Command::new(alloc, FUZZ)
+        .about(
+            "Runs an image on many inputs, each in a guest booted anew, and prints a line for each",
+        )
+        .after_help(LINE)
+        .arg(raw_flag(alloc))?
+        .arg(flag(alloc, OUT).help("Print each output itself in place of its SHA-256 digest"))?;
+    let command = with_numbers(alloc, command)?;
+    let until = until_list(alloc).help(
+        "End at the first state that is so: loop (a branch to itself, for ever), exception (one was entered), or an address 0xADDRESS that PC stands at",
+    );
+    let command = command.arg(until)?.arg(
+        Arg::new(alloc, LOGS).long(LOGS).value_name("DIR").help(
+            "A directory that the logs of runs that end in an exception are written to: that of input K, from 1, as K.log",
+        ),
+    )?;
+    command
+        .arg(file(alloc, "image", "IMAGE").help("The file of the image, or - for standard input"))?
+        .arg(inputs(alloc))
+}
+
+fn inputs<'a>(alloc: Global) -> Arg<'a> {
+    Arg::new(alloc, INPUTS)
+        .value_name("INPUT")
+        .num_args(0..)
+        .action(ArgAction::Append)
+        .help(
+            "Files with the console input of a run each, at most 256 bytes; without any, the lines on standard input in hexadecimal digits",
+        )
+}
+
 fn guests<'a>(alloc: Global) -> Arg<'a> {
     Arg::new(alloc, GUEST)
         .value_name("GUEST")
@@ -485,13 +600,17 @@ fn with_texts<'a>(alloc: Global, command: Command<'a>) -> Result<Command<'a>, Al
 
 /// The options that may be given more than once.
 fn with_lists<'a>(alloc: Global, command: Command<'a>) -> Result<Command<'a>, AllocError> {
-    let until = list(alloc, UNTIL, "WORD").help(
+    let until = until_list(alloc).help(
         "End at the first state that is so: loop (a branch to itself, for ever), exception (one was entered), or an address 0xADDRESS that PC stands at; a line on standard error says which",
     );
     let memory = list(alloc, MEMORY, "ADDRESS:LENGTH").help(
         "Print 1 to 1024 bytes of memory behind the dump, from a virtual address 0xADDRESS on",
     );
     command.arg(until)?.arg(memory)
+}
+
+fn until_list<'a>(alloc: Global) -> Arg<'a> {
+    list(alloc, UNTIL, "WORD")
 }
 
 fn list<'a>(alloc: Global, name: &'a str, value: &'a str) -> Arg<'a> {
@@ -558,6 +677,18 @@ fn exec_of<'a>(matches: &ArgMatches<'a>) -> Option<Exec<'a>> {
     })
 }
 
+/// How `fuzz` makes a run, by its matches; each argument is required or has a default.
+fn fuzzed_run<'a>(matches: &ArgMatches<'a>) -> Option<Exec<'a>> {
+    Some(Exec {
+        image: file_of(matches.get_str("image")?),
+        format: format_of(matches),
+        kind: MachineKind::Guest,
+        pages: matches.get_one(PAGES)?,
+        steps: matches.get_one(STEPS)?,
+        log: None,
+    })
+}
+
 /// What the matches of `replay` ask for; its arguments are required.
 fn replay_of<'a>(matches: &ArgMatches<'a>) -> Option<Replay<'a>> {
     Some(Replay {
@@ -578,8 +709,11 @@ fn sim_of<'a>(matches: &ArgMatches<'a>) -> Option<Sim<'a>> {
 
 /// The name of a file to be read, of which `-` is standard input.
 fn file_of<'a>(word: &'a str) -> &'a str {
-    if word == "-" { "/dev/stdin" } else { word }
+    if word == "-" { STANDARD_INPUT } else { word }
 }
+
+/// The name by which standard input is opened.
+const STANDARD_INPUT: &str = "/dev/stdin";
 
 /// How the image's file is to be read.
 fn format_of(matches: &ArgMatches<'_>) -> Format {

@@ -1,7 +1,7 @@
 //! The program, over any files, reader and writers.
 ghost use Rattle.std.specs.Prelude.{◌≡◌, ◌≢◌, ◌<◌, ◌⊎◌, false, true, IfOk};
 ghost use Rattle.std.specs.IoError.{error_kind};
-ghost use Rattle.command_line.specs.Exit.{code_of, HasNoRun, HasNoSim, HasNoUntil};
+ghost use Rattle.command_line.specs.Exit.{code_of, HasNoFuzz, HasNoRun, HasNoSim, HasNoUntil};
 
 use crate::explaining::{Subject, excerpt_of, explain, explain_later};
 use crate::parsing::{Order, Settings, parse};
@@ -11,6 +11,7 @@ use commands::{
     replay_log, run_image, run_script, script_text,
 };
 use diagnosis::Excerpt;
+use fuzz_command::{FuzzEnd, FuzzFault, FuzzOrder, fuzz_order};
 use run_command::{RunFault, RunOrder, RunStatus, run_order};
 use runs::{Ending, Watch};
 use std::fs::File;
@@ -30,7 +31,7 @@ enum Status {
     Refused,
     /// The command line was refused.
     Usage,
-    /// The machine stopped before its last step, or the last slice of a guest was stopped.
+    /// The machine stopped before its last step, or the last slice of a guest was stopped, or a guest of `fuzz`.
     Stopped,
 }
 
@@ -58,15 +59,16 @@ enum Answer {
 }
 
 /// Does what the words of the command line ask for, and gives the status to exit with. The name of the program is not
-/// among the words. `input` is read by the command `run` alone, and `watch` is told how far a run of `exec` is.
+/// among the words. `input` is read by the commands `run` and `fuzz` alone, and `watch` is told how far a run of `exec` is.
 ///
-/// At least one of `out` and `err` stays as it was, but where a word begins with `--until`, or is `sim` or `run`: with the last both get lines, as
-/// `run_order` has it; with the first `err` may have the line
-/// `vmhost: ended: ` with the state that a run ended at, beside what is printed; with the second the replies to the first events of a
-/// script may stand in `out` where `err` says that there was no memory for more. Status 0: done, and `out` has what the command prints. 1: an
+/// At least one of `out` and `err` stays as it was, but where a word begins with `--until`, or is `sim`, `run` or `fuzz`: with `run` both get lines,
+/// as `run_order` has it; with `--until` `err` may have the line
+/// `vmhost: ended: ` with the state that a run ended at, beside what is printed; with `sim` the replies to the first events of a
+/// script may stand in `out` where `err` says that there was no memory for more, and with `fuzz` the lines of the first inputs where `err` says
+/// what is wrong with the next. Status 0: done, and `out` has what the command prints. 1: an
 /// input was refused, and the line `vmhost: ` with the fault stands in `err`, and words for it may stand behind that; or there was no memory
 /// for a script's next reply; or `out` or `err` could not be written. 2: the command line was refused, and `err` has the reason. 3: the machine
-/// stopped before its last step; the last line in `out` says why.
+/// stopped before its last step, and the last line in `out` says why; or a guest of `fuzz` did, and its line says so.
 pub fn program<R, I, O, E, W>(
     rt: &R,
     words: &[String],
@@ -87,19 +89,21 @@ where
     E: Write,
     W: Watch,
     ensures range { result < 4 }
-    ensures input { HasNoRun words.now → input.new ≡ input.old }
+    ensures input { HasNoRun words.now → HasNoFuzz words.now → input.new ≡ input.old }
     ensures usage { result ≡ 2 → out.new ≡ out.old }
     ensures done { result ≡ 0 → HasNoUntil words.now → HasNoRun words.now → err.new ≡ err.old }
     ensures stopped { result ≡ 3 → HasNoRun words.now → err.new ≡ err.old }
-    ensures one_output { HasNoUntil words.now → HasNoSim words.now → HasNoRun words.now → (out.new ≡ out.old) ⊎ (err.new ≡ err.old) }
+    ensures one_output { HasNoUntil words.now → HasNoSim words.now → HasNoRun words.now → HasNoFuzz words.now → (out.new ≡ out.old) ⊎ (err.new ≡ err.old) }
 {
     let tells = Tells {
         ending: mentions_until(words),
         breaking_off: mentions_sim(words),
         running: mentions_run(words),
+        fuzzing: mentions_fuzz(words),
     };
     let written = match parse(rt.alloc(), words) {
         Ok(Order::Run(order)) if tells.running => answer_run(rt, &order, input, out, err),
+        Ok(Order::Fuzz(order)) if tells.fuzzing => answer_fuzz(rt, &order, input, out, err),
         Ok(order) => answer_order(rt, order, tells, out, err, watch),
         Err(error) => write_error(&error, out, err),
     };
@@ -119,6 +123,8 @@ struct Tells {
     breaking_off: bool,
     /// Which guests run, and which of their logs can't be written.
     running: bool,
+    /// Why an input isn't run, and which logs can't be written.
+    fuzzing: bool,
 }
 
 /// Whether a word is `run`, so that guests may run.
@@ -135,6 +141,92 @@ fn mentions_run(words: &[String]) -> bool
 
 /// The command that runs guests.
 const RUN_COMMAND: &[u8] = b"run";
+
+/// Whether a word is `fuzz`, so that an image may be run on many inputs.
+fn mentions_fuzz(words: &[String]) -> bool
+    ensures { HasNoFuzz words.now → result ≡ false }
+{
+    for word in words {
+        if word.as_bytes() == FUZZ_COMMAND {
+            return true;
+        }
+    }
+    false
+}
+
+/// The command that runs an image on many inputs.
+const FUZZ_COMMAND: &[u8] = b"fuzz";
+
+/// Runs an image on many inputs, of which `input` has the lines where no files are named.
+fn answer_fuzz<R, I, O, E>(
+    rt: &R,
+    order: &FuzzOrder<'_>,
+    input: &mut I,
+    out: &mut O,
+    err: &mut E,
+) -> io::Result<Status>
+where
+    R: Files + AllocGlobal,
+    I: BufRead,
+    O: Write,
+    E: Write,
+    ensures usage { IfOk result (λ s. code_of s ≢ 2) }
+    ensures carried_out { IfOk result (λ s. code_of s ≢ 1 → err.new ≡ err.old) }
+{
+    match fuzz_order(rt, order, input, out) {
+        Ok(
+            FuzzEnd {
+                stopped: _,
+                unwritten: Some(number),
+            },
+        ) => write_unlogged(order.logs.unwrap_or(""), number, err),
+        Ok(
+            FuzzEnd {
+                stopped: true,
+                unwritten: None,
+            },
+        ) => Ok(Status::Stopped),
+        Ok(
+            FuzzEnd {
+                stopped: false,
+                unwritten: None,
+            },
+        ) => Ok(Status::Done),
+        Err(FuzzFault::Command(fault)) => write_refusal(rt, Subject::Fuzz(order), &fault, err),
+        Err(FuzzFault::Output) => Err(io::Error::from(ErrorKind::Other)),
+        Err(FuzzFault::Line(number)) => write_line_fault(FuzzFault::Line(number), LINE_WORDS, err),
+        Err(FuzzFault::Unread) => write_line_fault(FuzzFault::Unread, UNREAD_WORDS, err),
+    }
+}
+
+/// Words for a line that is no input, and for lines that can't be read.
+const LINE_WORDS: &str =
+    "an input is an even number of hexadecimal digits, at most 512; an empty line is an empty one";
+
+const UNREAD_WORDS: &str = "the lines of inputs can't be read there";
+
+/// Writes what is wrong with the lines of inputs, and words for it.
+fn write_line_fault<E: Write>(fault: FuzzFault<'_>, words: &str, err: &mut E) -> io::Result<Status>
+    ensures { IfOk result (λ s. code_of s ≡ 1) }
+{
+    writeln!(err, "vmhost: {fault}")?;
+    writeln!(err, "  {words}")?;
+    err.flush()?;
+    Ok(Status::Refused)
+}
+
+/// Writes that the log of an input, and perhaps of others behind it, is not written, and words for it.
+fn write_unlogged<E: Write>(directory: &str, number: usize, err: &mut E) -> io::Result<Status>
+    ensures { IfOk result (λ s. code_of s ≡ 1) }
+{
+    writeln!(err, "vmhost: file {directory}/{number}.log")?;
+    writeln!(
+        err,
+        "  the log of input {number} can't be written; what was done is done, and the logs that can be are written"
+    )?;
+    err.flush()?;
+    Ok(Status::Refused)
+}
 
 /// Runs guests, by the lines of `input`.
 fn answer_run<R, I, O, E>(
@@ -241,8 +333,8 @@ where
             write_answer(rt, Subject::Replay(order), replayed(rt, order), out, err)
         }
         Order::Sim(order) => answer_script(rt, order, tells.breaking_off, out, err),
-        // No word is `run`, so none asks for this.
-        Order::Run(_) => Ok(Status::Refused),
+        // No word is `run` or `fuzz`, so none asks for these.
+        Order::Run(_) | Order::Fuzz(_) => Ok(Status::Refused),
     }
 }
 

@@ -217,7 +217,11 @@ fn write_order<'a, R: Files + AllocGlobal>(
 /// An error is `File` where the file can't be read; `Elf` with the first fault of a file that is no executable for so many pages; `Raw` where a
 /// raw image is empty or longer than the pages; then `Boot` where the number of pages is outside its limits; `Memory` where a request for memory
 /// was refused.
-pub fn load<'a, F: Read + Drop>(alloc: Global, file: F, order: Exec<'a>) -> Result<Loaded, Fault<'a>>
+pub fn load<'a, F: Read + Drop>(
+    alloc: Global,
+    file: F,
+    order: Exec<'a>,
+) -> Result<Loaded, Fault<'a>>
     ensures stands { IfSome (F.remaining file) (λ all. IfOk result (λ loaded. IsImageOf order.entry.format order.entry.pages all loaded.image)) }
     ensures digest { IfSome (F.remaining file) (λ all. IfOk result (λ loaded. loaded.digest ≡ sha256 all)) }
     ensures fits { IfOk result (λ loaded. FitsPages loaded.image order.entry.pages) }

@@ -1,0 +1,68 @@
+-- What is written for an order.
+use Rattle.std.proofs.Common.{◌≡◌, ◌⊎◌, inl, inr, refl, ap, subst, ℕ, Bool, List, [], ◌∷◌, ◌++◌, map, Option, Some, None, IfSome, Result, Ok, Err, IfErr, IfOk}
+use Rattle.fuzz_command.specs.declared.order.FuzzOrder.{FuzzOrder}
+use Rattle.fuzz_command.specs.declared.order.InputFile.{InputFile}
+use Rattle.fuzz_command.specs.Inputs.{AreBefore, AreFirstLines, AreInputs, BeginInputs, BeginLines, name_of}
+use Rattle.fuzz_command.specs.Settings.{Setting, setting_in}
+use Rattle.fuzz_command.specs.Writing.{Begins, HasBegun, IsBroken, IsFuzzed, IsImage, IsLeft, Writes}
+use Rattle.fuzz_command.proofs.Trials.{none_written}
+use Rattle.elf32.specs.declared.image.Image.{Image}
+
+-- no input is run yet
+no_inputs : (files : List InputFile) (had : Option (List ℕ)) → BeginInputs files had []
+no_inputs [] None = tt
+no_inputs [] (Some text) = record { rest = text; lines = refl }
+no_inputs (f ∷ fs) had = record { rest = map name_of (f ∷ fs); names = refl }
+
+pub none_begun : (s : Setting) (files : List InputFile) (had known : Option (List ℕ)) → Begins s (BeginInputs files had) known known
+none_begun s files had known = record { trials = []; inputs = no_inputs files had; lines = none_written s known }
+
+-- what is said of an image of known bytes is said of one of unknown bytes
+of_image : (order : FuzzOrder) (file : Option (List ℕ)) (image : Image) → IsImage order file image → IsImage order None image
+of_image order file image is = record { stands = tt; legal = is.legal; fits = is.fits }
+
+pub of_fuzzed : (order : FuzzOrder) (file had known known' : Option (List ℕ)) (stopped : Bool) → IsFuzzed order file had known known' stopped → IsFuzzed order None had known known' stopped
+of_fuzzed order file had known known' stopped is = record { image = is.image; is = of_image order file is.image is.is; writes = is.writes }
+
+pub of_broken : (order : FuzzOrder) (file had known known' : Option (List ℕ)) (n : ℕ) → IsBroken order file had known known' n → IsBroken order None had known known' n
+of_broken order file had known known' n is = record { image = is.image; is = of_image order file is.image is.is; begins = is.begins }
+
+of_begun : (order : FuzzOrder) (file had known known' : Option (List ℕ)) → HasBegun order file had known known' → HasBegun order None had known known'
+of_begun order file had known known' is = record { image = is.image; is = of_image order file is.image is.is; begins = is.begins }
+
+pub of_left : (order : FuzzOrder) (file had known known' : Option (List ℕ)) → IsLeft order file had known known' → IsLeft order None had known known'
+of_left order file had known known' is = elim is [ inl same ↦ inl same | inr begun ↦ inr (of_begun order file had known known' begun) ]
+
+-- what is so of a value or an error follows from what is so of it
+pub each_ok : {X E : Type 0} (r : Result X E) (P Q : X → Type 0) → IfOk r P → ((x : X) → P x → Q x) → IfOk r Q
+each_ok (Ok x) P Q is more = more x is
+each_ok (Err e) P Q is more = tt
+
+pub each_error : {X E : Type 0} (r : Result X E) (A : E → Type 0) (P Q : Type 0) → IfErr r (λ e. A e → P) → (P → Q) → IfErr r (λ e. A e → Q)
+each_error (Ok x) A P Q is more = tt
+each_error (Err e) A P Q is more = λ a. more (is a)
+
+-- what is written of an image that was loaded, by a setting that is the order's
+pub image_fuzzed : (order : FuzzOrder) (file had known known' : Option (List ℕ)) (stopped : Bool) (loaded image : Image) (s : Setting) → IsImage order file loaded → loaded ≡ image → s ≡ setting_in order image
+    → Writes s (AreInputs order.inputs.items had) known known' stopped → IsFuzzed order file had known known' stopped
+image_fuzzed order file had known known' stopped loaded image s is same set writes = record {
+  image = image;
+  is = subst (λ (i : Image). IsImage order file i) same is;
+  writes = subst (λ (t : Setting). Writes t (AreInputs order.inputs.items had) known known' stopped) set writes;
+}
+
+pub image_broken : (order : FuzzOrder) (file had known known' : Option (List ℕ)) (n : ℕ) (loaded image : Image) (s : Setting) → IsImage order file loaded → loaded ≡ image → s ≡ setting_in order image
+    → Begins s (AreBefore n had) known known' → IsBroken order file had known known' n
+image_broken order file had known known' n loaded image s is same set begins = record {
+  image = image;
+  is = subst (λ (i : Image). IsImage order file i) same is;
+  begins = subst (λ (t : Setting). Begins t (AreBefore n had) known known') set begins;
+}
+
+pub image_begun : (order : FuzzOrder) (file had known known' : Option (List ℕ)) (loaded image : Image) (s : Setting) → IsImage order file loaded → loaded ≡ image → s ≡ setting_in order image
+    → Begins s (BeginInputs order.inputs.items had) known known' → IsLeft order file had known known'
+image_begun order file had known known' loaded image s is same set begins = inr (record {
+  image = image;
+  is = subst (λ (i : Image). IsImage order file i) same is;
+  begins = subst (λ (t : Setting). Begins t (BeginInputs order.inputs.items had) known known') set begins;
+})

@@ -1,0 +1,60 @@
+-- The line of an input.
+use Rattle.std.specs.Prelude.{◌≡◌, ℕ, Bool, is_some, List, ◌++◌, codes, decimal, take, Option, Some, None}
+use Rattle.sha2.specs.Sha256.{sha256}
+use Rattle.dump.specs.Dumps.{digits_of, output_digits}
+use Rattle.guest_log.specs.declared.stop.Stop.{Stop}
+use Rattle.guest_log.specs.Stops.{stop_number}
+use Rattle.masm.specs.Disassembly.{hex_word}
+use Rattle.runs.specs.Endings.{IsFirst}
+use Rattle.runs.specs.Runs.{after_run, fed, IsCount}
+use Rattle.runs.specs.declared.ending.Ending.{Ending}
+use Rattle.runs.specs.declared.ending.Ending.TheVariants.{Loop, Exception, Address}
+use Rattle.runs.specs.declared.running.Ran.{Ran}
+use Rattle.fuzz_command.specs.declared.order.Shown.{Shown}
+use Rattle.fuzz_command.specs.declared.order.Shown.TheVariants.{Digest, Digits}
+use Rattle.fuzz_command.specs.Settings.{Setting}
+
+-- an input that was run, by its name, and how its run went
+pub record Trial : Type 0 where
+  pub name : List ℕ
+  pub input : List ℕ
+  pub ran : Ran
+
+-- its run was one of the machine that the image boots, after this input alone: so far it went, and no farther than to the first state that it
+-- was to end at
+pub record IsTrial (s : Setting) (t : Trial) : Type 0 where
+  pub count : IsCount t.input s.steps t.ran
+  pub first : IsFirst s.until (fed (take t.ran.taken t.input) s.boot) t.ran
+
+-- what the console had put out when the run was over
+abbrev pub output_after : Setting → Trial → List ℕ
+output_after s t = (after_run t.ran t.input s.boot).board.devices.console.output
+
+-- the guest stopped before its last step
+abbrev pub has_stopped : Trial → Bool
+has_stopped t = is_some t.ran.stop
+
+-- why a run that didn't stop ended
+abbrev pub ending_text : Option Ending → List ℕ
+ending_text None = codes "steps"
+ending_text (Some (Loop pc)) = codes "loop " ++ hex_word pc
+ending_text (Some (Exception code epc)) = codes "exception " ++ decimal code ++ codes " " ++ hex_word epc
+ending_text (Some (Address pc)) = codes "address " ++ hex_word pc
+
+-- why a run ended
+abbrev pub end_text : Option Stop → Option Ending → List ℕ
+end_text None ending = ending_text ending
+end_text (Some stop) ending = codes "stop " ++ decimal (stop_number stop)
+
+-- the output as its SHA-256 digest, or the output itself, a dash where there is none
+abbrev pub shown_text : Shown → List ℕ → List ℕ
+shown_text Digest output = digits_of (sha256 output)
+shown_text Digits output = output_digits output
+
+-- the line of a run of this name with this output
+abbrev pub run_text : Shown → List ℕ → Ran → List ℕ → List ℕ
+run_text shown name ran output =
+    name ++ codes " steps " ++ decimal ran.steps ++ codes " " ++ end_text ran.stop ran.ending ++ codes " out " ++ shown_text shown output ++ codes "\n"
+
+abbrev pub line_text : Setting → Trial → List ℕ
+line_text s t = run_text s.shown t.name t.ran (output_after s t)

@@ -1,0 +1,144 @@
+//! The command `fuzz`.
+ghost use Rattle.std.specs.Prelude.{◌≡◌, ◌≢◌, ℕ, None, IfErr, IfOk, IsErrOf};
+ghost use Rattle.commands.specs.Raw.{IsPageCount};
+ghost use Rattle.elf32.specs.Images.{FitsPages};
+ghost use Rattle.fuzz_command.specs.Faults.{IsCommandFault, IsFuzzFault};
+ghost use Rattle.fuzz_command.specs.Inputs.{AreBefore, AreInputs, BeginInputs};
+ghost use Rattle.fuzz_command.specs.Settings.{CanBoot, setting_in, setting_of};
+ghost use Rattle.fuzz_command.specs.Writing.{Begins, IsBroken, IsFuzzed, IsImage, IsLeft, Writes};
+
+use crate::fault::FuzzFault;
+use crate::files::fuzz_files;
+use crate::lines::fuzz_lines;
+use crate::logs::{CrashLogs, logs_are_apart};
+use crate::order::FuzzOrder;
+use crate::setting::Setting;
+use commands::Fault;
+use commands::exec::load;
+use commands::fault::of_file;
+use commands::image_file::Loaded;
+use elf32::Image;
+use simulation::LogKeeper;
+use std::alloc::{AllocError, Global};
+use std::fs::File;
+use std::io::{BufRead, BufReader, Read, Write};
+use std::rt::Files;
+use std::sync::Arc;
+
+/// How the runs of all inputs went.
+#[derive(Clone, Copy, Debug, PartialEq, Eq)]
+pub struct FuzzEnd {
+    /// Whether a guest stopped before its last step.
+    pub stopped: bool,
+    /// The number of the first input, counted from 1, whose log could not be written.
+    pub unwritten: Option<usize>,
+}
+
+// Runs the inputs of an order.
+fn run_inputs<'a, R: Files + AllocGlobal, I: BufRead, K: LogKeeper, O: Write>(
+    rt: &R,
+    order: &FuzzOrder<'a>,
+    setting: &Setting<'_>,
+    input: &mut I,
+    keeper: &mut K,
+    out: &mut O,
+) -> Result<bool, FuzzFault<'a>>
+    requires boots { CanBoot setting.now }
+    ensures lines { IfOk result (λ stopped. Writes (setting_of setting.now) (AreInputs order.now.inputs.items (I.remaining input.old)) (O.contents out.old) (O.contents out.new) stopped) }
+    ensures broken { (n : ℕ) → IsErrOf result (FuzzFault.Line n) → Begins (setting_of setting.now) (AreBefore n (I.remaining input.old)) (O.contents out.old) (O.contents out.new) }
+    ensures begun { IfErr result (λ fault. fault ≢ FuzzFault.Output → Begins (setting_of setting.now) (BeginInputs order.now.inputs.items (I.remaining input.old)) (O.contents out.old) (O.contents out.new)) }
+    ensures faults { IfErr result (IsFuzzFault order.now) }
+{
+    if order.inputs.is_empty() {
+        let mut ahead = match BufReader::new(rt.alloc(), input) {
+            Ok(ahead) => ahead,
+            Err(_) => return Err(FuzzFault::Command(Fault::Memory)),
+        };
+        fuzz_lines(rt.alloc(), setting, &mut ahead, keeper, out)
+    } else {
+        fuzz_files(rt, setting, &order.inputs, keeper, out)
+    }
+}
+
+/// Runs the image in a file on each of the inputs of an order, as `fuzz_order` does.
+///
+/// An error is one of `fuzz_order`, but that the file is open and no log is in its way.
+pub fn fuzz_file<'a, R: Files + AllocGlobal, F: Read + Drop, I: BufRead, O: Write>(
+    rt: &R,
+    file: F,
+    order: &FuzzOrder<'a>,
+    input: &mut I,
+    out: &mut O,
+) -> Result<FuzzEnd, FuzzFault<'a>>
+    ensures lines { IfOk result (λ end. IsFuzzed order.now (F.remaining file) (I.remaining input.old) (O.contents out.old) (O.contents out.new) end.stopped) }
+    ensures broken { (n : ℕ) → IsErrOf result (FuzzFault.Line n) → IsBroken order.now (F.remaining file) (I.remaining input.old) (O.contents out.old) (O.contents out.new) n }
+    ensures begun { IfErr result (λ fault. fault ≢ FuzzFault.Output → IsLeft order.now (F.remaining file) (I.remaining input.old) (O.contents out.old) (O.contents out.new)) }
+    ensures faults { IfErr result (IsFuzzFault order.now) }
+{
+    let Loaded { image, digest } = load_image(rt.alloc(), file, order)?;
+    let mut logs = CrashLogs::new(rt, order, digest)?;
+    let setting = shared(rt.alloc(), order, image)?;
+    let stopped = run_inputs(rt, order, &setting, input, &mut logs, out)?;
+    Ok(FuzzEnd {
+        stopped,
+        unwritten: logs.unwritten(),
+    })
+}
+
+// The image that a file holds, for an order, and the file's digest.
+fn load_image<'a, F: Read + Drop>(
+    alloc: Global,
+    file: F,
+    order: &FuzzOrder<'a>,
+) -> Result<Loaded, Fault<'a>>
+    ensures image { IfOk result (λ loaded. IsImage order.now (F.remaining file) loaded.image) }
+    ensures faults { IfErr result (IsCommandFault order.now) }
+{
+    load(alloc, file, order.run)
+}
+
+// How an order runs an image, which all guests are to boot from.
+fn shared<'o, 'a>(
+    alloc: Global,
+    order: &'o FuzzOrder<'a>,
+    image: Image,
+) -> Result<Setting<'o>, AllocError>
+    requires legal { IsPageCount order.now.run.pages }
+    requires fits { FitsPages image order.now.run.pages }
+    ensures boots { IfOk result CanBoot }
+    ensures setting { IfOk result (λ setting. setting_of setting ≡ setting_in order.now image) }
+{
+    let image = Arc::new(alloc, image)?;
+    Ok(Setting {
+        image,
+        pages: order.run.pages,
+        steps: order.run.steps,
+        until: &order.until,
+        shown: order.shown,
+    })
+}
+
+/// Runs the image of an order on each of its inputs, or, where it has none, on each line that is read from `input`, of hexadecimal digits: each
+/// in a guest of its own, which boots anew. The line of each is written as soon as its run is over: it says how far the run went, why it ended,
+/// and what the console had put out. The logs of runs that end in an exception are written into the directory of the order, if it names one.
+///
+/// An error is `Command`: `File` where a log would be written over the image or an input's file, and then where the image's file can't be read;
+/// of the image `Elf`, `Raw` and `Boot` as `run_image` has them; `File` where the directory of the logs can't be made, and then where an input's
+/// file can't be read or has more than 256 bytes; `Boot` and `Memory` where a request for memory was refused. `Line` with the number of the first
+/// line that is no input; `Unread` where the lines can't be read; `Output` where a line could not be written. But for the last the lines of the
+/// inputs before stand, and nothing else.
+pub fn fuzz_order<'a, R: Files + AllocGlobal, I: BufRead, O: Write>(
+    rt: &R,
+    order: &FuzzOrder<'a>,
+    input: &mut I,
+    out: &mut O,
+) -> Result<FuzzEnd, FuzzFault<'a>>
+    ensures lines { IfOk result (λ end. IsFuzzed order.now None (I.remaining input.old) (O.contents out.old) (O.contents out.new) end.stopped) }
+    ensures broken { (n : ℕ) → IsErrOf result (FuzzFault.Line n) → IsBroken order.now None (I.remaining input.old) (O.contents out.old) (O.contents out.new) n }
+    ensures begun { IfErr result (λ fault. fault ≢ FuzzFault.Output → IsLeft order.now None (I.remaining input.old) (O.contents out.old) (O.contents out.new)) }
+    ensures faults { IfErr result (IsFuzzFault order.now) }
+{
+    logs_are_apart(rt, order)?;
+    let file = of_file(order.run.image, File::open(rt, order.run.image))?;
+    fuzz_file(rt, file, order, input, out)
+}

@@ -1,0 +1,37 @@
+//! What `fuzz` is to do.
+use commands::Exec;
+use runs::Until;
+
+/// What `fuzz` runs.
+#[derive(Drop)]
+pub struct FuzzOrder<'a> {
+    /// The image, and how a run of it is made: `exec` would do the same with each input. Its log and its machine are not looked at.
+    pub run: Exec<'a>,
+    /// The states that a run is to end at.
+    pub until: Until,
+    /// How the output is shown.
+    pub shown: Shown,
+    /// The name of the directory that the logs of runs that end in an exception are written to, if they are to be: that of the input of number K,
+    /// counted from 1, as `K.log`.
+    pub logs: Option<&'a str>,
+    /// The files of the inputs, in their order. Where there is none the inputs are the lines of what is read.
+    pub inputs: Vec<InputFile<'a>>,
+}
+
+/// A file with the console input of a run.
+#[derive(Clone, Copy, Debug, PartialEq, Eq)]
+pub struct InputFile<'a> {
+    /// The name that the line of its run begins with.
+    pub name: &'a str,
+    /// The name by which it is opened.
+    pub place: &'a str,
+}
+
+/// How the output of a console is shown.
+#[derive(Clone, Copy, Debug, PartialEq, Eq)]
+pub enum Shown {
+    /// Its SHA-256 digest.
+    Digest,
+    /// Its bytes; a dash where there is none.
+    Digits,
+}
