@@ -104,6 +104,10 @@ impl Runnable for HostedGuest {
 
     ghost may_stop = { λ h stop. MayStop h.log stop };
 
+    type Kept = ();
+
+    ghost kept = { λ h. tt };
+
     fn steps(&mut self, count: u32) -> (u32, Option<Stop>)
         ensures few { result.0 ≤ count }
         ensures all { result.1 ≡ None → result.0 ≡ count }

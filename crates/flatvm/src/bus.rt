@@ -1,6 +1,7 @@
 //! A plain memory with its devices, as a bus.
 ghost use Rattle.std.specs.Prelude.{◌≡◌, ℕ, ◌+◌, ◌*◌, ◌<◌, ◌≤◌, ◌^◌, ◌↔◌, IfOk, OnOk, OnErr, IsOk, length, None, Some, Ok, Err, if◌then◌else◌, All, fold, drop};
 ghost use Rattle.word32.specs.Pages.{page_number};
+ghost use Rattle.word32.specs.Words.{patched};
 ghost use Rattle.word32.specs.Zeros.{zeros};
 ghost use Rattle.dev_console.specs.Console.{input_room};
 ghost use Rattle.devices.specs.Registers.{device_register_at};
@@ -60,8 +61,8 @@ impl FlatBus {
         &self.devices
     }
 
-    /// Adds a byte of the console's input, which is refused exactly where the console has no room for it.
-    pub(crate) fn feed(&mut self, byte: u8) -> Result<Reply, Rejection>
+    /// Adds a byte of the console's input. It answers `Machine` exactly where the console has no room for it, and nothing has changed then.
+    pub fn feed(&mut self, byte: u8) -> Result<Reply, Rejection>
         ensures fed { OnOk result (self.new ≡ record self.old { devices = device_input_fed byte self.old.devices }) }
         ensures reply { IfOk result (λ r. replied r ≡ None) }
         ensures room { IsOk result ↔ (length self.old.devices.console.input < input_room) }
@@ -85,6 +86,24 @@ impl FlatBus {
             Ok(bytes) => Ok(Reply::Output(bytes)),
             Err(_) => Err(Rejection::Memory),
         }
+    }
+
+    /// Puts bytes in the place of those of a page that memory has. There are 4,096 of them.
+    pub fn put_page(&mut self, page: Ppn, bytes: &[u8])
+        requires there { page * 4096 + 4096 ≤ length self.old.memory }
+        requires whole { length bytes.now ≡ 4096 }
+        ensures { self.new ≡ record self.old { memory = patched self.old.memory (page * 4096) bytes.now 4096 } }
+    {
+        let start = page.number() as usize * 4096;
+        self.bytes[start..start + 4096].copy_from_slice(bytes);
+    }
+
+    /// Puts other devices in the place of the bus's own. They are for a memory of as many pages.
+    pub fn put_devices(&mut self, devices: Devices)
+        requires { length self.old.memory ≡ length devices.balloon.given * 4096 }
+        ensures { self.new ≡ record self.old { devices = devices } }
+    {
+        self.devices = devices;
     }
 
     /// Asks the balloon to hold so many pages.

@@ -22,12 +22,19 @@ pub trait Runnable {
     /// For which reason it may stop.
     ghost may_stop: { Self → Stop → Type 0 };
 
+    /// What no call changes, as a type whose values clauses compare.
+    type Kept;
+
+    /// What no call changes: whatever its owner has to find again after a run.
+    ghost kept: { Self → Self.Kept };
+
     /// Makes `count` steps, or fewer where it stops before: how many, and why no more.
     fn steps(&mut self, count: u32) -> (u32, Option<Stop>)
         ensures few { result.0 ≤ count }
         ensures all { result.1 ≡ None → result.0 ≡ count }
         ensures fewer { IfSome result.1 (λ stop. result.0 < count) }
         ensures state { state self.new ≡ after_steps result.0 (state self.old) }
+        ensures kept { kept self.new ≡ kept self.old }
         ensures reason { IfSome result.1 (may_stop self.new) };
 
     /// Takes a byte of console input, for which the console has room, or says why it stops; then the state is as before.
@@ -35,6 +42,7 @@ pub trait Runnable {
         requires { length (state self.old).board.devices.console.input < 256 }
         ensures fed { OnOk result (state self.new ≡ after (In byte) (state self.old)) }
         ensures stopped { OnErr result (state self.new ≡ state self.old) }
+        ensures kept { kept self.new ≡ kept self.old }
         ensures reason { IfErr result (may_stop self.new) };
 
     /// What is seen of it beside its memory.

@@ -41,6 +41,7 @@ pub fn run<M: Runnable, W: Watch>(
     ensures count { IsCount input.now steps result }
     ensures state { M.state machine.new ≡ after_run result input.now (M.state machine.old) }
     ensures first { IsFirst until.now (fed (take result.taken input.now) (M.state machine.old)) result }
+    ensures kept { M.kept machine.new ≡ M.kept machine.old }
     ensures reason { IfSome result.stop (M.may_stop machine.new) }
 {
     let ran = match feed_all(machine, input) {
@@ -64,6 +65,7 @@ fn make_all<M: Runnable, W: Watch>(machine: &mut M, taken: usize, count: u32, wa
     ensures all { result.stop ≡ None → result.steps ≡ count }
     ensures state { M.state machine.new ≡ after_steps result.steps (M.state machine.old) }
     ensures nowhere { result.ending ≡ None }
+    ensures kept { M.kept machine.new ≡ M.kept machine.old }
     ensures reason { IfSome result.stop (M.may_stop machine.new) }
 {
     let mut made: u32 = 0;
@@ -109,6 +111,7 @@ fn make_until<M: Runnable, W: Watch>(
     ensures all { result.stop ≡ None → result.ending ≡ None → result.steps ≡ count }
     ensures state { M.state machine.new ≡ after_steps result.steps (M.state machine.old) }
     ensures first { IsFirst until.now (M.state machine.old) result }
+    ensures kept { M.kept machine.new ≡ M.kept machine.old }
     ensures reason { IfSome result.stop (M.may_stop machine.new) }
 {
     let mut made: u32 = 0;

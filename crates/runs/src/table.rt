@@ -65,6 +65,10 @@ impl Runnable for Table {
 
     ghost may_stop = { λ t stop. ⊥ };
 
+    type Kept = ();
+
+    ghost kept = { λ t. tt };
+
     fn steps(&mut self, count: u32) -> (u32, Option<Stop>)
         ensures all { result.0 ≡ count }
         ensures state { self.new ≡ after_steps count self.old }

@@ -1,4 +1,4 @@
-use Rattle.std.proofs.Common.{arith}
+use Rattle.std.proofs.Common.{◌∙◌, arith}
 use Rattle.runs.proofs.Ends.{steps_so_far}
 use Rattle.runs.proofs.running.make_all.Goals as goal
 
@@ -13,4 +13,5 @@ loop-made-preserved g c =
     record {
       few = omega (arith, s.ensures.few, c.loop-made.invariant.few, c.min.ensures);
       state = steps_so_far c.loop-made.made s.result.0 (g.M.Runnable.state c.args.machine.now) (g.M.Runnable.state c.loop-made.machine) (g.M.Runnable.state s.new.self) c.loop-made.invariant.state s.ensures.state;
+      kept = s.ensures.kept ∙ c.loop-made.invariant.kept;
     }

@@ -7,6 +7,7 @@ abbrev pub invariant-loop-made : goal.invariant-loop-made
 invariant-loop-made g l = record {
   few : l.made ≤ l.count;
   state : g.M.Runnable.state l.machine ≡ after_steps l.made (g.M.Runnable.state l.fn.machine);
+  kept : g.M.Runnable.kept l.machine ≡ g.M.Runnable.kept l.fn.machine;
 }
 
 abbrev pub decreases-loop-made : goal.decreases-loop-made

@@ -21,6 +21,7 @@ loop-made-preserved g c =
     record {
       few = omega (arith, c.loop-made-test.true);
       state = state;
+      kept = c.steps-stop.ensures.kept ∙ inv.kept;
       none_before = none_more until first made inv.none_before (sym inv.here ∙ nowhere);
       here = ends_next until made first c.step_ending-ending.result
           (c.step_ending-ending.ensures (after_steps made first) status ∙ ap (λ (m : Machine). step_ending until (after_steps made first) m) state);

@@ -8,6 +8,7 @@ abbrev pub invariant-loop-made : goal.invariant-loop-made
 invariant-loop-made g l = record {
   few : l.made ≤ l.count;
   state : g.M.Runnable.state l.machine ≡ after_steps l.made (g.M.Runnable.state l.fn.machine);
+  kept : g.M.Runnable.kept l.machine ≡ g.M.Runnable.kept l.fn.machine;
   none_before : (k : ℕ) → k < l.made → ending_after l.until (g.M.Runnable.state l.fn.machine) k ≡ None;
   here : l.ending ≡ ending_after l.until (g.M.Runnable.state l.fn.machine) l.made;
 }

@@ -1,0 +1,13 @@
+use Rattle.std.proofs.Common.{◌≡◌, ◌-◌, ◌≤◌}
+use Rattle.runs.specs.Runs.{after_steps}
+use Rattle.reset_machine.proofs.resetting.ResetMachine.many_steps.Given as goal
+
+abbrev pub invariant-loop-made : goal.invariant-loop-made
+invariant-loop-made l = record {
+  few : l.made ≤ l.count;
+  machine : l.self.machine ≡ after_steps l.made l.initial.self.machine;
+  boot : l.self.boot ≡ l.initial.self.boot;
+}
+
+abbrev pub decreases-loop-made : goal.decreases-loop-made
+decreases-loop-made l = l.count - l.made

@@ -1,0 +1,9 @@
+use Rattle.std.proofs.Common.{◌≡◌}
+use Rattle.runs.specs.Runs.{after_steps}
+use Rattle.reset_machine.proofs.resetting.ResetMachine.step_by_step.Given as goal
+
+abbrev pub invariant-loop-made : goal.invariant-loop-made
+invariant-loop-made l = record {
+  machine : l.self.machine ≡ after_steps l.made l.initial.self.machine;
+  boot : l.self.boot ≡ l.initial.self.boot;
+}

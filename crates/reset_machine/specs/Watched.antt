@@ -1,0 +1,35 @@
+-- A memory whose changes since its image booted are watched, page by page.
+use Rattle.std.specs.Prelude.{ℕ, ◌≡◌, ◌*◌, ◌^◌, ◌<◌, ◌≤◌, Bool, true, false, List, length, Some}
+use Rattle.devices.specs.declared.register.DeviceRegister.{DeviceRegister}
+use Rattle.devices.specs.Devices.{DevicesAre}
+use Rattle.devices.specs.Registers.{device_register_at, page_to_give}
+use Rattle.elf32.specs.declared.image.Image.{Image}
+use Rattle.elf32.specs.Images.{FitsPages}
+use Rattle.machine.specs.Board.{Board, page_bytes}
+use Rattle.machine.specs.Boot.{boot_memory}
+use Rattle.machine.specs.Step.{Machine}
+use Rattle.reset_machine.specs.Marks.{is_marked}
+
+-- a memory with devices, the machine that its image boots, and the pages that were written since it booted
+pub record WatchedBoard : Type 0 where
+  pub board : Board
+  pub boot : Machine
+  pub written : List ℕ
+
+-- a machine, and the one that it goes back to
+pub record Resettable : Type 0 where
+  pub machine : Machine
+  pub boot : Machine
+
+-- the memory has as many pages as there are marks, and each page that is not marked has the bytes that it had as the image booted
+pub record IsWatched (memory : List ℕ) (marked : List Bool) (image : Image) : Type 0 where
+  pub fits : FitsPages image (length marked)
+  pub few : length marked ≤ 2 ^ 20
+  pub size : length memory ≡ length marked * 4096
+  pub same : (page : ℕ) → page < length marked → is_marked page marked ≡ false
+      → page_bytes page memory ≡ page_bytes page (boot_memory image (length marked))
+
+-- each page that a store to the device's register at an address may give away is marked
+abbrev pub AreGivenMarked : ℕ → ℕ → List Bool → Type 0
+AreGivenMarked at value marked = (register : DeviceRegister) (devices : DevicesAre) (page : ℕ) → device_register_at at ≡ Some register
+    → page_to_give register value devices ≡ Some page → page < length marked → is_marked page marked ≡ true
