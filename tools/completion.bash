@@ -5,7 +5,7 @@ _vmhost() {
         words='asm dis exec replay sim run fuzz help --help --version'
     else
         case $before in
-            --pages | --steps | --in | --memory | --frames | --slots | --port | --seed) return ;;
+            --pages | --steps | --jobs | --in | --memory | --frames | --slots | --port | --seed) return ;;
             --until) mapfile -t COMPREPLY < <(compgen -W 'loop exception 0x' -- "$word"); return ;;
         esac
         case ${COMP_WORDS[1]} in
@@ -14,7 +14,7 @@ _vmhost() {
             asm | dis) words='--help' ;;
             sim) words='--lines --logs --help' ;;
             run) words='--frames --slots --swap --port --seed --logs --admit --help' ;;
-            fuzz) words='--raw --pages --steps --until --out --logs --help' ;;
+            fuzz) words='--raw --pages --steps --until --out --logs --jobs --help' ;;
             help) words='asm dis exec replay sim run fuzz' ;;
         esac
     fi

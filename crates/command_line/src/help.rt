@@ -75,7 +75,8 @@ The lines behind the dump:
 
 /// What is printed of an input.
 pub const LINE: &str = "\
-It prints one line for each input, in their order, as soon as its run is over:
+It prints one line for each input, in their order, as soon as its run is over, or with several jobs as soon as the runs of its batch are: a batch
+has the inputs that have come, for each job at most 256, and as many as make a million steps together:
   NAME steps N END out DIGEST
 
 NAME is the input's file as it was given, or the number of its line, from 1. N is how many steps were made.

@@ -3,7 +3,7 @@ use crate::help::{DUMP, EVENTS, LINE, MONITOR, REFUSALS, RUN};
 use clap::error::ErrorKind;
 use clap::{Arg, ArgAction, ArgMatches, Command, Error, value_parser};
 use commands::{Asm, ConsoleInput, Dis, Exec, Format, MachineKind, Replay, Sim};
-use fuzz_command::{FuzzOrder, InputFile, Shown};
+use fuzz_command::{FuzzOrder, InputFile, Jobs, Shown};
 use hex::FromHexError;
 use inspection::{Extras, LONGEST_REGION, Region};
 use run_command::{GuestOrder, RunOrder, guest_of};
@@ -126,6 +126,9 @@ fn fuzz_of<'a>(
     let Some(until) = until_of(alloc, of_fuzz.get_strs(UNTIL).unwrap_or(&[]))? else {
         return Ok(Err(UNTIL_REFUSED));
     };
+    let Some(jobs) = jobs_of(of_fuzz) else {
+        return Ok(Err(JOBS_REFUSED));
+    };
     let inputs = input_files(alloc, of_fuzz.get_strs(INPUTS).unwrap_or(&[]))?;
     if inputs.is_empty() && run.image == STANDARD_INPUT {
         return Ok(Err(FUZZ_REFUSED));
@@ -136,7 +139,19 @@ fn fuzz_of<'a>(
         shown: shown_of(of_fuzz),
         logs: of_fuzz.get_str(LOGS),
         inputs,
+        jobs,
     }))
+}
+
+/// What is wrong with a number of jobs.
+const JOBS_REFUSED: &str = "the value of '--jobs <N>' is not 1 to 64 in decimal digits alone";
+
+/// How many inputs `fuzz` is to run at once; none where the number is refused.
+fn jobs_of(matches: &ArgMatches<'_>) -> Option<Jobs> {
+    if !is_digits(matches.get_str(JOBS)?) {
+        return None;
+    }
+    Jobs::new(matches.get_one(JOBS)?)
 }
 
 /// What is wrong where `fuzz` is to read both its image and its inputs from standard input.
@@ -401,8 +416,10 @@ const ADMIT: &str = "admit";
 
 const GUEST: &str = "guest";
 
-/// The option of `fuzz` that has outputs shown themselves, and its inputs.
+/// The options of `fuzz` that have outputs shown themselves and inputs run at once, and its inputs.
 const OUT: &str = "out";
+
+const JOBS: &str = "jobs";
 
 const INPUTS: &str = "input";
 
@@ -512,21 +529,22 @@ fn guests_command<'a>(alloc: Global) -> Result<Command<'a>, AllocError> {
 
 fn fuzz_command<'a>(alloc: Global) -> Result<Command<'a>, AllocError> {
     let command = Command::new(alloc, FUZZ)
-        .about(
-            "Runs an image on many inputs, each in a guest booted anew, and prints a line for each",
-        )
+        .about("Runs an image on many inputs, each from the boot, and prints a line for each")
         .after_help(LINE)
         .arg(raw_flag(alloc))?
         .arg(flag(alloc, OUT).help("Print each output itself in place of its SHA-256 digest"))?;
     let command = with_numbers(alloc, command)?;
     let until = until_list(alloc).help(
-        "End at the first state that is so: loop (a branch to itself, for ever), exception (one was entered), or an address 0xADDRESS that PC stands at",
+        "End at the first state that is so: loop (a branch to itself, for ever), exception (one was entered), or an address 0xADDRESS that PC stands at; may be given more than once",
     );
     let command = command.arg(until)?.arg(
         Arg::new(alloc, LOGS).long(LOGS).value_name("DIR").help(
             "A directory that the logs of runs that end in an exception are written to: that of input K, from 1, as K.log",
         ),
     )?;
+    let command = command.arg(number(alloc, JOBS, "N", "1").help(
+        "How many inputs are run at once, each by a thread of its own: 1 to 64; what is printed is the same with any number",
+    ))?;
     command
         .arg(file(alloc, "image", "IMAGE").help("The file of the image, or - for standard input"))?
         .arg(inputs(alloc))
@@ -601,10 +619,10 @@ fn with_texts<'a>(alloc: Global, command: Command<'a>) -> Result<Command<'a>, Al
 /// The options that may be given more than once.
 fn with_lists<'a>(alloc: Global, command: Command<'a>) -> Result<Command<'a>, AllocError> {
     let until = until_list(alloc).help(
-        "End at the first state that is so: loop (a branch to itself, for ever), exception (one was entered), or an address 0xADDRESS that PC stands at; a line on standard error says which",
+        "End at the first state that is so: loop (a branch to itself, for ever), exception (one was entered), or an address 0xADDRESS that PC stands at; a line on standard error says which; may be given more than once",
     );
     let memory = list(alloc, MEMORY, "ADDRESS:LENGTH").help(
-        "Print 1 to 1024 bytes of memory behind the dump, from a virtual address 0xADDRESS on",
+        "Print 1 to 1024 bytes of memory behind the dump, from a virtual address 0xADDRESS on; may be given more than once",
     );
     command.arg(until)?.arg(memory)
 }

@@ -166,7 +166,7 @@ fn answer_fuzz<R, I, O, E>(
     err: &mut E,
 ) -> io::Result<Status>
 where
-    R: Files + AllocGlobal,
+    R: Files + AllocGlobal + Threads + Sync,
     I: BufRead,
     O: Write,
     E: Write,

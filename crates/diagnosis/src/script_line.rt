@@ -135,7 +135,7 @@ fn event_text(alloc: Global, form: Form, quoted: &str, guests: u64) -> Result<St
         text.push_str("; ")?;
         text.push_str(guests_text(alloc, guests)?.as_str())?;
     }
-    if may_be_each(word) {
+    if guests > 0 && may_be_each(word) {
         text.push_str(", or * for each guest")?;
     }
     Ok(text)

@@ -16,7 +16,7 @@ const MOST_LISTED: usize = 4;
 
 /// What links a program to where the memory is.
 const PLACED: &str =
-    "link with -T SCRIPT, a linker script that places it there (docs/COMMANDS.md has one)";
+    "link with -T SCRIPT, a linker script that places it there (examples/gnu/vmhost.ld is one)";
 
 /// The address after the last of a range.
 fn end_of(range: &AddressRange) -> u64

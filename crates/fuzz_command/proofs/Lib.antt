@@ -1,3 +1,5 @@
+mod Batches
 mod Faults
 mod Orders
+mod RunLogs
 mod Trials

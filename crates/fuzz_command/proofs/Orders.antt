@@ -33,15 +33,6 @@ of_begun order file had known known' is = record { image = is.image; is = of_ima
 pub of_left : (order : FuzzOrder) (file had known known' : Option (List ℕ)) → IsLeft order file had known known' → IsLeft order None had known known'
 of_left order file had known known' is = elim is [ inl same ↦ inl same | inr begun ↦ inr (of_begun order file had known known' begun) ]
 
--- what is so of a value or an error follows from what is so of it
-pub each_ok : {X E : Type 0} (r : Result X E) (P Q : X → Type 0) → IfOk r P → ((x : X) → P x → Q x) → IfOk r Q
-each_ok (Ok x) P Q is more = more x is
-each_ok (Err e) P Q is more = tt
-
-pub each_error : {X E : Type 0} (r : Result X E) (A : E → Type 0) (P Q : Type 0) → IfErr r (λ e. A e → P) → (P → Q) → IfErr r (λ e. A e → Q)
-each_error (Ok x) A P Q is more = tt
-each_error (Err e) A P Q is more = λ a. more (is a)
-
 -- what is written of an image that was loaded, by a setting that is the order's
 pub image_fuzzed : (order : FuzzOrder) (file had known known' : Option (List ℕ)) (stopped : Bool) (loaded image : Image) (s : Setting) → IsImage order file loaded → loaded ≡ image → s ≡ setting_in order image
     → Writes s (AreInputs order.inputs.items had) known known' stopped → IsFuzzed order file had known known' stopped

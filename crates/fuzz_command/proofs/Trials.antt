@@ -1,5 +1,5 @@
 -- Runs, one after another.
-use Rattle.std.proofs.Common.{◌≡◌, refl, sym, ap, subst, ◌∙◌, ℕ, ◌+◌, ◌<◌, arith, Bool, true, false, ◌||◌, is_some, List, [], ◌∷◌, ◌++◌, All, append_assoc, length, length-append, map, take, drop, take_all, get_or, ◌≤◌, length-take, Option, Some, None, IfSome, decimal, Result, Ok, Err, IfErr}
+use Rattle.std.proofs.Common.{◌≡◌, refl, sym, ap, subst, ◌∙◌, ℕ, ◌+◌, ◌<◌, arith, Bool, true, false, ◌||◌, is_some, List, [], ◌∷◌, ◌++◌, All, append_assoc, length, length-append, map, take, drop, take_all, get_or, ◌≤◌, length-take, Option, Some, None, IfSome, decimal, Result, Ok, Err, IfErr, IfOk}
 use Rattle.std.specs.Io.BufRead.{drop_through}
 use Rattle.std.specs.Io.KnownBytes.{Appends, IsAtEnd, prepend_known}
 use Rattle.std.specs.List.{flat_map, list_any}
@@ -24,7 +24,7 @@ appends_none : (k : Option (List ℕ)) → Appends k k []
 appends_none None = tt
 appends_none (Some xs) = sym (append-nil xs)
 
-appends_more : (k k' k'' : Option (List ℕ)) (s t : List ℕ) → Appends k k' s → Appends k' k'' t → Appends k k'' (s ++ t)
+pub appends_more : (k k' k'' : Option (List ℕ)) (s t : List ℕ) → Appends k k' s → Appends k' k'' t → Appends k k'' (s ++ t)
 appends_more None k' k'' s t a b = tt
 appends_more (Some xs) None k'' s t a b = absurd a
 appends_more (Some xs) (Some ys) None s t a b = absurd b
@@ -229,6 +229,15 @@ of_first_files s (f ∷ fs) had known known' some begins = begins
 pub each_err : {X E : Type 0} (r : Result X E) (Q : E → Type 0) (P : Type 0) → P → IfErr r (λ e. Q e → P)
 each_err (Ok x) Q P p = tt
 each_err (Err e) Q P p = λ q. p
+
+-- what is so of a value or an error follows from what is so of it
+pub each_ok : {X E : Type 0} (r : Result X E) (P Q : X → Type 0) → IfOk r P → ((x : X) → P x → Q x) → IfOk r Q
+each_ok (Ok x) P Q is more = more x is
+each_ok (Err e) P Q is more = tt
+
+pub each_error : {X E : Type 0} (r : Result X E) (A : E → Type 0) (P Q : Type 0) → IfErr r (λ e. A e → P) → (P → Q) → IfErr r (λ e. A e → Q)
+each_error (Ok x) A P Q is more = tt
+each_error (Err e) A P Q is more = λ a. more (is a)
 
 -- what is so of an error is so of the one that it is passed on as
 pub passed_err : {X E : Type 0} (r : Result X E) (e : E) (Q : E → Type 0) (P : Type 0) → IsErrAnd r (λ x. x ≡ e) → (Q e → P) → IfErr r (λ x. Q x → P)

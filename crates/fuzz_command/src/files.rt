@@ -1,23 +1,27 @@
 //! Inputs that are files.
-ghost use Rattle.std.specs.Prelude.{◌≡◌, ◌≢◌, ◌≤◌, IfErr, IfOk, IfSome, length};
+ghost use Rattle.std.specs.Prelude.{◌≡◌, ◌≢◌, ◌<◌, ◌≤◌, IfErr, IfOk, IfSome, length, string_bytes};
 ghost use Rattle.fuzz_command.specs.Faults.{IsFileFault, IsFilesFault};
 ghost use Rattle.fuzz_command.specs.Inputs.{AreFiles, BeginFiles};
+ghost use Rattle.fuzz_command.specs.Jobs.{TakesFiles, job_name};
 ghost use Rattle.fuzz_command.specs.Settings.{CanBoot, setting_of};
 ghost use Rattle.fuzz_command.specs.Writing.{Begins, Writes};
 
 use crate::fault::FuzzFault;
+use crate::job::{Batch, Job, Outcome, Then};
+use crate::jobs::Jobs;
 use crate::lines::MOST_INPUT;
+use crate::logs::CrashKeeper;
 use crate::order::InputFile;
-use crate::running::try_input;
 use crate::setting::Setting;
+use crate::writing::try_jobs;
 use commands::fault::of_file;
 use commands::{ConsoleInput, Fault};
-use simulation::LogKeeper;
 use std::alloc::Global;
 use std::fs::File;
 use std::io;
 use std::io::{Read, Write};
 use std::rt::Files;
+use std::thread::Threads;
 
 // The bytes of a file, of which one more is read than an input has at most.
 fn first_bytes<F: Read + Drop>(alloc: Global, file: F) -> io::Result<Vec<u8>>
@@ -58,14 +62,71 @@ fn read_input<'a, R: Files + AllocGlobal>(
     file_input(rt.alloc(), file, of)
 }
 
-/// Runs the input of each file, in order, and writes its line. The answer is whether a guest stopped.
+// The input that a file of this number, from 1, holds.
+fn file_job<'a, R: Files + AllocGlobal>(
+    rt: &R,
+    number: usize,
+    of: InputFile<'a>,
+) -> Result<Job, Fault<'a>>
+    ensures name { IfOk result (λ job. job_name job ≡ of.entry.name.now) }
+    ensures faults { IfErr result (IsFileFault of.entry) }
+{
+    let input = read_input(rt, of)?;
+    let name = String::from_str(rt.alloc(), of.name)?;
+    Ok(Job {
+        number,
+        name,
+        input,
+        outcome: Outcome::Waiting,
+    })
+}
+
+// The inputs of the next files, of which the first has this index, and so many at most.
+fn next_files<'a, R: Files + AllocGlobal>(
+    rt: &R,
+    first: usize,
+    most: usize,
+    files: &[InputFile<'a>],
+) -> Batch<'a>
+    requires inside { first ≤ length files.now }
+    requires some { 0 < most }
+    ensures { TakesFiles files.now first result.jobs.items result.then }
+{
+    let mut jobs = Vec::new(rt.alloc());
+    let count = most.min(files.len() - first);
+    let last = first + count;
+    for index in first..last {
+        match file_job(rt, index.saturating_add(1), files[index]) {
+            Ok(job) => if jobs.push(job).is_err() {
+                return Batch {
+                    jobs,
+                    then: Then::Fault(FuzzFault::Command(Fault::Memory)),
+                };
+            },
+            Err(fault) => {
+                return Batch {
+                    jobs,
+                    then: Then::Fault(FuzzFault::Command(fault)),
+                };
+            }
+        }
+    }
+    let then = if last == files.len() {
+        Then::End
+    } else {
+        Then::More(last)
+    };
+    Batch { jobs, then }
+}
+
+/// Runs the input of each file, in order and as many at once as there are jobs, and writes its line. The answer is whether a guest stopped.
 ///
-/// An error is `Command` where a file can't be read or has too many bytes, or memory was refused, and `Output` where a line could not be written.
-/// Where it isn't the last, the lines of the inputs before stand.
-#[tactic(auto, using(crate::proofs::Faults::of_file, crate::proofs::Faults::of_trial))]
-pub(crate) fn fuzz_files<'a, R: Files + AllocGlobal, K: LogKeeper, O: Write>(
+/// An error is `Command` where a file can't be read or has too many bytes, or memory was refused, and `Output` where a line could not be written:
+/// the first in the order of the inputs. Where it isn't the last, the lines of the inputs before stand.
+pub(crate) fn fuzz_files<'a, R: Files + AllocGlobal + Threads + Sync, K: CrashKeeper, O: Write>(
     rt: &R,
     setting: &Setting<'_>,
+    at_once: &Jobs,
     files: &[InputFile<'a>],
     keeper: &mut K,
     out: &mut O,
@@ -76,20 +137,27 @@ pub(crate) fn fuzz_files<'a, R: Files + AllocGlobal, K: LogKeeper, O: Write>(
     ensures faults { IfErr result (IsFilesFault files.now) }
 {
     let mut stopped = false;
-    for (place, file) in files.iter().enumerate() {
-        let input = read_input(rt, *file)?;
-        let number = place.saturating_add(1);
-        let stops = try_input(
+    let mut machine = None;
+    let mut first = 0;
+    while first < files.len() {
+        let Batch { jobs, then } = next_files(rt, first, at_once.batch(setting.steps), files);
+        let stops = try_jobs(
+            rt,
             rt.alloc(),
             setting,
-            number,
-            file.name,
-            input.as_slice(),
+            at_once,
+            &mut machine,
+            jobs,
             keeper,
             out,
         )?;
         if stops {
             stopped = true;
+        }
+        match then {
+            Then::More(next) => first = next,
+            Then::End => return Ok(stopped),
+            Then::Fault(fault) => return Err(fault),
         }
     }
     Ok(stopped)

@@ -9,8 +9,8 @@ ghost use Rattle.fuzz_command.specs.Writing.{Begins, IsBroken, IsFuzzed, IsImage
 
 use crate::fault::FuzzFault;
 use crate::files::fuzz_files;
-use crate::lines::fuzz_lines;
-use crate::logs::{CrashLogs, logs_are_apart};
+use crate::lines::{MOST_LINE, fuzz_lines};
+use crate::logs::{CrashKeeper, CrashLogs, logs_are_apart};
 use crate::order::FuzzOrder;
 use crate::setting::Setting;
 use commands::Fault;
@@ -18,12 +18,12 @@ use commands::exec::load;
 use commands::fault::of_file;
 use commands::image_file::Loaded;
 use elf32::Image;
-use simulation::LogKeeper;
 use std::alloc::{AllocError, Global};
 use std::fs::File;
 use std::io::{BufRead, BufReader, Read, Write};
 use std::rt::Files;
 use std::sync::Arc;
+use std::thread::Threads;
 
 /// How the runs of all inputs went.
 #[derive(Clone, Copy, Debug, PartialEq, Eq)]
@@ -34,8 +34,11 @@ pub struct FuzzEnd {
     pub unwritten: Option<usize>,
 }
 
+/// How many bytes of lines are read ahead at least, where they have come.
+const LEAST_AHEAD: usize = 8192;
+
 // Runs the inputs of an order.
-fn run_inputs<'a, R: Files + AllocGlobal, I: BufRead, K: LogKeeper, O: Write>(
+fn run_inputs<'a, R: Files + AllocGlobal + Threads + Sync, I: BufRead, K: CrashKeeper, O: Write>(
     rt: &R,
     order: &FuzzOrder<'a>,
     setting: &Setting<'_>,
@@ -50,20 +53,21 @@ fn run_inputs<'a, R: Files + AllocGlobal, I: BufRead, K: LogKeeper, O: Write>(
     ensures faults { IfErr result (IsFuzzFault order.now) }
 {
     if order.inputs.is_empty() {
-        let mut ahead = match BufReader::new(rt.alloc(), input) {
+        let room = order.jobs.batch(order.run.steps) * MOST_LINE;
+        let mut ahead = match BufReader::with_capacity(rt.alloc(), room.max(LEAST_AHEAD), input) {
             Ok(ahead) => ahead,
             Err(_) => return Err(FuzzFault::Command(Fault::Memory)),
         };
-        fuzz_lines(rt.alloc(), setting, &mut ahead, keeper, out)
+        fuzz_lines(rt, setting, &order.jobs, &mut ahead, keeper, out)
     } else {
-        fuzz_files(rt, setting, &order.inputs, keeper, out)
+        fuzz_files(rt, setting, &order.jobs, &order.inputs, keeper, out)
     }
 }
 
 /// Runs the image in a file on each of the inputs of an order, as `fuzz_order` does.
 ///
 /// An error is one of `fuzz_order`, but that the file is open and no log is in its way.
-pub fn fuzz_file<'a, R: Files + AllocGlobal, F: Read + Drop, I: BufRead, O: Write>(
+pub fn fuzz_file<'a, R: Files + AllocGlobal + Threads + Sync, F: Read + Drop, I: BufRead, O: Write>(
     rt: &R,
     file: F,
     order: &FuzzOrder<'a>,
@@ -76,8 +80,8 @@ pub fn fuzz_file<'a, R: Files + AllocGlobal, F: Read + Drop, I: BufRead, O: Writ
     ensures faults { IfErr result (IsFuzzFault order.now) }
 {
     let Loaded { image, digest } = load_image(rt.alloc(), file, order)?;
-    let mut logs = CrashLogs::new(rt, order, digest)?;
-    let setting = shared(rt.alloc(), order, image)?;
+    let mut logs = CrashLogs::new(rt, order)?;
+    let setting = shared(rt.alloc(), order, image, digest)?;
     let stopped = run_inputs(rt, order, &setting, input, &mut logs, out)?;
     Ok(FuzzEnd {
         stopped,
@@ -102,6 +106,7 @@ fn shared<'o, 'a>(
     alloc: Global,
     order: &'o FuzzOrder<'a>,
     image: Image,
+    digest: [u8; 32],
 ) -> Result<Setting<'o>, AllocError>
     requires legal { IsPageCount order.now.run.pages }
     requires fits { FitsPages image order.now.run.pages }
@@ -115,11 +120,12 @@ fn shared<'o, 'a>(
         steps: order.run.steps,
         until: &order.until,
         shown: order.shown,
+        logs: order.logs.map(|_| digest),
     })
 }
 
 /// Runs the image of an order on each of its inputs, or, where it has none, on each line that is read from `input`, of hexadecimal digits: each
-/// in a guest of its own, which boots anew. The line of each is written as soon as its run is over: it says how far the run went, why it ended,
+/// on a machine that is as the image boots. The line of each is written as soon as its run is over: it says how far the run went, why it ended,
 /// and what the console had put out. The logs of runs that end in an exception are written into the directory of the order, if it names one.
 ///
 /// An error is `Command`: `File` where a log would be written over the image or an input's file, and then where the image's file can't be read;
@@ -127,7 +133,7 @@ fn shared<'o, 'a>(
 /// file can't be read or has more than 256 bytes; `Boot` and `Memory` where a request for memory was refused. `Line` with the number of the first
 /// line that is no input; `Unread` where the lines can't be read; `Output` where a line could not be written. But for the last the lines of the
 /// inputs before stand, and nothing else.
-pub fn fuzz_order<'a, R: Files + AllocGlobal, I: BufRead, O: Write>(
+pub fn fuzz_order<'a, R: Files + AllocGlobal + Threads + Sync, I: BufRead, O: Write>(
     rt: &R,
     order: &FuzzOrder<'a>,
     input: &mut I,

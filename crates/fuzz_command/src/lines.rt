@@ -1,24 +1,46 @@
 //! Inputs that are the lines of what is read.
-ghost use Rattle.std.specs.Prelude.{◌≡◌, ◌≢◌, ℕ, [], Some, None, IfErr, IfOk, IfSome, IsErrOf};
+ghost use Rattle.std.specs.Prelude.{◌≡◌, ◌≢◌, ◌+◌, ◌++◌, ◌∷◌, ℕ, [], length, Some, None, IfErr, IfOk, IfSome, IsErrOf};
 ghost use Rattle.std.specs.Io.BufRead.{strip_last};
 ghost use Rattle.std.specs.Io.KnownBytes.{IsAtEnd};
+ghost use Rattle.commands.specs.declared.fault.Fault.{Fault};
+ghost use Rattle.fuzz_command.specs.declared.fault.FuzzFault.{FuzzFault};
+ghost use Rattle.fuzz_command.specs.declared.job.Then.{Then};
 ghost use Rattle.fuzz_command.specs.Faults.{IsLinesFault, IsReadFault};
 ghost use Rattle.fuzz_command.specs.Inputs as spec;
-ghost use Rattle.fuzz_command.specs.Inputs.{AreBefore, AreInputs, BeginInputs, IsNext};
+ghost use Rattle.fuzz_command.specs.Inputs.{AreBefore, AreInputs, BeginInputs, IsNext, IsNoLine};
+ghost use Rattle.fuzz_command.specs.Jobs.{IfFault, IsNextJob, IsNumbered, TakesLine, TakesLines};
 ghost use Rattle.fuzz_command.specs.Settings.{CanBoot, setting_of};
-ghost use Rattle.fuzz_command.specs.Writing.{Begins, RunsLine, Writes};
+ghost use Rattle.fuzz_command.specs.Writing.{Begins, Writes};
 
 use crate::fault::FuzzFault;
-use crate::running::try_input;
+use crate::job::{Batch, Job, Outcome, Then};
+use crate::jobs::Jobs;
+use crate::logs::CrashKeeper;
 use crate::setting::Setting;
-use commands::ConsoleInput;
+use crate::writing::try_jobs;
+use commands::{ConsoleInput, Fault};
 use hex::FromHexError;
-use simulation::LogKeeper;
 use std::alloc::{AllocError, Global};
-use std::io::{BufRead, ErrorKind, Write};
+use std::io::{BufRead, BufReader, ErrorKind, Read, Write};
+use std::thread::Threads;
 
 /// The greatest number of bytes of an input.
 pub(crate) const MOST_INPUT: usize = 256;
+
+/// The greatest number of bytes of a line that is an input: its digits, and the line feed.
+pub(crate) const MOST_LINE: usize = 2 * MOST_INPUT + 1;
+
+/// A reader that reads ahead.
+pub(crate) trait ReadAhead: BufRead {
+    /// Whether a whole line has come, so that the next one is read without waiting for it.
+    fn has_line(&self) -> bool;
+}
+
+impl<R: Read> ReadAhead for BufReader<R, Global> {
+    fn has_line(&self) -> bool {
+        self.buffer().contains(&b'\n')
+    }
+}
 
 // The input that hexadecimal digits are; none where they are no such digits, or more than 512.
 fn input_of(alloc: Global, digits: &[u8]) -> Result<Option<ConsoleInput>, AllocError>
@@ -71,33 +93,105 @@ fn input_in<'a>(alloc: Global, number: usize, line: &[u8]) -> Result<ConsoleInpu
     }
 }
 
-// Runs the input of the line of this number, and writes its line. The answer is whether the guest stopped.
-fn try_line<'a, K: LogKeeper, O: Write>(
+// The input of the next line, which has this number; none at the end.
+fn next_job<'a, B: BufRead>(
     alloc: Global,
-    setting: &Setting<'_>,
     number: usize,
-    line: &[u8],
-    keeper: &mut K,
-    out: &mut O,
-) -> Result<bool, FuzzFault<'a>>
-    requires boots { CanBoot setting.now }
-    ensures line { IfOk result (λ stopped. RunsLine (setting_of setting.now) number line.now (O.contents out.old) (O.contents out.new) stopped) }
-    ensures none { (n : ℕ) → IsErrOf result (FuzzFault.Line n) → (n ≡ number) × (spec.input_of line.now ≡ None) }
-    ensures unwritten { IfErr result (λ fault. fault ≢ FuzzFault.Output → out.new ≡ out.old) }
+    input: &mut B,
+) -> Result<Option<Job>, FuzzFault<'a>>
+    ensures line { IfSome (B.remaining input.old) (λ text. IfOk result (λ next. IfSome next (λ job. IsNextJob number text job (B.remaining input.new)))) }
+    ensures end { IfOk result (λ next. next ≡ None → IsAtEnd (B.remaining input.old)) }
+    ensures none { (n : ℕ) → IsErrOf result (FuzzFault.Line n) → (n ≡ number) × IfSome (B.remaining input.old) IsNoLine }
     ensures faults { IfErr result IsLinesFault }
 {
-    let input = input_in(alloc, number, line)?;
+    let Some(line) = next_line(alloc, input)? else {
+        return Ok(None);
+    };
+    let input = input_in(alloc, number, &line)?;
     let name = format!(in alloc; "{number}")?;
-    try_input(alloc, setting, number, &name, input.as_slice(), keeper, out)
+    Ok(Some(Job {
+        number,
+        name,
+        input,
+        outcome: Outcome::Waiting,
+    }))
 }
 
-/// Runs the input of each line that is read, in order, and writes its line. The answer is whether a guest stopped.
+// Adds an input to others; where there is no memory for it, that is what comes behind them.
+fn add_job<'a>(jobs: &mut Vec<Job>, job: Job) -> Option<Then<'a>>
+    ensures added { result ≡ None → jobs.new.items ≡ jobs.old.items ++ job ∷ [] }
+    ensures same { IfSome result (λ then. (then ≡ Then.Fault (FuzzFault.Command Fault.Memory)) × (jobs.new.items ≡ jobs.old.items)) }
+{
+    match jobs.push(job) {
+        Ok(()) => None,
+        Err(_) => Some(Then::Fault(FuzzFault::Command(Fault::Memory))),
+    }
+}
+
+// Reads the next line, which has this number, behind others; where it is no input, or there is none, the answer is what comes behind them.
+#[tactic(auto, using(crate::proofs::Batches::line_added))]
+fn take_line<'a, B: BufRead>(
+    alloc: Global,
+    number: usize,
+    jobs: &mut Vec<Job>,
+    input: &mut B,
+) -> Option<Then<'a>>
+    ensures line { TakesLine number (B.remaining input.old) jobs.old.items jobs.new.items (B.remaining input.new) result }
+    ensures faults { IfSome result (λ then. IfFault then IsLinesFault) }
+{
+    match next_job(alloc, number, input) {
+        Ok(Some(job)) => add_job(jobs, job),
+        Ok(None) => Some(Then::End),
+        Err(fault) => Some(Then::Fault(fault)),
+    }
+}
+
+// The inputs of the next lines, of which the first has this number, and so many at most: of those that have come, and at least of one.
+fn next_lines<'a, B: ReadAhead>(
+    alloc: Global,
+    first: usize,
+    most: usize,
+    input: &mut B,
+) -> Batch<'a>
+    ensures lines { IfSome (B.remaining input.old) (λ text. TakesLines first text result.jobs.items (B.remaining input.new) result.then) }
+    ensures numbers { IsNumbered (first + length result.jobs.items) result.then }
+    ensures faults { IfFault result.then IsLinesFault }
+{
+    let mut jobs = Vec::new(alloc);
+    let last = first.saturating_add(most);
+    for number in first..last {
+        if number > first && !input.has_line() {
+            return Batch {
+                jobs,
+                then: Then::More(number),
+            };
+        }
+        if let Some(then) = take_line(alloc, number, &mut jobs, input) {
+            return Batch { jobs, then };
+        }
+    }
+    Batch {
+        jobs,
+        then: Then::More(last),
+    }
+}
+
+/// Runs the input of each line that is read, in order and as many at once as there are jobs, and writes its line. The answer is whether a guest
+/// stopped.
 ///
 /// An error is `Line` with the number of the first line that is no input, `Unread` where the lines can't be read, `Command` where memory was
-/// refused, and `Output` where a line could not be written. Where it isn't the last, the lines of the inputs before stand.
-pub(crate) fn fuzz_lines<'a, B: BufRead, K: LogKeeper, O: Write>(
-    alloc: Global,
+/// refused, and `Output` where a line could not be written: the first in the order of the inputs. Where it isn't the last, the lines of the inputs
+/// before stand.
+pub(crate) fn fuzz_lines<
+    'a,
+    R: AllocGlobal + Threads + Sync,
+    B: ReadAhead,
+    K: CrashKeeper,
+    O: Write,
+>(
+    rt: &R,
     setting: &Setting<'_>,
+    at_once: &Jobs,
     input: &mut B,
     keeper: &mut K,
     out: &mut O,
@@ -109,13 +203,32 @@ pub(crate) fn fuzz_lines<'a, B: BufRead, K: LogKeeper, O: Write>(
     ensures faults { IfErr result IsLinesFault }
 {
     let mut stopped = false;
-    for number in 1..usize::MAX {
-        let Some(line) = next_line(alloc, input)? else {
-            return Ok(stopped);
-        };
-        let stops = try_line(alloc, setting, number, &line, keeper, out)?;
+    let mut machine = None;
+    let mut number = 1;
+    for _ in 0..u64::MAX {
+        let Batch { jobs, then } = next_lines(
+            rt.alloc(),
+            number,
+            at_once.batch(setting.steps),
+            input,
+        );
+        let stops = try_jobs(
+            rt,
+            rt.alloc(),
+            setting,
+            at_once,
+            &mut machine,
+            jobs,
+            keeper,
+            out,
+        )?;
         if stops {
             stopped = true;
+        }
+        match then {
+            Then::More(next) => number = next,
+            Then::End => return Ok(stopped),
+            Then::Fault(fault) => return Err(fault),
         }
     }
     Err(FuzzFault::Unread)

@@ -2,15 +2,20 @@
 ghost use Rattle.std.specs.Prelude.{IfErr};
 ghost use Rattle.fuzz_command.specs.Faults.{IsCommandFault};
 
+use crate::job::CrashLog;
 use crate::order::{FuzzOrder, InputFile};
 use commands::Fault;
-use commands::log_file::{log_name, make_directory, write_log};
-use guest_log::Log;
-use output_file::is_one_file;
-use simulation::LogKeeper;
+use commands::log_file::{log_name, make_directory};
+use output_file::{is_one_file, write_file};
 use std::alloc::AllocError;
 use std::fs;
 use std::rt::Files;
+
+/// Whoever keeps the logs of runs.
+pub(crate) trait CrashKeeper {
+    /// Keeps the log of the run of the input of this number, if it is to be kept.
+    fn keep(&mut self, number: usize, log: &CrashLog);
+}
 
 /// The files of the logs of runs, in a directory; or none, where there is no directory for them.
 #[derive(Drop)]
@@ -18,17 +23,12 @@ pub(crate) struct CrashLogs<'r, 'a, R: Files + AllocGlobal> {
     rt: &'r R,
     directory: Option<&'a str>,
     image: &'a str,
-    digest: [u8; 32],
     unwritten: Option<usize>,
 }
 
 impl<'r, 'a, R: Files + AllocGlobal> CrashLogs<'r, 'a, R> {
-    /// Files in the directory of an order, if it names one, which is made where it is not there, of logs of the image of this digest.
-    pub(crate) fn new(
-        rt: &'r R,
-        order: &FuzzOrder<'a>,
-        digest: [u8; 32],
-    ) -> Result<CrashLogs<'r, 'a, R>, Fault<'a>>
+    /// Files in the directory of an order, if it names one, which is made where it is not there.
+    pub(crate) fn new(rt: &'r R, order: &FuzzOrder<'a>) -> Result<CrashLogs<'r, 'a, R>, Fault<'a>>
         ensures { IfErr result (IsCommandFault order.now) }
     {
         if let Some(name) = order.logs {
@@ -38,7 +38,6 @@ impl<'r, 'a, R: Files + AllocGlobal> CrashLogs<'r, 'a, R> {
             rt,
             directory: order.logs,
             image: order.run.image,
-            digest,
             unwritten: None,
         })
     }
@@ -49,21 +48,26 @@ impl<'r, 'a, R: Files + AllocGlobal> CrashLogs<'r, 'a, R> {
     }
 
     /// Whether the log of an input's run is written. None is written over the image.
-    fn write(&self, directory: &str, number: usize, pages: u32, log: &Log) -> bool {
+    fn write(&self, directory: &str, number: usize, bytes: &[u8]) -> bool {
         let Ok(name) = log_name(self.rt.alloc(), directory, number) else {
             return false;
         };
         !is_one_file(self.rt, name.as_str(), self.image)
-            && write_log(self.rt, name.as_str(), log, pages, &self.digest).is_ok()
+            && write_file(self.rt, name.as_str(), bytes).is_ok()
     }
 }
 
-impl<R: Files + AllocGlobal> LogKeeper for CrashLogs<'_, '_, R> {
-    fn keep(&mut self, number: usize, pages: u32, log: &Log) {
+impl<R: Files + AllocGlobal> CrashKeeper for CrashLogs<'_, '_, R> {
+    fn keep(&mut self, number: usize, log: &CrashLog) {
         let Some(directory) = self.directory else {
             return;
         };
-        if !self.write(directory, number, pages, log) && self.unwritten.is_none() {
+        let kept = match log {
+            CrashLog::Unwanted => true,
+            CrashLog::File(bytes) => self.write(directory, number, bytes),
+            CrashLog::Lost => false,
+        };
+        if !kept && self.unwritten.is_none() {
             self.unwritten = Some(number);
         }
     }

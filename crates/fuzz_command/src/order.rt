@@ -1,4 +1,5 @@
 //! What `fuzz` is to do.
+use crate::jobs::Jobs;
 use commands::Exec;
 use runs::Until;
 
@@ -16,6 +17,8 @@ pub struct FuzzOrder<'a> {
     pub logs: Option<&'a str>,
     /// The files of the inputs, in their order. Where there is none the inputs are the lines of what is read.
     pub inputs: Vec<InputFile<'a>>,
+    /// How many inputs are run at once. What is printed is the same with any number.
+    pub jobs: Jobs,
 }
 
 /// A file with the console input of a run.

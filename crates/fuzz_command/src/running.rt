@@ -1,79 +1,192 @@
-//! The run of an input.
-ghost use Rattle.std.specs.Prelude.{◌≡◌, ◌≢◌, ◌≤◌, IfErr, IfOk, length, string_bytes};
-ghost use Rattle.commands.specs.Faults.{IsWant};
-ghost use Rattle.fuzz_command.specs.Faults.{IsTrialFault};
+//! The runs of inputs.
+ghost use Rattle.std.specs.Prelude.{◌≡◌, ◌≤◌, ◌<◌, ℕ, IfOk, IfSome, length, slice_index_or, string_bytes};
+ghost use Rattle.fuzz_command.specs.Jobs.{IsOutcome, IsReusable, IsRunOf};
 ghost use Rattle.fuzz_command.specs.Lines.{IsTrial, line_text};
 ghost use Rattle.fuzz_command.specs.Settings.{CanBoot, setting_of};
-ghost use Rattle.fuzz_command.specs.Writing.{WritesLine};
 
-use crate::fault::FuzzFault;
+use crate::job::{CrashLog, Job, Outcome, RunResult, Want};
+use crate::jobs::Jobs;
 use crate::line::line_of;
+use crate::run_log::log_of;
 use crate::setting::Setting;
-use commands::Fault;
-use commands::fault::of_boot;
-use commands::hosted::HostedGuest;
+use commands::log_file::log_bytes;
+use reset_machine::ResetMachine;
 use runs::{Ending, Nobody, Ran, run};
-use simulation::LogKeeper;
-use std::alloc::Global;
-use std::io::Write;
-
-/// The line of an input, and how its run went.
-#[derive(Drop)]
-struct Line {
-    text: String,
-    ran: Ran,
-}
+use std::alloc::{AllocError, Global};
+use std::thread::{Threads, for_each_chunk_mut};
 
 // Whether a run ended in an exception.
 fn is_exception(ran: Ran) -> bool {
     matches!(ran.ending, Some(Ending::Exception(_, _)))
 }
 
-// Boots a guest of its own for an input, runs it and gives it up. Where the run ended in an exception, `keeper` gets its log, by the
-// input's number.
-fn run_input<'a, K: LogKeeper>(
-    alloc: Global,
-    setting: &Setting<'_>,
-    number: usize,
-    name: &str,
-    input: &[u8],
-    keeper: &mut K,
-) -> Result<Line, Fault<'a>>
-    requires few { length input.now ≤ 256 }
-    requires boots { CanBoot setting.now }
-    ensures trial { IfOk result (λ line. IsTrial (setting_of setting.now) (record { name = name.now; input = input.now; ran = line.ran })) }
-    ensures text { IfOk result (λ line. string_bytes line.text ≡ line_text (setting_of setting.now) (record { name = name.now; input = input.now; ran = line.ran })) }
-    ensures faults { IfErr result IsWant }
+// The log of a run of an input, where such logs are kept: of one that ended in an exception.
+fn crash_log(alloc: Global, setting: &Setting<'_>, input: &[u8], ran: Ran) -> CrashLog
+    requires { ran.taken ≤ length input.now }
 {
-    let image = setting.image.clone()?;
-    let mut guest = of_boot(HostedGuest::boot_shared(alloc, image, setting.pages))?;
-    let ran = run(&mut guest, input, setting.steps, setting.until, &mut Nobody);
-    if is_exception(ran) {
-        keeper.keep(number, setting.pages, guest.log());
+    match setting.logs {
+        Some(digest) if is_exception(ran) => match log_of(alloc, input, ran) {
+            Ok(log) => match log_bytes(alloc, &log, setting.pages, &digest) {
+                Ok(bytes) => CrashLog::File(bytes),
+                Err(_) => CrashLog::Lost,
+            },
+            Err(_) => CrashLog::Lost,
+        },
+        _ => CrashLog::Unwanted,
     }
-    let text = line_of(alloc, setting.shown, name, ran, &guest)?;
-    Ok(Line { text, ran })
 }
 
-/// Runs an input, and writes its line through, so that it can be seen. The answer is whether the guest stopped.
-pub(crate) fn try_input<'a, K: LogKeeper, O: Write>(
+// A machine as the image boots: where there is one that has run inputs before, it goes back to its boot.
+fn machine_at_boot(
     alloc: Global,
     setting: &Setting<'_>,
-    number: usize,
+    used: Option<ResetMachine>,
+) -> Result<ResetMachine, AllocError>
+    requires boots { CanBoot setting.now }
+    requires reusable { IsReusable (setting_of setting.now) used }
+    ensures machine { IfOk result (λ m. m.machine ≡ (setting_of setting.now).boot) }
+    ensures boot { IfOk result (λ m. m.boot ≡ (setting_of setting.now).boot) }
+{
+    match used {
+        Some(mut machine) => {
+            machine.reset(alloc)?;
+            Ok(machine)
+        }
+        None => ResetMachine::boot(alloc, setting.image.clone()?, setting.pages),
+    }
+}
+
+// Runs an input on a machine that is as the image boots.
+fn run_input(
+    alloc: Global,
+    setting: &Setting<'_>,
     name: &str,
     input: &[u8],
-    keeper: &mut K,
-    out: &mut O,
-) -> Result<bool, FuzzFault<'a>>
+    machine: &mut ResetMachine,
+) -> Result<RunResult, AllocError>
     requires few { length input.now ≤ 256 }
-    requires boots { CanBoot setting.now }
-    ensures line { IfOk result (λ stopped. WritesLine (setting_of setting.now) name.now input.now (O.contents out.old) (O.contents out.new) stopped) }
-    ensures unwritten { IfErr result (λ fault. fault ≢ FuzzFault.Output → out.new ≡ out.old) }
-    ensures faults { IfErr result IsTrialFault }
+    requires machine { machine.old.machine ≡ (setting_of setting.now).boot }
+    ensures trial { IfOk result (λ done. IsTrial (setting_of setting.now) (record { name = name.now; input = input.now; ran = done.ran })) }
+    ensures text { IfOk result (λ done. string_bytes done.text ≡ line_text (setting_of setting.now) (record { name = name.now; input = input.now; ran = done.ran })) }
+    ensures boot { machine.new.boot ≡ machine.old.boot }
 {
-    let line = run_input(alloc, setting, number, name, input, keeper)?;
-    if out.write_all(line.text.as_bytes()).is_err() || out.flush().is_err() {
-        return Err(FuzzFault::Output);
+    let ran = run(machine, input, setting.steps, setting.until, &mut Nobody);
+    let log = crash_log(alloc, setting, input, ran);
+    let text = line_of(alloc, setting.shown, name, ran, machine)?;
+    Ok(RunResult { text, ran, log })
+}
+
+// What becomes of the run of an input on a machine that is as the image boots.
+fn outcome_on(
+    alloc: Global,
+    setting: &Setting<'_>,
+    name: &str,
+    input: &[u8],
+    machine: &mut ResetMachine,
+) -> Outcome
+    requires few { length input.now ≤ 256 }
+    requires machine { machine.old.machine ≡ (setting_of setting.now).boot }
+    ensures outcome { IsOutcome (setting_of setting.now) name.now input.now result }
+    ensures boot { machine.new.boot ≡ machine.old.boot }
+{
+    match run_input(alloc, setting, name, input, machine) {
+        Ok(done) => Outcome::Done(done),
+        Err(_) => Outcome::Refused(Want::Memory),
     }
-    Ok(line.ran.stop.is_some())
+}
+
+// Runs an input on the machine that has run others before, if there is one, which comes back for the next one.
+fn run_job(
+    alloc: Global,
+    setting: &Setting<'_>,
+    used: Option<ResetMachine>,
+    job: &mut Job,
+) -> Option<ResetMachine>
+    requires boots { CanBoot setting.now }
+    requires reusable { IsReusable (setting_of setting.now) used }
+    ensures run { IsRunOf (setting_of setting.now) job.old job.new }
+    ensures reusable { IsReusable (setting_of setting.now) result }
+{
+    match machine_at_boot(alloc, setting, used) {
+        Ok(mut machine) => {
+            job.outcome = outcome_on(
+                alloc,
+                setting,
+                &job.name,
+                job.input.as_slice(),
+                &mut machine,
+            );
+            Some(machine)
+        }
+        Err(_) => {
+            job.outcome = Outcome::Refused(Want::Boot);
+            None
+        }
+    }
+}
+
+// Runs inputs, one after another, on one machine, which comes back for the next ones.
+fn run_share(
+    alloc: Global,
+    setting: &Setting<'_>,
+    used: Option<ResetMachine>,
+    share: &mut [Job],
+) -> Option<ResetMachine>
+    requires boots { CanBoot setting.now }
+    requires reusable { IsReusable (setting_of setting.now) used }
+    ensures count { length share.new ≡ length share.old }
+    ensures run { (index : ℕ) (d : _) → index < length share.old → IsRunOf (setting_of setting.now) (slice_index_or share.old index d) (slice_index_or share.new index d) }
+    ensures reusable { IsReusable (setting_of setting.now) result }
+{
+    let mut machine = used;
+    for index in 0..share.len() {
+        machine = run_job(alloc, setting, machine, &mut share[index]);
+    }
+    machine
+}
+
+/// Runs inputs, as many at once as there are jobs, each thread on a machine of its own. With one job that is the machine `used`, if there is
+/// one, and it comes back for the next inputs.
+pub(crate) fn run_jobs<R: Threads + Sync>(
+    rt: &R,
+    alloc: Global,
+    setting: &Setting<'_>,
+    at_once: &Jobs,
+    used: Option<ResetMachine>,
+    jobs: &mut [Job],
+) -> Option<ResetMachine>
+    requires boots { CanBoot setting.now }
+    requires reusable { IsReusable (setting_of setting.now) used }
+    ensures count { length jobs.new ≡ length jobs.old }
+    ensures run { (index : ℕ) (d : _) → index < length jobs.old → IsRunOf (setting_of setting.now) (slice_index_or jobs.old index d) (slice_index_or jobs.new index d) }
+    ensures reusable { IsReusable (setting_of setting.now) result }
+{
+    let threads = at_once.threads();
+    if threads == 1 {
+        return run_share(alloc, setting, used, jobs);
+    }
+    let run = |_start: usize, share: &mut [Job]|
+        requires { CanBoot setting.now }
+        ensures { (index : ℕ) (d : _) → index < length share.entry.now → IsRunOf (setting_of setting.entry.now) (slice_index_or share.entry.now index d) (slice_index_or share.exit.now index d) }
+    { run_alone(alloc, setting, share) };
+    for_each_chunk_mut(rt, jobs, share_of(jobs.len(), threads), &run);
+    used
+}
+
+// Runs inputs, one after another, on a machine of their own.
+fn run_alone(alloc: Global, setting: &Setting<'_>, share: &mut [Job])
+    requires boots { CanBoot setting.now }
+    ensures count { length share.new ≡ length share.old }
+    ensures run { (index : ℕ) (d : _) → index < length share.old → IsRunOf (setting_of setting.now) (slice_index_or share.old index d) (slice_index_or share.new index d) }
+{
+    let machine = run_share(alloc, setting, None, share);
+    drop(machine);
+}
+
+// How many of so many inputs each of so many threads runs at most.
+fn share_of(inputs: usize, threads: usize) -> usize
+    requires { 0 < threads }
+    ensures { 0 < result }
+{
+    inputs.div_ceil(threads).max(1)
 }

@@ -18,4 +18,6 @@ pub struct Setting<'a> {
     pub until: &'a Until,
     /// How the output is shown.
     pub shown: Shown,
+    /// The digest of the image's file, where the logs of runs that end in an exception are kept.
+    pub logs: Option<[u8; 32]>,
 }

@@ -1,6 +1,6 @@
 -- Events, one after another.
 use Rattle.std.proofs.Common.{Result, Ok, Err, IfOk, OnOk, ◌≡◌, refl, sym, ap, subst, ◌∙◌, ℕ, zero, suc, ◌+◌, ◌<◌, ◌≤◌, arith, Bool, true, false, nat_lt, Option, Some, None, All, List, [], ◌∷◌, ◌++◌, append_assoc, if◌then◌else◌, length, map, take, drop, get_or}
-use Rattle.std.specs.Io.KnownBytes.{Appends}
+use Rattle.std.specs.Io.KnownBytes.{Appends, Keeps}
 use Rattle.std.specs.Result.{IsErrAnd}
 use Rattle.std.specs.List.{flat_map, range_with_len}
 use Rattle.std.proofs.lemmas.List.{append-nil, get_or-map, length-map, map-append, take_more, take-append-drop}
@@ -20,7 +20,7 @@ use Rattle.simulation.specs.declared.acts.Act.TheVariants as act
 use Rattle.simulation.specs.declared.said.Said.{Said}
 use Rattle.simulation.specs.Acts.{IsActionFor, IsFor, HasRegister, IsDoable, act_of}
 use Rattle.simulation.specs.Lines.{NumberedEvent, reply_text, lines_of}
-use Rattle.simulation.specs.Playing.{CanBe, HasPlayed, IsOutcome}
+use Rattle.simulation.specs.Playing.{CanBe, HasBegun, HasPlayed, IsOutcome}
 use Rattle.simulation.specs.Transcripts.{IsDone, AllDone, IsPlayed, line_event}
 use Rattle.simulation.specs.declared.blocks.Interruption.{Interruption}
 use Rattle.simulation.specs.declared.blocks.Interruption.TheVariants.{Memory}
@@ -305,3 +305,67 @@ outcome_none facts numbered g s words rest w after course k (Err e) Q is guests 
       guests_stay = guests;
       slots_stay = slots;
     }
+
+-- ---- bytes that are handed on
+
+appends_kept : (k k' k'' : Option (List ℕ)) (t : List ℕ) → Appends k k' t → Keeps k' k'' → Appends k k'' t
+appends_kept None k' k'' t a kept = tt
+appends_kept (Some xs) None k'' t a kept = absurd a
+appends_kept (Some xs) (Some ys) None t a kept = absurd kept
+appends_kept (Some xs) (Some ys) (Some zs) t a kept = kept ∙ a
+
+pub kept_appends : (k k' k'' : Option (List ℕ)) (t : List ℕ) → Keeps k k' → Appends k' k'' t → Appends k k'' t
+kept_appends None k' k'' t kept a = tt
+kept_appends (Some xs) None k'' t kept a = absurd kept
+kept_appends (Some xs) (Some ys) None t kept a = absurd a
+kept_appends (Some xs) (Some ys) (Some zs) t kept a = a ∙ ap (λ (l : List ℕ). l ++ t) kept
+
+pub on_ok : {X E : Type 0} (r : Result X E) {P Q : Type 0} → (P → Q) → OnOk r P → OnOk r Q
+on_ok (Ok x) so p = so p
+on_ok (Err e) so p = tt
+
+same_interruption : (x y : Interruption) → (let q : Result (Unit {0}) Interruption = Err x in q) ≡ Err y → x ≡ y
+same_interruption x y same = ap (λ (r : Result (Unit {0}) Interruption). elim r [ Ok done ↦ x | Err e ↦ e ]) same
+
+-- an outcome, where what is known is handed on behind it
+pub outcome_kept : {Store : Type 0} (facts : StoreFacts Store) (numbered : Bool) (g s : ℕ) (words : Stream) (w : WorldIs Store) (course : List LineEvent) (rest : Stream) (after : WorldIs Store)
+    (k k' k'' : Option (List ℕ)) (r : Result (Unit {0}) Interruption) → IsOutcome facts numbered g s words w course rest after k k' r → Keeps k' k'' → IsOutcome facts numbered g s words w course rest after k k'' r
+outcome_kept facts numbered g s words w course rest after k k' k'' r is kept = record {
+  done = on_ok r (λ (p : HasPlayed facts numbered g s words w course rest after k k'). record {
+    events = p.events;
+    text = p.text;
+    are = p.are;
+    can = p.can;
+    played = p.played;
+    written = appends_kept k k' k'' p.text p.written kept;
+  }) is.done;
+  begun = λ want. let b = is.begun want in record {
+    before = b.before;
+    after = b.after;
+    whole = b.whole;
+    rest = b.rest;
+    now = b.now;
+    played = record {
+      events = b.played.events;
+      text = b.played.text;
+      are = b.played.are;
+      can = b.played.can;
+      played = b.played.played;
+      written = appends_kept k k' k'' b.played.text b.played.written kept;
+    };
+  };
+  guests_stay = is.guests_stay;
+  slots_stay = is.slots_stay;
+}
+
+-- where what was written can't be handed on, nothing is claimed of it
+pub outcome_lost : {Store : Type 0} (facts : StoreFacts Store) (numbered : Bool) (g s : ℕ) (words : Stream) (w : WorldIs Store) (course : List LineEvent) (rest : Stream) (after : WorldIs Store) (k k' : Option (List ℕ))
+    (e : Interruption) (r : Result (Unit {0}) Interruption) → IsErrAnd r (λ x. x ≡ e) → (e ≡ Memory → ⊥) → length after.tenants ≡ length w.tenants → facts.slots after.store ≡ facts.slots w.store
+    → IsOutcome facts numbered g s words w course rest after k k' r
+outcome_lost facts numbered g s words w course rest after k k' e (Ok done) is no_want guests slots = absurd is
+outcome_lost facts numbered g s words w course rest after k k' e (Err x) is no_want guests slots = record {
+  done = tt;
+  begun = λ want. absurd (no_want (sym is ∙ same_interruption x Memory want));
+  guests_stay = guests;
+  slots_stay = slots;
+}

@@ -1,6 +1,7 @@
-//! What the blocks of a script say is done, one event after another, and the replies, each written as it is made.
+//! What the blocks of a script say is done, one event after another, and the replies, each written as it is made, and handed on before
+//! what may take long.
 ghost use Rattle.std.specs.Prelude.{◌≡◌, ◌++◌, ◌∷◌, [], All, IfOk, IsErrOf, OnOk, length, map, string_bytes};
-ghost use Rattle.std.specs.Io.KnownBytes.{Appends};
+ghost use Rattle.std.specs.Io.KnownBytes.{Appends, Keeps};
 ghost use Rattle.script.specs.Courses.{block_events, course_of, line_events, lines_events};
 ghost use Rattle.script.specs.Views.{block_view, event_view, line_view};
 ghost use Rattle.simulation.specs.Acts.{IsBlockFor, IsFor, IsLineFor};
@@ -8,16 +9,19 @@ ghost use Rattle.simulation.specs.Lines.{number_text, said_text};
 ghost use Rattle.simulation.specs.Playing.{IsOutcome};
 ghost use Rattle.simulation.specs.declared.blocks.Interruption.TheVariants.{Memory};
 
-use crate::Said;
 use crate::acts::act_of;
 use crate::doing::perform;
 use crate::text::{Heading, heading_of, push_said};
+use crate::{Act, Said};
 use rand_core::Rng;
 use script::{ActionLine, Block, Event};
 use std::alloc::{AllocError, Global};
 use std::io::Write;
 use swapstore::Damage;
-use world::World;
+use world::{Event as Happening, World};
+
+/// From how many steps on an event may take so long that the replies before it are handed on first: about a tenth of a millisecond.
+const LONG: u32 = 1 << 12;
 
 /// Why not all is done.
 #[derive(Clone, Copy, Debug, PartialEq, Eq)]
@@ -54,18 +58,44 @@ fn reply(
     Ok(text)
 }
 
-// Writes a reply through, so that it can be seen.
+// Writes a reply.
 fn write_reply<W: Write>(out: &mut W, text: &str) -> Result<(), Interruption>
     ensures written { OnOk result (Appends (W.contents out.old) (W.contents out.new) text.now) }
     ensures no_want { ¬ IsErrOf result Memory }
 {
-    if out.write_all(text.as_bytes()).is_err() {
-        return Err(Interruption::Output);
+    match out.write_all(text.as_bytes()) {
+        Ok(()) => Ok(()),
+        Err(_) => Err(Interruption::Output),
     }
+}
+
+// Hands on all that was written, so that it can be seen.
+fn hand_on<W: Write>(out: &mut W) -> Result<(), Interruption>
+    ensures kept { Keeps (W.contents out.old) (W.contents out.new) }
+    ensures no_want { ¬ IsErrOf result Memory }
+{
     match out.flush() {
         Ok(()) => Ok(()),
         Err(_) => Err(Interruption::Output),
     }
+}
+
+// Whether an act may take long: many steps, or a turn of the policy, which may swap out many pages.
+fn is_long(act: &Act) -> bool {
+    match act {
+        Act::World(Happening::Steps(_, count)) => *count >= LONG,
+        Act::World(Happening::Run(_, count)) => *count >= LONG,
+        Act::World(Happening::Level) => true,
+        _ => false,
+    }
+}
+
+// Hands on what was written before an act that may take long.
+fn hand_on_before<W: Write>(out: &mut W, act: &Act) -> Result<(), Interruption>
+    ensures kept { Keeps (W.contents out.old) (W.contents out.new) }
+    ensures no_want { ¬ IsErrOf result Memory }
+{
+    if is_long(act) { hand_on(out) } else { Ok(()) }
 }
 
 // Does an event of the line of this number, and writes the reply.
@@ -83,6 +113,7 @@ fn play_event<S: Damage, R: Rng, W: Write>(
         (record { line = line; event = event_view event } ∷ []) (R.stream rng.new) world.new (W.contents out.old) (W.contents out.new) result }
 {
     let act = act_of(event);
+    hand_on_before(out, &act)?;
     let heading = heading_of(&act);
     let said = perform(alloc, world, rng, act);
     let text = reply(alloc, line, numbered, heading, &said);
@@ -174,11 +205,8 @@ fn play_block<S: Damage, R: Rng, W: Write>(
     Ok(())
 }
 
-/// Does what blocks say in a world of so many guests, and writes the reply to each event as soon as it is done.
-///
-/// `Memory` where a request for memory was refused: then the replies to the first events are written, and no more. `Output` where a
-/// reply could not be written.
-pub(crate) fn play<S: Damage, R: Rng, W: Write>(
+// Does what blocks say, one after another.
+fn play_blocks<S: Damage, R: Rng, W: Write>(
     alloc: Global,
     world: &mut World<S>,
     rng: &mut R,
@@ -196,4 +224,31 @@ pub(crate) fn play<S: Damage, R: Rng, W: Write>(
         play_block(alloc, world, rng, guests, block, numbered, out)?;
     }
     Ok(())
+}
+
+/// Does what blocks say in a world of so many guests, and writes the reply to each event as soon as it is done. What was written is handed
+/// on before each event that may take long, and at the end, also where that comes early.
+///
+/// `Memory` where a request for memory was refused: then the replies to the first events are written, and no more. `Output` where a
+/// reply could not be written.
+pub(crate) fn play<S: Damage, R: Rng, W: Write>(
+    alloc: Global,
+    world: &mut World<S>,
+    rng: &mut R,
+    guests: u32,
+    blocks: &[Block],
+    numbered: bool,
+    out: &mut W,
+) -> Result<(), Interruption>
+    requires guests { length world.old.tenants ≡ guests }
+    requires can { All (IsBlockFor guests (S.slots world.old.store)) (map block_view blocks.now) }
+    ensures { IsOutcome S.SwapStore numbered guests (S.slots world.old.store) (R.stream rng.old) world.old
+        (course_of guests (map block_view blocks.now)) (R.stream rng.new) world.new (W.contents out.old) (W.contents out.new) result }
+{
+    let played = play_blocks(alloc, world, rng, guests, blocks, numbered, out);
+    let shown = hand_on(out);
+    match shown {
+        Ok(()) => played,
+        Err(_) => shown,
+    }
 }

@@ -1,4 +1,5 @@
-use Rattle.fuzz_command.proofs.Orders.{each_error, each_ok, of_broken, of_fuzzed, of_left}
+use Rattle.fuzz_command.proofs.Orders.{of_broken, of_fuzzed, of_left}
+use Rattle.fuzz_command.proofs.Trials.{each_error, each_ok}
 use Rattle.fuzz_command.proofs.fuzz.fuzz_order.Goals as goal
 
 pub returns-clause-lines : goal.returns-clause-lines

@@ -3,7 +3,7 @@ use Rattle.std.specs.List.{flat_map}
 use Rattle.script.specs.Courses.{block_events}
 use Rattle.script.specs.Views.{block_view}
 use Rattle.simulation.proofs.Playing.{SoFar}
-use Rattle.simulation.proofs.blocks.play.Given as goal
+use Rattle.simulation.proofs.blocks.play_blocks.Given as goal
 
 -- what the blocks so far say is done
 abbrev pub invariant-loop-block : goal.invariant-loop-block

@@ -1,0 +1,55 @@
+-- Where the log of a run leads to.
+use Rattle.std.proofs.Common.{◌≡◌, ◌∙◌, refl, sym, ap, ℕ, zero, suc, ◌+◌, ◌<◌, List, [], ◌∷◌, ◌++◌, get_or, length, map, take}
+use Rattle.std.proofs.lemmas.List.{map-append, take_more}
+use Rattle.items.specs.declared.item.What.TheVariants.{In}
+use Rattle.items.specs.declared.item.Item.{Item}
+use Rattle.items.specs.Entries.{steps_of}
+use Rattle.machine.specs.Step.{Machine, step}
+use Rattle.machine.specs.Items.{after, run}
+use Rattle.runs.specs.Runs.{after_run, after_steps, fed}
+use Rattle.runs.specs.declared.running.Ran.{Ran}
+use Rattle.fuzz_command.specs.Jobs.{input_items}
+
+run_more : (xs ys : List Item) (m : Machine) → run (xs ++ ys) m ≡ run ys (run xs m)
+run_more [] ys m = refl
+run_more (x ∷ xs) ys m = run_more xs ys (after x.what m)
+
+input_run : (bytes : List ℕ) (m : Machine) → run (input_items bytes) m ≡ fed bytes m
+input_run [] m = refl
+input_run (byte ∷ bytes) m = input_run bytes (run (input_items (byte ∷ [])) m)
+
+step_first : (n : ℕ) (m : Machine) → after_steps n (step m) ≡ after_steps (suc n) m
+step_first zero m = refl
+step_first (suc n) m = ap step (step_first n m)
+
+steps_run : (n : ℕ) (m : Machine) → run (steps_of 0 n) m ≡ after_steps n m
+unfolding steps_of
+steps_run zero m = refl
+steps_run (suc n) m = steps_run n (step m) ∙ step_first n m
+
+leads : (items : List Item) (ran : Ran) (input : List ℕ) → items ≡ input_items (take ran.taken input) ++ steps_of 0 ran.steps → (m : Machine) → run items m ≡ after_run ran input m
+leads items ran input is m =
+    ap (λ (l : List Item). run l m) is ∙ run_more (input_items (take ran.taken input)) (steps_of 0 ran.steps) m
+    ∙ ap (run (steps_of 0 ran.steps)) (input_run (take ran.taken input) m) ∙ steps_run ran.steps (fed (take ran.taken input) m)
+
+pub leads_with_none : (items : List Item) (ran : Ran) (input : List ℕ) → items ≡ input_items (take ran.taken input) → ran.steps ≡ 0 → (m : Machine) → run items m ≡ after_run ran input m
+leads_with_none items ran input is none m =
+    ap (λ (l : List Item). run l m) is ∙ input_run (take ran.taken input) m ∙ ap (λ (n : ℕ). after_steps n (fed (take ran.taken input) m)) (sym none)
+
+-- the item of a byte of input
+abbrev pub item_of : ℕ → Item
+item_of byte = record { seat = 0; what = In byte }
+
+-- one byte more
+pub logged_more : (index : ℕ) (bytes : List ℕ) (items mid items' : List Item) (seat : ℕ) → index < length bytes → items ≡ input_items (take index bytes) → mid ≡ items → seat ≡ 0
+    → items' ≡ mid ++ (let i : Item = record { seat = seat; what = In (get_or bytes index 0) } in i) ∷ [] → items' ≡ input_items (take (index + 1) bytes)
+logged_more index bytes items mid items' seat inside before same by one =
+    one ∙ ap (λ (n : ℕ). mid ++ (let i : Item = record { seat = n; what = In (get_or bytes index 0) } in i) ∷ []) by
+    ∙ ap (λ (l : List Item). l ++ item_of (get_or bytes index 0) ∷ []) (same ∙ before) ∙ sym (map-append item_of (take index bytes) (get_or bytes index 0 ∷ []))
+    ∙ ap input_items (sym (take_more bytes index 0 inside))
+
+-- the steps behind the input
+pub leads_made : (before mid items : List Item) (seat : ℕ) (ran : Ran) (input : List ℕ) → before ≡ input_items (take ran.taken input) → mid ≡ before → seat ≡ 0
+    → items ≡ mid ++ steps_of seat ran.steps → (m : Machine) → run items m ≡ after_run ran input m
+leads_made before mid items seat ran input is same by made =
+    leads items ran input (made ∙ ap (λ (n : ℕ). mid ++ steps_of n ran.steps) by ∙ ap (λ (l : List Item). l ++ steps_of 0 ran.steps) (same ∙ is))

@@ -1,0 +1,133 @@
+//! The lines of inputs that are run.
+ghost use Rattle.std.specs.Prelude.{◌≡◌, ◌≢◌, All, IfErr, IfOk, OnOk, is_some, string_bytes};
+ghost use Rattle.std.specs.Io.KnownBytes.{Appends};
+ghost use Rattle.fuzz_command.specs.Faults.{IsTrialFault};
+ghost use Rattle.fuzz_command.specs.Jobs.{AreJobs, BeginJobs, HasRun, IsOver, IsReusable, job_input, job_name};
+ghost use Rattle.fuzz_command.specs.Settings as settings;
+ghost use Rattle.fuzz_command.specs.Settings.{CanBoot, setting_of};
+ghost use Rattle.fuzz_command.specs.Writing.{Begins, Writes, WritesLine};
+
+use crate::fault::FuzzFault;
+use crate::job::{Job, Outcome, RunResult};
+use crate::jobs::Jobs;
+use crate::logs::CrashKeeper;
+use crate::running::run_jobs;
+use crate::setting::Setting;
+use reset_machine::ResetMachine;
+use std::alloc::Global;
+use std::io::Write;
+use std::thread::Threads;
+
+// Hands over the log of a run, and writes its line through, so that it can be seen. The answer is whether the guest stopped.
+fn write_result<'a, K: CrashKeeper, O: Write>(
+    number: usize,
+    done: &RunResult,
+    keeper: &mut K,
+    out: &mut O,
+) -> Result<bool, FuzzFault<'a>>
+    ensures text { OnOk result (Appends (O.contents out.old) (O.contents out.new) (string_bytes done.now.text)) }
+    ensures stops { IfOk result (λ stopped. stopped ≡ is_some done.now.ran.stop) }
+    ensures faults { IfErr result (λ fault. fault ≡ FuzzFault.Output) }
+{
+    keeper.keep(number, &done.log);
+    if out.write_all(done.text.as_bytes()).is_err() || out.flush().is_err() {
+        return Err(FuzzFault::Output);
+    }
+    Ok(done.ran.stop.is_some())
+}
+
+// The same of an input that is run.
+fn write_job<'a, K: CrashKeeper, O: Write>(
+    job: &Job,
+    keeper: &mut K,
+    out: &mut O,
+) -> Result<bool, FuzzFault<'a>>
+    requires { IsOver job.now.outcome }
+    ensures line { (s : settings.Setting) → HasRun s job.now → IfOk result (λ stopped. WritesLine s (job_name job.now) (job_input job.now) (O.contents out.old) (O.contents out.new) stopped) }
+    ensures unwritten { IfErr result (λ fault. fault ≢ FuzzFault.Output → out.new ≡ out.old) }
+    ensures faults { IfErr result IsTrialFault }
+{
+    match &job.outcome {
+        Outcome::Done(done) => write_result(job.number, done, keeper, out),
+        Outcome::Refused(want) => Err(FuzzFault::Command(want.fault())),
+        Outcome::Waiting => unreachable!(),
+    }
+}
+
+// Writes the lines of inputs that are run, in order. The answer is whether a guest stopped.
+fn write_jobs<'a, K: CrashKeeper, O: Write>(
+    jobs: &[Job],
+    keeper: &mut K,
+    out: &mut O,
+) -> Result<bool, FuzzFault<'a>>
+    requires { All (λ (job : _). IsOver job.outcome) jobs.now }
+    ensures lines { (s : settings.Setting) → All (HasRun s) jobs.now → IfOk result (λ stopped. Writes s (AreJobs jobs.now) (O.contents out.old) (O.contents out.new) stopped) }
+    ensures begun { (s : settings.Setting) → All (HasRun s) jobs.now → IfErr result (λ fault. fault ≢ FuzzFault.Output → Begins s (BeginJobs jobs.now) (O.contents out.old) (O.contents out.new)) }
+    ensures faults { IfErr result IsTrialFault }
+{
+    let mut stopped = false;
+    for job in jobs {
+        let stops = write_job(job, keeper, out)?;
+        if stops {
+            stopped = true;
+        }
+    }
+    Ok(stopped)
+}
+
+// Runs inputs, and then writes their lines, as `try_jobs` does.
+fn run_and_write<'a, R: Threads + Sync, K: CrashKeeper, O: Write>(
+    rt: &R,
+    alloc: Global,
+    setting: &Setting<'_>,
+    at_once: &Jobs,
+    machine: &mut Option<ResetMachine>,
+    jobs: &mut [Job],
+    keeper: &mut K,
+    out: &mut O,
+) -> Result<bool, FuzzFault<'a>>
+    requires boots { CanBoot setting.now }
+    requires reusable { IsReusable (setting_of setting.now) machine.old }
+    ensures lines { IfOk result (λ stopped. Writes (setting_of setting.now) (AreJobs jobs.old) (O.contents out.old) (O.contents out.new) stopped) }
+    ensures begun { IfErr result (λ fault. fault ≢ FuzzFault.Output → Begins (setting_of setting.now) (BeginJobs jobs.old) (O.contents out.old) (O.contents out.new)) }
+    ensures reusable { IsReusable (setting_of setting.now) machine.new }
+    ensures faults { IfErr result IsTrialFault }
+{
+    let used = machine.take();
+    *machine = run_jobs(rt, alloc, setting, at_once, used, jobs);
+    write_jobs(jobs, keeper, out)
+}
+
+/// Runs inputs, as many at once as there are jobs, and then writes their lines, in order. The answer is whether a guest stopped. `machine` is the one
+/// that the last inputs were run on, if there is one, and is the one for the next.
+///
+/// An error is that of the first input that has one: `Command` where memory was refused, and `Output` where a line could not be written. Where it
+/// isn't the last, the lines of the inputs before stand.
+pub(crate) fn try_jobs<'a, R: Threads + Sync, K: CrashKeeper, O: Write>(
+    rt: &R,
+    alloc: Global,
+    setting: &Setting<'_>,
+    at_once: &Jobs,
+    machine: &mut Option<ResetMachine>,
+    mut jobs: Vec<Job>,
+    keeper: &mut K,
+    out: &mut O,
+) -> Result<bool, FuzzFault<'a>>
+    requires boots { CanBoot setting.now }
+    requires reusable { IsReusable (setting_of setting.now) machine.old }
+    ensures lines { IfOk result (λ stopped. Writes (setting_of setting.now) (AreJobs jobs.items) (O.contents out.old) (O.contents out.new) stopped) }
+    ensures begun { IfErr result (λ fault. fault ≢ FuzzFault.Output → Begins (setting_of setting.now) (BeginJobs jobs.items) (O.contents out.old) (O.contents out.new)) }
+    ensures reusable { IsReusable (setting_of setting.now) machine.new }
+    ensures faults { IfErr result IsTrialFault }
+{
+    run_and_write(
+        rt,
+        alloc,
+        setting,
+        at_once,
+        machine,
+        jobs.as_mut_slice(),
+        keeper,
+        out,
+    )
+}
