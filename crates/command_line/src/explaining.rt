@@ -6,6 +6,7 @@ use commands::image_file::{elf_file, whole_file};
 use commands::log_file::is_log;
 use commands::{Asm, Dis, Exec, Fault, Replay};
 use diagnosis::{Excerpt, Memory, Words, boot, elf, file, log, raw, script_line, source};
+use directory_files::{files_of, is_directory};
 use fuzz_command::FuzzOrder;
 use output_file::is_one_file;
 use run_command::{GuestOrder, RunOrder};
@@ -146,6 +147,9 @@ fn reason_of_fuzz<R: Files + AllocGlobal>(
     order: &FuzzOrder<'_>,
     name: &str,
 ) -> Option<&'static str> {
+    if is_input(order, name) && is_directory(rt, name) {
+        return reason_of_directory(rt, name);
+    }
     let directory = order.logs.unwrap_or("");
     if name == directory {
         return match fs::metadata(rt, directory) {
@@ -165,6 +169,22 @@ fn reason_of_fuzz<R: Files + AllocGlobal>(
         _ => None,
     }
 }
+
+/// Why a directory has no inputs.
+fn reason_of_directory<R: Files + AllocGlobal>(rt: &R, name: &str) -> Option<&'static str> {
+    match files_of(rt, name) {
+        Ok(files) if files.is_empty() => Some(NO_FILES),
+        Ok(_) => None,
+        Err(error) => match error.kind() {
+            ErrorKind::InvalidFilename => Some(NO_UTF8),
+            kind => file::reason(kind),
+        },
+    }
+}
+
+const NO_FILES: &str = "there is no plain file in the directory";
+
+const NO_UTF8: &str = "a name in the directory is not UTF-8";
 
 /// Whether an order has an input in the file of this name.
 fn is_input(order: &FuzzOrder<'_>, name: &str) -> bool {

@@ -79,7 +79,7 @@ It prints one line for each input, in their order, as soon as its run is over, o
 has the inputs that have come, for each job at most 256, and as many as make a million steps together:
   NAME steps N END out DIGEST
 
-NAME is the input's file as it was given, or the number of its line, from 1. N is how many steps were made.
+NAME is the input's file, behind its directory where that was given, or the number of its line, from 1. N is how many steps were made.
 
 END:
   steps                all steps were made

@@ -7,6 +7,7 @@
 
 mod explaining;
 mod help;
+mod inputs;
 mod parsing;
 pub mod program;
 pub mod progress;

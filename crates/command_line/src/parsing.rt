@@ -556,7 +556,7 @@ fn inputs<'a>(alloc: Global) -> Arg<'a> {
         .num_args(0..)
         .action(ArgAction::Append)
         .help(
-            "Files with the console input of a run each, at most 256 bytes; without any, the lines on standard input in hexadecimal digits",
+            "Files with the console input of a run each, at most 256 bytes, or directories of such files; without any, the lines on standard input in hexadecimal digits",
         )
 }
 

@@ -4,6 +4,7 @@ ghost use Rattle.std.specs.IoError.{error_kind};
 ghost use Rattle.command_line.specs.Exit.{code_of, HasNoFuzz, HasNoRun, HasNoSim, HasNoUntil};
 
 use crate::explaining::{Subject, excerpt_of, explain, explain_later};
+use crate::inputs::{input_files, named_files};
 use crate::parsing::{Order, Settings, parse};
 use clap::Error;
 use commands::{
@@ -14,6 +15,7 @@ use diagnosis::Excerpt;
 use fuzz_command::{FuzzEnd, FuzzFault, FuzzOrder, fuzz_order};
 use run_command::{RunFault, RunOrder, RunStatus, run_order};
 use runs::{Ending, Watch};
+use std::alloc::AllocError;
 use std::fs::File;
 use std::io::{BufRead, ErrorKind, Write};
 use std::net::{Net, TcpListener, TcpStream};
@@ -103,7 +105,7 @@ where
     };
     let written = match parse(rt.alloc(), words) {
         Ok(Order::Run(order)) if tells.running => answer_run(rt, &order, input, out, err),
-        Ok(Order::Fuzz(order)) if tells.fuzzing => answer_fuzz(rt, &order, input, out, err),
+        Ok(Order::Fuzz(order)) if tells.fuzzing => answer_fuzz(rt, order, input, out, err),
         Ok(order) => answer_order(rt, order, tells, out, err, watch),
         Err(error) => write_error(&error, out, err),
     };
@@ -157,8 +159,53 @@ fn mentions_fuzz(words: &[String]) -> bool
 /// The command that runs an image on many inputs.
 const FUZZ_COMMAND: &[u8] = b"fuzz";
 
-/// Runs an image on many inputs, of which `input` has the lines where no files are named.
+/// Runs an image on many inputs, of which `input` has the lines where no files are named. A directory among them stands for its files.
 fn answer_fuzz<R, I, O, E>(
+    rt: &R,
+    order: FuzzOrder<'_>,
+    input: &mut I,
+    out: &mut O,
+    err: &mut E,
+) -> io::Result<Status>
+where
+    R: Files + AllocGlobal + Threads + Sync,
+    I: BufRead,
+    O: Write,
+    E: Write,
+    ensures usage { IfOk result (λ s. code_of s ≢ 2) }
+    ensures carried_out { IfOk result (λ s. code_of s ≢ 1 → err.new ≡ err.old) }
+{
+    let named = match named_files(rt, &order.inputs) {
+        Ok(named) => named,
+        Err(fault) => return write_refusal(rt, Subject::Fuzz(&order), &fault, err),
+    };
+    let inputs = match input_files(rt.alloc(), &named) {
+        Ok(inputs) => inputs,
+        Err(AllocError) => {
+            return write_refusal(rt, Subject::Fuzz(&order), &Fault::Memory, err);
+        }
+    };
+    let FuzzOrder {
+        run,
+        until,
+        shown,
+        logs,
+        inputs: _,
+        jobs,
+    } = order;
+    let order = FuzzOrder {
+        run,
+        until,
+        shown,
+        logs,
+        inputs,
+        jobs,
+    };
+    answer_files(rt, &order, input, out, err)
+}
+
+/// Runs an image on many inputs, of which each that is named is a file.
+fn answer_files<R, I, O, E>(
     rt: &R,
     order: &FuzzOrder<'_>,
     input: &mut I,
