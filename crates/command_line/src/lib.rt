@@ -5,7 +5,9 @@
 //! line of a refusal are those of `diagnosis`. What no contract says, the texts that are printed, the tests of `vmhost` try.
 #![tactic(auto)]
 
+mod arguments;
 mod explaining;
+mod fuzzing;
 mod help;
 mod inputs;
 mod parsing;

@@ -4,7 +4,7 @@ ghost use Rattle.std.specs.IoError.{error_kind};
 ghost use Rattle.command_line.specs.Exit.{code_of, HasNoFuzz, HasNoRun, HasNoSim, HasNoUntil};
 
 use crate::explaining::{Subject, excerpt_of, explain, explain_later};
-use crate::inputs::{input_files, named_files};
+use crate::fuzzing::answer_fuzz;
 use crate::parsing::{Order, Settings, parse};
 use clap::Error;
 use commands::{
@@ -12,10 +12,8 @@ use commands::{
     replay_log, run_image, run_script, script_text,
 };
 use diagnosis::Excerpt;
-use fuzz_command::{FuzzEnd, FuzzFault, FuzzOrder, fuzz_order};
 use run_command::{RunFault, RunOrder, RunStatus, run_order};
 use runs::{Ending, Watch};
-use std::alloc::AllocError;
 use std::fs::File;
 use std::io::{BufRead, ErrorKind, Write};
 use std::net::{Net, TcpListener, TcpStream};
@@ -26,7 +24,7 @@ use std::{env, io};
 
 /// How the program ends.
 #[derive(Clone, Copy)]
-enum Status {
+pub(crate) enum Status {
     /// What was asked for is done.
     Done,
     /// An input was refused.
@@ -158,122 +156,6 @@ fn mentions_fuzz(words: &[String]) -> bool
 
 /// The command that runs an image on many inputs.
 const FUZZ_COMMAND: &[u8] = b"fuzz";
-
-/// Runs an image on many inputs, of which `input` has the lines where no files are named. A directory among them stands for its files.
-fn answer_fuzz<R, I, O, E>(
-    rt: &R,
-    order: FuzzOrder<'_>,
-    input: &mut I,
-    out: &mut O,
-    err: &mut E,
-) -> io::Result<Status>
-where
-    R: Files + AllocGlobal + Threads + Sync,
-    I: BufRead,
-    O: Write,
-    E: Write,
-    ensures usage { IfOk result (λ s. code_of s ≢ 2) }
-    ensures carried_out { IfOk result (λ s. code_of s ≢ 1 → err.new ≡ err.old) }
-{
-    let named = match named_files(rt, &order.inputs) {
-        Ok(named) => named,
-        Err(fault) => return write_refusal(rt, Subject::Fuzz(&order), &fault, err),
-    };
-    let inputs = match input_files(rt.alloc(), &named) {
-        Ok(inputs) => inputs,
-        Err(AllocError) => {
-            return write_refusal(rt, Subject::Fuzz(&order), &Fault::Memory, err);
-        }
-    };
-    let FuzzOrder {
-        run,
-        until,
-        shown,
-        logs,
-        inputs: _,
-        jobs,
-    } = order;
-    let order = FuzzOrder {
-        run,
-        until,
-        shown,
-        logs,
-        inputs,
-        jobs,
-    };
-    answer_files(rt, &order, input, out, err)
-}
-
-/// Runs an image on many inputs, of which each that is named is a file.
-fn answer_files<R, I, O, E>(
-    rt: &R,
-    order: &FuzzOrder<'_>,
-    input: &mut I,
-    out: &mut O,
-    err: &mut E,
-) -> io::Result<Status>
-where
-    R: Files + AllocGlobal + Threads + Sync,
-    I: BufRead,
-    O: Write,
-    E: Write,
-    ensures usage { IfOk result (λ s. code_of s ≢ 2) }
-    ensures carried_out { IfOk result (λ s. code_of s ≢ 1 → err.new ≡ err.old) }
-{
-    match fuzz_order(rt, order, input, out) {
-        Ok(
-            FuzzEnd {
-                stopped: _,
-                unwritten: Some(number),
-            },
-        ) => write_unlogged(order.logs.unwrap_or(""), number, err),
-        Ok(
-            FuzzEnd {
-                stopped: true,
-                unwritten: None,
-            },
-        ) => Ok(Status::Stopped),
-        Ok(
-            FuzzEnd {
-                stopped: false,
-                unwritten: None,
-            },
-        ) => Ok(Status::Done),
-        Err(FuzzFault::Command(fault)) => write_refusal(rt, Subject::Fuzz(order), &fault, err),
-        Err(FuzzFault::Output) => Err(io::Error::from(ErrorKind::Other)),
-        Err(FuzzFault::Line(number)) => write_line_fault(FuzzFault::Line(number), LINE_WORDS, err),
-        Err(FuzzFault::Unread) => write_line_fault(FuzzFault::Unread, UNREAD_WORDS, err),
-    }
-}
-
-/// Words for a line that is no input, and for lines that can't be read.
-const LINE_WORDS: &str =
-    "an input is an even number of hexadecimal digits, at most 512; an empty line is an empty one";
-
-const UNREAD_WORDS: &str = "the lines of inputs can't be read there";
-
-/// Writes what is wrong with the lines of inputs, and words for it.
-fn write_line_fault<E: Write>(fault: FuzzFault<'_>, words: &str, err: &mut E) -> io::Result<Status>
-    ensures { IfOk result (λ s. code_of s ≡ 1) }
-{
-    writeln!(err, "vmhost: {fault}")?;
-    writeln!(err, "  {words}")?;
-    err.flush()?;
-    Ok(Status::Refused)
-}
-
-/// Writes that the log of an input, and perhaps of others behind it, is not written, and words for it.
-fn write_unlogged<E: Write>(directory: &str, number: usize, err: &mut E) -> io::Result<Status>
-    ensures { IfOk result (λ s. code_of s ≡ 1) }
-{
-    writeln!(err, "vmhost: file {directory}/{number}.log")?;
-    writeln!(
-        err,
-        "  the log of input {number} can't be written; what was done is done, and the logs that can be are written"
-    )?;
-    err.flush()?;
-    Ok(Status::Refused)
-}
 
 /// Runs guests, by the lines of `input`.
 fn answer_run<R, I, O, E>(
@@ -573,7 +455,7 @@ fn write_text<O: Write>(out: &mut O, text: &str) -> io::Result<()> {
 
 /// Writes the fault of what was asked for, and words for it in a line of their own, where there are any; of a source one for
 /// each line that is wrong too.
-fn write_refusal<R: Files + AllocGlobal, E: Write>(
+pub(crate) fn write_refusal<R: Files + AllocGlobal, E: Write>(
     rt: &R,
     subject: Subject<'_>,
     fault: &Fault<'_>,
