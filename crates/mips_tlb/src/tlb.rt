@@ -97,6 +97,16 @@ impl Tlb {
         }
     }
 
+    /// The same TLB once more, for a snapshot.
+    pub fn again(&self) -> Tlb
+        ensures { result ≡ self.now }
+    {
+        Tlb {
+            entries: self.entries,
+            len: self.len,
+        }
+    }
+
     /// How many entries it has, 16 or 32 by the profile.
     pub fn len(&self) -> usize
         ensures value { result ≡ length self.now }
