@@ -101,8 +101,10 @@ impl Tlb {
     pub fn again(&self) -> Tlb
         ensures { result ≡ self.now }
     {
+        let mut entries = [self.entries[0]; MOST_ENTRIES];
+        entries.copy_from_slice(&self.entries);
         Tlb {
-            entries: self.entries,
+            entries,
             len: self.len,
         }
     }
