@@ -114,11 +114,11 @@ impl Tlb {
         ensures value { result ≡ length self.now }
         ensures small { result ≤ MOST_ENTRIES }
     {
-        self.used().len()
+        self.entries().len()
     }
 
-    // Those that the processor has.
-    fn used(&self) -> &[Entry]
+    /// Its entries.
+    pub fn entries(&self) -> &[Entry]
         ensures entries { result.now ≡ self.now }
         ensures number { length result.now ≤ MOST_ENTRIES }
     {
@@ -130,7 +130,7 @@ impl Tlb {
         requires { index < length self.now }
         ensures { slice_get self.now index ≡ Some result }
     {
-        self.used()[index]
+        self.entries()[index]
     }
 
     /// Writes the entry of an index, which is below their number.
@@ -149,7 +149,7 @@ impl Tlb {
         ensures value { result ≡ position (matches address asid) self.now }
         ensures small { IfSome result (λ index. index < MOST_ENTRIES) }
     {
-        self.used()
+        self.entries()
             .iter()
             .position(|entry| entry.matches(address, asid))
     }
@@ -158,7 +158,7 @@ impl Tlb {
     pub(crate) fn matching(&self, address: u32, asid: u8) -> Option<Entry>
         ensures { result ≡ find (matches address asid) self.now }
     {
-        self.used()
+        self.entries()
             .iter()
             .copied()
             .find(|entry| entry.matches(address, asid))
