@@ -14,6 +14,7 @@ use std::marker::Model;
 mod control;
 pub mod counter;
 mod debug;
+mod snapshot;
 mod system;
 
 /// The processor's registers. In clauses they are a record, `Processor`.
@@ -60,23 +61,6 @@ impl Cpu {
             ll_bit: false,
             cp0: Cp0::boot_as(profile),
             tlb: Tlb::boot_as(profile),
-        }
-    }
-
-    /// The same processor once more, for a snapshot.
-    pub fn again(&self) -> Cpu
-        ensures { result ≡ self.now }
-    {
-        let mut regs = [0; 32];
-        regs.copy_from_slice(&self.regs);
-        Cpu {
-            regs,
-            hi: self.hi,
-            lo: self.lo,
-            counter: self.counter.again(),
-            ll_bit: self.ll_bit,
-            cp0: self.cp0.again(),
-            tlb: self.tlb.again(),
         }
     }
 
