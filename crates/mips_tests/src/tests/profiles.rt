@@ -47,7 +47,12 @@ fn index_and_wired_have_their_masks(rt: HostRuntime) {
         let (profile, number, last, _, _) = *row;
         for value in [0xffff_ffff, 16, 7] {
             let kept = value & last;
-            expect(&rt, (number, value), masks(profile, value), [kept, kept, last]);
+            expect(
+                &rt,
+                (number, value),
+                masks(profile, value),
+                [kept, kept, last],
+            );
         }
     }
 }
@@ -69,7 +74,12 @@ fn rounds_are_written(rt: &impl Abort, profile: Profile, last: u32, wired: u32) 
     let mut random = last;
     for ticks in 0..2 * (last + 1 - wired) {
         let got = written_at_random(profile, wired, ticks);
-        expect(rt, (last, wired, ticks), got, (random, Some(random as usize)));
+        expect(
+            rt,
+            (last, wired, ticks),
+            got,
+            (random, Some(random as usize)),
+        );
         random = if random == wired { last } else { random - 1 };
     }
 }
@@ -116,9 +126,24 @@ fn snapshot_goes_on_alike(rt: HostRuntime) -> Result<(), Fail> {
     }
     let mut copy = cpu.again();
     cpu.step(&mut bus);
-    expect(&rt, "cause", (cpu.pc(), cpu.cp0().cause(), cpu.cp0().random()), (0x8000_0180, 0x30, 27));
-    expect(&rt, "copy", (copy.pc(), copy.cp0().cause(), copy.cp0().random()), (0x8000_000c, 0, 28));
+    expect(
+        &rt,
+        "cause",
+        (cpu.pc(), cpu.cp0().cause(), cpu.cp0().random()),
+        (0x8000_0180, 0x30, 27),
+    );
+    expect(
+        &rt,
+        "copy",
+        (copy.pc(), copy.cp0().cause(), copy.cp0().random()),
+        (0x8000_000c, 0, 28),
+    );
     copy.step(&mut bus);
-    expect(&rt, "later", (copy.pc(), copy.cp0().epc(), copy.cp0().random()), (0x8000_0180, 0x8000_000c, 27));
+    expect(
+        &rt,
+        "later",
+        (copy.pc(), copy.cp0().epc(), copy.cp0().random()),
+        (0x8000_0180, 0x8000_000c, 27),
+    );
     Ok(())
 }
