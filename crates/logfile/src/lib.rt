@@ -16,6 +16,7 @@ mod item_reader;
 pub mod laws;
 pub mod reader;
 mod tag;
+pub mod version_laws;
 pub mod versions;
 pub mod writer;
 

@@ -42,6 +42,7 @@ fn profile_in(fields: &[u8]) -> u32
 }
 
 /// Checks the fields of a file of version 2, which stand behind its magic number.
+#[tactic(auto, using(crate::proofs::Versions::one_number))]
 fn check_fields(fields: &[u8], digest: &[u8; 32]) -> Result<LogHeader, LogFault>
     ensures ok { IfOk result (λ header. HasFields fields.now digest.now header.profile header.pages) }
     ensures long { OnOk result (40 ≤ length fields.now) }
@@ -68,6 +69,7 @@ fn check_fields(fields: &[u8], digest: &[u8; 32]) -> Result<LogHeader, LogFault>
 /// An error is the first of: the file has fewer than 40 bytes, or begins with `MVL2` and has fewer than 44; it begins with `MVL2`
 /// and names no profile; it begins with neither `MVL1` nor `MVL2`, or its pages aren't 2 to the most of the profile; its digest is
 /// another.
+#[tactic(auto, using(crate::proofs::Versions::second_fault, crate::proofs::Versions::first_fault))]
 pub fn read_header(file: &[u8], digest: &[u8; 32]) -> Result<LogHeader, LogFault>
     ensures ok { IfOk result (λ header. HasHeaderAs file.now digest.now header.profile header.pages) }
     ensures long { OnOk result (IsLong file.now) }
