@@ -45,8 +45,8 @@ pub record IsPagesOf (profile : Profile) (pages : ℕ) : Type 0 where
   pub most : pages ≤ (profile_numbers profile).most_pages
 
 -- the fields are those of a machine of this profile that can have so many pages, and the image of this digest
-pub record HasFields (bytes digest : List ℕ) (profile : Profile) (pages : ℕ) : Type 0 where
-  pub bytes : take 40 bytes ≡ field_bytes profile pages digest
+pub record HasFields (block digest : List ℕ) (profile : Profile) (pages : ℕ) : Type 0 where
+  pub bytes : take 40 block ≡ field_bytes profile pages digest
   pub whole : length digest ≡ 32
   pub range : IsPagesOf profile pages
 

@@ -42,7 +42,7 @@ fn profile_in(fields: &[u8]) -> u32
 }
 
 /// Checks the fields of a file of version 2, which stand behind its magic number.
-#[tactic(auto, using(crate::proofs::Versions::one_number))]
+#[tactic(auto, using(crate::proofs::SecondVersion::one_number))]
 fn check_fields(fields: &[u8], digest: &[u8; 32]) -> Result<LogHeader, LogFault>
     ensures ok { IfOk result (λ header. HasFields fields.now digest.now header.profile header.pages) }
     ensures long { OnOk result (40 ≤ length fields.now) }
@@ -69,7 +69,7 @@ fn check_fields(fields: &[u8], digest: &[u8; 32]) -> Result<LogHeader, LogFault>
 /// An error is the first of: the file has fewer than 40 bytes, or begins with `MVL2` and has fewer than 44; it begins with `MVL2`
 /// and names no profile; it begins with neither `MVL1` nor `MVL2`, or its pages aren't 2 to the most of the profile; its digest is
 /// another.
-#[tactic(auto, using(crate::proofs::Versions::second_fault, crate::proofs::Versions::first_fault))]
+#[tactic(auto, using(crate::proofs::SecondVersion::second_fault, crate::proofs::SecondVersion::first_fault))]
 pub fn read_header(file: &[u8], digest: &[u8; 32]) -> Result<LogHeader, LogFault>
     ensures ok { IfOk result (λ header. HasHeaderAs file.now digest.now header.profile header.pages) }
     ensures long { OnOk result (IsLong file.now) }
@@ -110,17 +110,18 @@ pub fn read_entries_as(alloc: Global, file: &[u8]) -> Result<Vec<Entry>, ReadErr
 #[tactic(auto, unfolding(crate::specs::Versions::field_bytes))]
 pub fn write_as(
     alloc: Global,
-    header: LogHeader,
+    profile: Profile,
+    pages: u32,
     digest: &[u8; 32],
     entries: &[Entry],
 ) -> Result<Vec<u8>, AllocError>
     requires { All HasItems entries.now }
-    ensures { IfOk result (λ file. StandsForAs file.items header.profile header.pages digest.now (file_entries entries.now)) }
+    ensures { IfOk result (λ file. StandsForAs file.items profile pages digest.now (file_entries entries.now)) }
 {
     let mut file = Vec::new(alloc);
     file.extend_from_slice(&SECOND_MAGIC)?;
-    file.extend_from_slice(&header.profile.numbers().number.to_le_bytes())?;
-    file.extend_from_slice(&header.pages.to_le_bytes())?;
+    file.extend_from_slice(&profile.numbers().number.to_le_bytes())?;
+    file.extend_from_slice(&pages.to_le_bytes())?;
     file.extend_from_slice(digest)?;
     for entry in entries {
         write_entry(&mut file, entry)?;

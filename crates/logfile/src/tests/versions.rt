@@ -52,11 +52,31 @@ fn headers_say_the_machine(rt: HostRuntime) -> Result<(), Fail> {
     let alloc = rt.alloc();
     let (one, two) = (Profile::One, Profile::Two);
     let header = |profile| Ok(LogHeader { profile, pages: 16 });
-    expect(&rt, "MVL1", read_header(&file_of(alloc, &BODY)?, &DIGEST), header(one));
-    expect(&rt, "one", read_header(&second_file(alloc, 1, &BODY)?, &DIGEST), header(one));
-    expect(&rt, "two", read_header(&second_file(alloc, 2, &BODY)?, &DIGEST), header(two));
+    expect(
+        &rt,
+        "MVL1",
+        read_header(&file_of(alloc, &BODY)?, &DIGEST),
+        header(one),
+    );
+    expect(
+        &rt,
+        "one",
+        read_header(&second_file(alloc, 1, &BODY)?, &DIGEST),
+        header(one),
+    );
+    expect(
+        &rt,
+        "two",
+        read_header(&second_file(alloc, 2, &BODY)?, &DIGEST),
+        header(two),
+    );
     let unknown = Err(LogFault::Profile);
-    expect(&rt, "three", read_header(&second_file(alloc, 3, &BODY)?, &DIGEST), unknown);
+    expect(
+        &rt,
+        "three",
+        read_header(&second_file(alloc, 3, &BODY)?, &DIGEST),
+        unknown,
+    );
     Ok(())
 }
 
@@ -102,8 +122,7 @@ fn second_files_are_written(rt: HostRuntime) -> Result<(), Fail> {
     let alloc = rt.alloc();
     let log = [one(0, What::In(b'a')), one(0, What::In(b'b')), steps(0, 5)];
     let body = [2, 0, 0x61, 2, 0, 0x62, 1, 0, 5, 0, 0, 0];
-    let (profile, pages) = (Profile::Two, 16);
-    let file = write_as(alloc, LogHeader { profile, pages }, &DIGEST, &log)?;
+    let file = write_as(alloc, Profile::Two, 16, &DIGEST, &log)?;
     let wanted = second_file(alloc, 2, &body)?;
     expect(&rt, "bytes", file.as_slice(), wanted.as_slice());
     expect(&rt, "length", file.len(), 56);

@@ -1,5 +1,5 @@
 -- Log files of version 2: their fields, and what stands behind them.
-use Rattle.std.proofs.Common.{◌≡◌, ℕ, ◌+◌, ◌<◌, ◌≤◌, ◌^◌, inl, inr, lit<, lit≤, subst, List, ◌++◌, length, take, drop, refl, sym, ap, ◌∙◌, length-drop, length-append, append_assoc, arith}
+use Rattle.std.proofs.Common.{◌≡◌, ℕ, ◌+◌, ◌<◌, ◌≤◌, ◌^◌, ◌⊎◌, inl, inr, lit<, lit≤, subst, List, ◌++◌, length, take, drop, refl, sym, ap, ◌∙◌, length-drop, length-append, append_assoc, arith}
 use Rattle.std.specs.Int.{from_le_bytes, w32}
 use Rattle.std.proofs.lemmas.Nat.{le_bytes_4, from_le_bytes-to_le_bytes_4}
 use Rattle.std.proofs.lemmas.List.{length-take, length-take-le, take-take, drop-take, drop-drop}
@@ -54,8 +54,7 @@ unfolding field_bytes
 fields_are bytes digest profile pages h fits =
     let front : take 4 bytes ≡ word (profile_numbers profile).number = sym (take-take 4 40 bytes (lit≤ tt)) ∙ ap (take 4) h in
     let number : take 4 (drop 4 bytes) ≡ word pages = sym (drop-take 4 4 bytes) ∙ ap (drop 4) (sym (take-take 8 40 bytes (lit≤ tt)) ∙ ap (take 8) h) in
-    let rest : digest_in bytes ≡ digest = sym (drop-take 8 32 bytes) ∙ ap (drop 8) h in
-    (
+    let rest : digest_in bytes ≡ digest = sym (drop-take 8 32 bytes) ∙ ap (drop 8) h in (
       sym (ap (from_le_bytes w32) front ∙ from_le_bytes-to_le_bytes_4 (profile_numbers profile).number (number_fits profile)),
       ap (from_le_bytes w32) number ∙ from_le_bytes-to_le_bytes_4 pages fits,
       rest,
@@ -118,6 +117,7 @@ first_fault file digest f not faulty small = record {
     by_order : (earlier : LogFault) → (number_of earlier < number_of f) ⊎ (earlier ≡ fault.Profile) → Fails earlier file digest → ⊥
     by_order earlier (inl less) fails = faulty.first earlier less fails
     by_order earlier (inr is) fails = subst (λ (g : LogFault). Fails g file digest) is fails
+
     first_only : (earlier : LogFault) → rank_of earlier < rank_of f → FailsAs earlier file digest → ⊥
     first_only earlier less (inl same) = by_order earlier (in_order earlier f small less) same.1
     first_only earlier less (inr other) = not other.0
