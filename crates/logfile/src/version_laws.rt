@@ -6,7 +6,6 @@ ghost use Rattle.logfile.specs.declared.fault.LogFault.{LogFault};
 ghost use Rattle.logfile.specs.Versions.{IsPagesOf, HasHeaderAs, HasEntriesAs, StandsForAs, FailsAs, rank_of};
 
 /// A law: the file that is written for a log, of version 2, has the log's header and its entries, and no others.
-#[tactic(auto, using(crate::proofs::SecondVersion::has_header_as, crate::proofs::SecondVersion::has_entries_as, crate::proofs::SecondVersion::one_list))]
 pub fn written_file_reads_back()
     ensures header { (file digest : List ℕ) (profile : Profile) (pages : ℕ) (es : List Entry) → IsPagesOf profile pages
         → StandsForAs file profile pages digest es → HasHeaderAs file digest profile pages }
@@ -16,7 +15,6 @@ pub fn written_file_reads_back()
 {}
 
 /// A law: a file with its header, of either version, fails no check before that of its body.
-#[tactic(auto, using(crate::proofs::SecondVersion::no_fault_as))]
 pub fn right_header_has_no_fault()
     ensures { (file digest : List ℕ) (profile : Profile) (pages : ℕ) (f : LogFault) → HasHeaderAs file digest profile pages
         → rank_of f < 5 → ¬ FailsAs f file digest }
