@@ -5,6 +5,7 @@ mod changed_words;
 mod clock;
 mod instructions;
 mod pages;
+mod places;
 
 use super::expect;
 use super::sparse::Sparse;
