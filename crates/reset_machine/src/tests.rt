@@ -140,9 +140,7 @@ fn push_bytes<R: AllocGlobal + Abort, M: Runnable>(
 
 fn entries_of<R: AllocGlobal>(rt: &R, cpu: &Cpu) -> Result<Vec<Entry>, Fail> {
     let mut entries = Vec::new(rt.alloc());
-    for k in 0..16 {
-        entries.push(cpu.tlb().read(k))?;
-    }
+    entries.extend_from_slice(cpu.tlb().entries())?;
     Ok(entries)
 }
 
