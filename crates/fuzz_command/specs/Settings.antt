@@ -2,7 +2,7 @@
 use Rattle.std.specs.Prelude.{ℕ}
 use Rattle.elf32.specs.declared.image.Image.{Image}
 use Rattle.elf32.specs.Images.{FitsPages}
-use Rattle.machine.specs.Boot.{boot_machine}
+use Rattle.machine.specs.Boot.{boot_machine, boot_machine_as}
 use Rattle.machine.specs.Step.{Machine}
 use Rattle.commands.specs.Raw.{IsPageCount}
 use Rattle.runs.specs.declared.ending.Until.{Until}
@@ -18,7 +18,7 @@ pub record Setting : Type 0 where
   pub shown : Shown
 
 abbrev pub setting_of : SettingCode → Setting
-setting_of s = record { boot = boot_machine s.image.value s.pages; steps = s.steps; until = s.until.now; shown = s.shown }
+setting_of s = record { boot = boot_machine_as s.profile s.image.value s.pages; steps = s.steps; until = s.until.now; shown = s.shown }
 
 -- a guest of the image can be booted: the number of pages is within its limits, and they hold the image
 pub record CanBoot (s : SettingCode) : Type 0 where

@@ -4,7 +4,7 @@ ghost use Rattle.elf32.specs.declared.image.Image as elf;
 ghost use Rattle.elf32.specs.Images.{FitsPages};
 ghost use Rattle.masm.specs.Listings.{Listing};
 ghost use Rattle.masm.specs.Assembly.{Means};
-ghost use Rattle.machine.specs.Boot.{boot_machine};
+ghost use Rattle.machine.specs.Boot.{boot_machine, boot_machine_as};
 ghost use Rattle.sharetab.specs.Maps.{at_page};
 ghost use Rattle.sharetab.specs.declared.guest_page.GuestPage.{GuestPage};
 ghost use Rattle.guest.specs.Guests.{view_of};
@@ -80,7 +80,7 @@ fn guests_of_text(
 ) -> Result<Vec<NewGuest>, TextError>
     ensures one { IfOk result (λ guests. (guest : boot.NewGuest) × (guests.items ≡ guest ∷ [])
         × IsGuestOf text.now pages shares guest × HoldsImage guest
-        × ((listing : Listing) × Means text.now listing × Holds (boot_machine guest.image.value guest.pages) listing)) }
+        × ((listing : Listing) × Means text.now listing × Holds (boot_machine_as guest.profile guest.image.value guest.pages) listing)) }
     ensures refused { IfErr result (IsErrorOf text.now pages) }
 {
     let guest = guest_of_text(alloc, text, pages, shares)?;
@@ -109,7 +109,7 @@ pub fn guest_of_text(
     ensures guest { IfOk result (IsGuestOf text.now pages shares) }
     ensures fits { IfOk result HoldsImage }
     // The machine that it boots holds the listing that the text means.
-    ensures holds { IfOk result (λ guest. (listing : Listing) × Means text.now listing × Holds (boot_machine guest.image.value guest.pages) listing) }
+    ensures holds { IfOk result (λ guest. (listing : Listing) × Means text.now listing × Holds (boot_machine_as guest.profile guest.image.value guest.pages) listing) }
     ensures refused { IfErr result (IsErrorOf text.now pages) }
 {
     let image = image_of_text(alloc, text, pages)?;
