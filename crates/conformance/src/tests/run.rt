@@ -5,6 +5,7 @@ use super::expect;
 use elf32::Image;
 use flatvm::Flat;
 use guest::Guest;
+use mips_cp0::Profile;
 use mips_instr::Reg;
 use mips_step::Cpu;
 use rand_pcg::Pcg32;
@@ -132,6 +133,7 @@ pub fn boot_world<R: AllocGlobal + Abort>(
 /// A guest of so many pages that is to boot the image, and no other.
 fn alone(alloc: Global, image: Image, pages: u32) -> Result<Vec<NewGuest>, Fail> {
     let guest = NewGuest {
+        profile: Profile::One,
         image: Arc::new(alloc, image)?,
         pages,
         shares: 1,
