@@ -1,4 +1,5 @@
 pub mod Guests
+pub mod Limits
 pub mod Places
 pub mod Refusing
 pub mod Stores
