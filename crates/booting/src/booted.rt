@@ -150,7 +150,16 @@ fn boot_each<S: SwapStore>(
         let Ok(image) = owner(&guest.image) else {
             return Err(BootError::Memory);
         };
-        match loaded(alloc, guest.profile, image, guest.pages, log_runs, pool, slots, store) {
+        match loaded(
+            alloc,
+            guest.profile,
+            image,
+            guest.pages,
+            log_runs,
+            pool,
+            slots,
+            store,
+        ) {
             Ok(guest) => guests.push_reserved(guest),
             Err(error) => return Err(error),
         }

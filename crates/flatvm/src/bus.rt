@@ -113,8 +113,16 @@ impl FlatBus {
         requires there { page * 4096 + 4096 ≤ length from.now.memory }
         ensures { self.new ≡ record self.old { memory = patched self.old.memory (page * 4096) (page_bytes page from.now.memory) 4096 } }
     {
-        let start = page.number() as usize * 4096;
-        self.bytes[start..start + 4096].copy_from_slice(&from.bytes[start..start + 4096]);
+        self.put_page(page, from.page(page));
+    }
+
+    // The bytes of a page that memory has.
+    fn page(&self, page: Ppn) -> &[u8]
+        requires { page * 4096 + 4096 ≤ length self.now.memory }
+        ensures bytes { result.now ≡ page_bytes page self.now.memory }
+        ensures whole { length result.now ≡ 4096 }
+    {
+        &self.bytes[page.number() as usize * 4096..][..4096]
     }
 
     /// Puts other devices in the place of the bus's own. They are for a memory of as many pages.

@@ -154,12 +154,7 @@ pub fn boot_world<R: AllocGlobal + Abort>(
 }
 
 /// A guest of a profile and of so many pages that is to boot the image, and no other.
-fn alone(
-    alloc: Global,
-    profile: Profile,
-    image: Image,
-    pages: u32,
-) -> Result<Vec<NewGuest>, Fail> {
+fn alone(alloc: Global, profile: Profile, image: Image, pages: u32) -> Result<Vec<NewGuest>, Fail> {
     let guest = NewGuest {
         profile,
         image: Arc::new(alloc, image)?,
