@@ -1,5 +1,5 @@
 //! The command `sim`.
-ghost use Rattle.std.specs.Prelude.{◌≡◌, ◌⊎◌, All, IfErr, IfOk, IfSome, IfNone, IsErrOf, Ok, OnOk, false, length, map, true};
+ghost use Rattle.std.specs.Prelude.{◌≡◌, ◌⊎◌, All, IfErr, IfOk, IfSome, IsErrOf, Ok, OnOk, false, length, map, true};
 ghost use Rattle.elf32.specs.Images.{FitsPages};
 ghost use Rattle.mips_cp0.specs.declared.profile.Profile.{Profile};
 ghost use Rattle.script.specs.Courses.{course_of};
@@ -61,10 +61,10 @@ pub enum SimFault<'a> {
 /// the directory of the order, if it names one. The answer is the number of the first guest whose log could not be written.
 ///
 /// An error is `Refused`, before anything is written: `Script` with the first line that is refused, and `Boot` where there are more than
-/// 16 guests or the header says a number of no profile, before any other file is read; `File` with the script's name or a guest's file where a log would be written over it; `File`
-/// where a guest's file can't be read and `Elf` with its first fault, guest after guest; `File` where the directory of the logs can't be made; `Boot` where the world is refused; `Memory` where a
-/// request for memory was refused. Behind the boot it is `Memory`, where the replies to the first events are written, or `Output` where a
-/// reply could not be.
+/// 16 guests or the header says a number of no profile, before any other file is read; `File` with the script's name or a guest's file where
+/// a log would be written over it; `File` where a guest's file can't be read and `Elf` with its first fault, guest after guest; `File` where
+/// the directory of the logs can't be made; `Boot` where the world is refused; `Memory` where a request for memory was refused. Behind the
+/// boot it is `Memory`, where the replies to the first events are written, or `Output` where a reply could not be.
 pub fn run_script<'a, R: Files + AllocGlobal, O: Write>(
     rt: &R,
     order: Sim<'a>,
@@ -141,11 +141,10 @@ fn profile_of<'a>(header: &Header<'_>) -> Result<Profile, Fault<'a>>
     ensures said { IfOk result (IsProfileOf header.now.profile) }
     ensures none { IfErr result (λ fault. (fault ≡ Fault.Boot BootError.Limits) × ((profile : Profile) → ¬ IsProfileOf header.now.profile profile)) }
 {
-    let found = match header.profile {
-        None => Some(DEFAULT_PROFILE),
-        Some(number) => Profile::of_number(number),
+    let Some(number) = header.profile else {
+        return Ok(DEFAULT_PROFILE);
     };
-    match found {
+    match Profile::of_number(number) {
         Some(profile) => Ok(profile),
         None => Err(Fault::Boot {
             error: BootError::Limits,
