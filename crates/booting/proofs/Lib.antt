@@ -1,5 +1,5 @@
 pub mod Guests
-pub mod Limits
+pub mod PageCounts
 pub mod Places
 pub mod Refusing
 pub mod Stores

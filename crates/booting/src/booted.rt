@@ -119,7 +119,7 @@ fn owner(image: &Arc<Image, Global>) -> Result<Arc<Image, Global>, AllocError>
 }
 
 // The guests that are asked for are booted, one after another.
-#[tactic(auto, using(crate::proofs::Limits::few_pages))]
+#[tactic(auto, using(crate::proofs::PageCounts::few_pages))]
 fn boot_each<S: SwapStore>(
     alloc: Global,
     asked: &[NewGuest],
