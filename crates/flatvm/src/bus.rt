@@ -103,8 +103,10 @@ impl FlatBus {
         ensures { IfOk result (λ bus. bus ≡ self.now) }
     {
         let bytes = self.bytes.to_vec(*self.bytes.allocator())?;
-        let devices = self.devices.try_clone()?;
-        Ok(FlatBus { bytes, devices })
+        Ok(FlatBus {
+            bytes,
+            devices: self.devices.try_clone()?,
+        })
     }
 
     /// Puts the bytes that a page has in another memory in the place of its own. Both have the page.
@@ -122,7 +124,8 @@ impl FlatBus {
         ensures bytes { result.now ≡ page_bytes page self.now.memory }
         ensures whole { length result.now ≡ 4096 }
     {
-        &self.bytes[page.number() as usize * 4096..][..4096]
+        let start = page.number() as usize * 4096;
+        &self.bytes[start..start + 4096]
     }
 
     /// Puts other devices in the place of the bus's own. They are for a memory of as many pages.

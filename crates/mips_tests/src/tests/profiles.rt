@@ -81,7 +81,7 @@ fn rounds_are_written(rt: &impl Abort, profile: Profile, last: u32, wired: u32) 
             got,
             (random, Some(random as usize)),
         );
-        random = if random == wired { last } else { random - 1 };
+        random = if random <= wired { last } else { random - 1 };
     }
 }
 
