@@ -43,14 +43,15 @@ fn crash_log(alloc: Global, setting: &Setting<'_>, input: &[u8], ran: Ran) -> Cr
     requires { ran.taken ≤ length input.now }
     ensures { IsCrashLog setting.now input.now ran result }
 {
-    match &setting.logs {
-        Some(digest) if ends_in_exception(ran) => match file_of(
-            alloc, setting, digest, input, ran,
-        ) {
-            Some(bytes) => CrashLog::File(bytes),
-            None => CrashLog::Lost,
-        },
-        _ => CrashLog::Unwanted,
+    let Some(digest) = &setting.logs else {
+        return CrashLog::Unwanted;
+    };
+    if !ends_in_exception(ran) {
+        return CrashLog::Unwanted;
+    }
+    match file_of(alloc, setting, digest, input, ran) {
+        Some(bytes) => CrashLog::File(bytes),
+        None => CrashLog::Lost,
     }
 }
 
