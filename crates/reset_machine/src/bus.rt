@@ -7,7 +7,7 @@ ghost use Rattle.devices.specs.Devices.{device_input_fed};
 ghost use Rattle.elf32.specs.Images.{FitsPages};
 ghost use Rattle.machine.specs.Answers.{replied};
 ghost use Rattle.machine.specs.Board.{page_bytes};
-ghost use Rattle.machine.specs.Boot.{boot_memory, boot_board, boot_machine};
+ghost use Rattle.machine.specs.Boot.{boot_memory, boot_board, boot_machine_as};
 ghost use Rattle.reset_machine.specs.Marks.{is_marked, Grows};
 ghost use Rattle.reset_machine.specs.Watched.{IsWatched, AreGivenMarked};
 
@@ -17,6 +17,7 @@ use elf32::Image;
 use flatvm::{Flat, FlatBus};
 use guest::load_image_page;
 use machine::{Kind, PhysBus, Refusal, Rejection, Reply, Size};
+use mips_cp0::Profile;
 use mips_step::Cpu;
 use std::alloc::{AllocError, Global};
 use std::marker::Model;
@@ -24,24 +25,25 @@ use std::sync::Arc;
 use word32::{Ppn, page_of};
 
 /// A plain memory with its devices that marks each page which a store changes, so that it goes back to how its image boots by those pages
-/// alone. In clauses it is a `WatchedBoard`.
+/// alone. It keeps the profile too, for the processor that the image boots. In clauses it is a `WatchedBoard`.
 #[derive(Drop)]
 pub struct WatchedBus {
     flat: FlatBus,
     marks: Marks,
+    profile: Profile,
     image: Arc<Image, Global>,
 }
 
 impl Model for WatchedBus {
     ghost use Rattle.std.specs.Prelude.{length};
-    ghost use Rattle.machine.specs.Boot.{boot_machine};
+    ghost use Rattle.machine.specs.Boot.{boot_machine_as};
     ghost use Rattle.reset_machine.specs.Watched.{WatchedBoard, IsWatched};
 
     ghost Value = { WatchedBoard };
 
     ghost view = { λ b. record {
       board = b.flat;
-      boot = boot_machine b.image.value (length b.marks.marked);
+      boot = boot_machine_as b.profile b.image.value (length b.marks.marked);
       written = b.marks.list;
     } };
 
@@ -49,23 +51,29 @@ impl Model for WatchedBus {
 }
 
 impl WatchedBus {
-    /// The memory and the devices that an image boots, of `pages` pages, at most 2^20, which hold the image. `AllocError` where a request
-    /// for memory was refused.
+    /// The memory and the devices that an image boots, of `pages` pages, at most 2^20, which hold the image, beside a processor of a
+    /// profile. `AllocError` where a request for memory was refused.
     #[tactic(auto, using(crate::proofs::Watching::boot_watched, crate::proofs::Watching::booted_count))]
     pub fn boot(
         alloc: Global,
+        profile: Profile,
         image: Arc<Image, Global>,
         pages: u32,
     ) -> Result<WatchedBus, AllocError>
         requires fits { FitsPages image.value pages }
         requires few { pages ≤ 2 ^ 20 }
         ensures board { IfOk result (λ bus. bus.board ≡ boot_board image.value pages) }
-        ensures boot { IfOk result (λ bus. bus.boot ≡ boot_machine image.value pages) }
+        ensures boot { IfOk result (λ bus. bus.boot ≡ boot_machine_as profile image.value pages) }
         ensures written { IfOk result (λ bus. bus.written ≡ []) }
     {
         let flat = FlatBus::boot(alloc, &image, pages)?;
         let marks = Marks::new(alloc, pages)?;
-        Ok(WatchedBus { flat, marks, image })
+        Ok(WatchedBus {
+            flat,
+            marks,
+            profile,
+            image,
+        })
     }
 
     /// The devices.
@@ -98,11 +106,11 @@ impl WatchedBus {
         self.flat.feed(byte)
     }
 
-    /// The processor that the image boots.
+    /// The processor of the profile that the image boots.
     pub fn boot_processor(&self) -> Cpu
         ensures { result ≡ self.now.boot.cpu }
     {
-        Cpu::boot(self.image.entry)
+        Cpu::boot_as(self.profile, self.image.entry)
     }
 
     /// Goes back to the memory and the devices that the image boots. `AllocError` where a request for memory was refused, and nothing has

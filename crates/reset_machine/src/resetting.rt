@@ -2,7 +2,7 @@
 ghost use Rattle.std.specs.Prelude.{◌≡◌, ◌*◌, ◌<◌, ◌≤◌, ◌^◌, None, IfOk, OnOk, OnErr, length};
 ghost use Rattle.items.specs.declared.item.What.TheVariants.{In};
 ghost use Rattle.elf32.specs.Images.{FitsPages};
-ghost use Rattle.machine.specs.Boot.{boot_machine};
+ghost use Rattle.machine.specs.Boot.{boot_machine_as};
 ghost use Rattle.machine.specs.Items.{after};
 ghost use Rattle.machine.specs.Step.{step};
 ghost use Rattle.runs.specs.Runs.{after_steps};
@@ -12,6 +12,7 @@ use elf32::Image;
 use flatvm::Flat;
 use guest_log::Stop;
 use machine::{Rejection, StepOut};
+use mips_cp0::Profile;
 use mips_fast::RunCache;
 use mips_step::{Cpu, Unreached, View, debug};
 use runs::{NoPlace, Runnable};
@@ -41,21 +42,22 @@ impl Model for ResetMachine {
 }
 
 impl ResetMachine {
-    /// The machine that an image boots, with a memory of `pages` pages, at most 2^20, which hold the image. `AllocError` where a request for
-    /// memory was refused.
+    /// The machine of a profile that an image boots, with a memory of `pages` pages, at most 2^20, which hold the image. `AllocError` where a
+    /// request for memory was refused.
     pub fn boot(
         alloc: Global,
+        profile: Profile,
         image: Arc<Image, Global>,
         pages: u32,
     ) -> Result<ResetMachine, AllocError>
         requires fits { FitsPages image.value pages }
         requires few { pages ≤ 2 ^ 20 }
-        ensures machine { IfOk result (λ m. m.machine ≡ boot_machine image.value pages) }
-        ensures boot { IfOk result (λ m. m.boot ≡ boot_machine image.value pages) }
+        ensures machine { IfOk result (λ m. m.machine ≡ boot_machine_as profile image.value pages) }
+        ensures boot { IfOk result (λ m. m.boot ≡ boot_machine_as profile image.value pages) }
     {
-        let cpu = Cpu::boot(image.entry);
+        let cpu = Cpu::boot_as(profile, image.entry);
         let cache = RunCache::new(alloc)?;
-        let bus = WatchedBus::boot(alloc, image, pages)?;
+        let bus = WatchedBus::boot(alloc, profile, image, pages)?;
         Ok(ResetMachine { cpu, bus, cache })
     }
 
