@@ -55,7 +55,7 @@ abbrev pub IsCommandFault : FuzzOrder → Fault → Type 0
 IsCommandFault order (File name) = (name ≡ order.run.image) ⊎ (order.logs ≡ Some name) ⊎ IsInput order.inputs.items name
 IsCommandFault order (Elf fault) = order.run.format ≡ format.Elf
 IsCommandFault order Raw = order.run.format ≡ format.Raw
-IsCommandFault order (Boot error) = IsNotBooted order.run.pages error
+IsCommandFault order (Boot error) = IsNotBooted order.run.profile order.run.pages error
 IsCommandFault order Memory = Unit {0}
 IsCommandFault order other = ⊥
 

@@ -48,7 +48,7 @@ pub record Begins (s : Setting) (AreTheirs : List Trial → Type 0) (known known
 -- the image that is run is one that a file of known bytes stands for, by the order's format, and its pages hold it
 pub record IsImage (order : FuzzOrder) (file : Option (List ℕ)) (image : Image) : Type 0 where
   pub stands : IfSome file (λ all. IsImageOf order.run.format order.run.pages all image)
-  pub legal : IsPageCount order.run.pages
+  pub legal : IsPageCount order.run.profile order.run.pages
   pub fits : FitsPages image order.run.pages
 
 -- the lines of all inputs are written: each is of the machine that the image boots, after its own input alone

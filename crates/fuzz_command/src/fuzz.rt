@@ -108,7 +108,7 @@ fn shared<'o, 'a>(
     image: Image,
     digest: [u8; 32],
 ) -> Result<Setting<'o>, AllocError>
-    requires legal { IsPageCount order.now.run.pages }
+    requires legal { IsPageCount order.now.run.profile order.now.run.pages }
     requires fits { FitsPages image order.now.run.pages }
     ensures boots { IfOk result CanBoot }
     ensures setting { IfOk result (λ setting. setting_of setting ≡ setting_in order.now image) }
@@ -116,6 +116,7 @@ fn shared<'o, 'a>(
     let image = Arc::new(alloc, image)?;
     Ok(Setting {
         image,
+        profile: order.run.profile,
         pages: order.run.pages,
         steps: order.run.steps,
         until: &order.until,

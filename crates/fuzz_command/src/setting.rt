@@ -1,6 +1,7 @@
 //! What an input is run on, and how.
 use crate::order::Shown;
 use elf32::Image;
+use mips_cp0::Profile;
 use runs::Until;
 use std::alloc::Global;
 use std::sync::Arc;
@@ -10,6 +11,8 @@ use std::sync::Arc;
 pub struct Setting<'a> {
     /// The image, of which each guest boots.
     pub image: Arc<Image, Global>,
+    /// The profile of each guest's processor.
+    pub profile: Profile,
     /// How many pages a guest's memory has.
     pub pages: u32,
     /// How many steps are to be made.
