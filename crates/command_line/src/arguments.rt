@@ -35,6 +35,8 @@ pub(crate) const MEMORY: &str = "memory";
 pub(crate) const LINES: &str = "lines";
 
 /// The options that give numbers.
+pub(crate) const PROFILE: &str = "profile";
+
 pub(crate) const PAGES: &str = "pages";
 
 pub(crate) const STEPS: &str = "steps";
@@ -157,9 +159,11 @@ fn guests_command<'a>(alloc: Global) -> Result<Command<'a>, AllocError> {
         .arg(wanted(alloc, SEED, "N").help(
             "The seed of the words by which the pages are drawn that leave their frames",
         ))?;
-    let command = command.arg(named(alloc, LOGS, "DIR").help(
-        "The directory that the guests' logs are written to at the end, 0.log and so on",
-    ))?;
+    let command = command
+        .arg(named(alloc, LOGS, "DIR").help(
+            "The directory that the guests' logs are written to at the end, 0.log and so on",
+        ))?
+        .arg(profile(alloc))?;
     command
         .arg(flag(alloc, ADMIT).help(
             "Boot only where there are frames for the guests' minimums, and slots for their other pages",
@@ -207,7 +211,7 @@ fn guests<'a>(alloc: Global) -> Arg<'a> {
         .num_args(1..)
         .action(ArgAction::Append)
         .help(
-            "IMAGE:PAGES:SHARES or IMAGE:PAGES:SHARES:MINIMUM, a guest: the file of its executable, the pages of its memory, 2 to 16384, its shares of the machine's memory, 1 to 1000000, and how many pages in frames it always keeps, 2 where it isn't given",
+            "IMAGE:PAGES:SHARES or IMAGE:PAGES:SHARES:MINIMUM, a guest: the file of its executable, the pages of its memory, 2 to 32768, or to 16384 in profile 1, its shares of the machine's memory, 1 to 1000000, and how many pages in frames it always keeps, 2 where it isn't given",
         )
 }
 
@@ -280,13 +284,23 @@ fn list<'a>(alloc: Global, name: &'a str, value: &'a str) -> Arg<'a> {
 
 fn with_numbers<'a>(alloc: Global, command: Command<'a>) -> Result<Command<'a>, AllocError> {
     command
+        .arg(profile(alloc))?
         .arg(number(alloc, PAGES, "P", "16").help(
-            "Pages of memory, of 4,096 bytes each: 2 to 16384",
+            "Pages of memory, of 4,096 bytes each: 2 to 32768, or to 16384 in profile 1",
         ))?
         .arg(number(alloc, STEPS, "N", "1000").help(
             "Steps to make, an instruction or an exception each: 0 to 4294967295",
         ))
 }
+
+fn profile<'a>(alloc: Global) -> Arg<'a> {
+    number(alloc, PROFILE, "N", DEFAULT_PROFILE).help(
+        "Profile of the processor: 1 (16 TLB entries, at most 16384 pages) or 2 (32 TLB entries, at most 32768 pages)",
+    )
+}
+
+/// The number of `commands::DEFAULT_PROFILE`.
+const DEFAULT_PROFILE: &str = "2";
 
 fn file<'a>(alloc: Global, name: &'a str, value: &'a str) -> Arg<'a> {
     Arg::new(alloc, name).value_name(value).required(true)

@@ -1,5 +1,6 @@
 mod Batches
 mod Faults
+mod Limits
 mod Orders
 mod RunLogs
 mod Trials

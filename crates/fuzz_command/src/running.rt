@@ -2,6 +2,7 @@
 ghost use Rattle.std.specs.Prelude.{◌≡◌, ◌≤◌, ◌<◌, ℕ, IfOk, IfSome, length, slice_index_or, string_bytes};
 ghost use Rattle.fuzz_command.specs.Jobs.{IsOutcome, IsReusable, IsRunOf};
 ghost use Rattle.fuzz_command.specs.Lines.{IsTrial, line_text};
+ghost use Rattle.fuzz_command.specs.Logs.{IsCrashLog, IsRunLog, is_exception};
 ghost use Rattle.fuzz_command.specs.Settings.{CanBoot, setting_of};
 
 use crate::job::{CrashLog, Job, Outcome, RunResult, Want};
@@ -16,27 +17,46 @@ use std::alloc::{AllocError, Global};
 use std::thread::{Threads, for_each_chunk_mut};
 
 // Whether a run ended in an exception.
-fn is_exception(ran: Ran) -> bool {
+fn ends_in_exception(ran: Ran) -> bool
+    ensures { result ≡ is_exception ran.ending }
+{
     matches!(ran.ending, Some(Ending::Exception(_, _)))
+}
+
+// The bytes of the file of the log of a run of an input, of an image of this digest; none where there is no memory for them.
+fn file_of(
+    alloc: Global,
+    setting: &Setting<'_>,
+    digest: &[u8; 32],
+    input: &[u8],
+    ran: Ran,
+) -> Option<Vec<u8>>
+    requires { ran.taken ≤ length input.now }
+    ensures { IfSome result (λ bytes. IsRunLog setting.now digest.now input.now ran bytes.items) }
+{
+    let log = log_of(alloc, input, ran).ok()?;
+    log_bytes(alloc, &log, setting.profile, setting.pages, digest).ok()
 }
 
 // The log of a run of an input, where such logs are kept: of one that ended in an exception.
 fn crash_log(alloc: Global, setting: &Setting<'_>, input: &[u8], ran: Ran) -> CrashLog
     requires { ran.taken ≤ length input.now }
+    ensures { IsCrashLog setting.now input.now ran result }
 {
-    match setting.logs {
-        Some(digest) if is_exception(ran) => match log_of(alloc, input, ran) {
-            Ok(log) => match log_bytes(alloc, &log, setting.pages, &digest) {
-                Ok(bytes) => CrashLog::File(bytes),
-                Err(_) => CrashLog::Lost,
-            },
-            Err(_) => CrashLog::Lost,
-        },
-        _ => CrashLog::Unwanted,
+    let Some(digest) = &setting.logs else {
+        return CrashLog::Unwanted;
+    };
+    if !ends_in_exception(ran) {
+        return CrashLog::Unwanted;
+    }
+    match file_of(alloc, setting, digest, input, ran) {
+        Some(bytes) => CrashLog::File(bytes),
+        None => CrashLog::Lost,
     }
 }
 
 // A machine as the image boots: where there is one that has run inputs before, it goes back to its boot.
+#[tactic(auto, using(crate::proofs::Limits::few_pages))]
 fn machine_at_boot(
     alloc: Global,
     setting: &Setting<'_>,
@@ -52,7 +72,12 @@ fn machine_at_boot(
             machine.reset(alloc)?;
             Ok(machine)
         }
-        None => ResetMachine::boot(alloc, setting.image.clone()?, setting.pages),
+        None => ResetMachine::boot(
+            alloc,
+            setting.profile,
+            setting.image.clone()?,
+            setting.pages,
+        ),
     }
 }
 
@@ -68,6 +93,7 @@ fn run_input(
     requires machine { machine.old.machine ≡ (setting_of setting.now).boot }
     ensures trial { IfOk result (λ done. IsTrial (setting_of setting.now) (record { name = name.now; input = input.now; ran = done.ran })) }
     ensures text { IfOk result (λ done. string_bytes done.text ≡ line_text (setting_of setting.now) (record { name = name.now; input = input.now; ran = done.ran })) }
+    ensures log { IfOk result (λ done. IsCrashLog setting.now input.now done.ran done.log) }
     ensures boot { machine.new.boot ≡ machine.old.boot }
 {
     let ran = run(machine, input, setting.steps, setting.until, &mut Nobody);

@@ -464,7 +464,7 @@ impl Guest {
             cpu,
             bus,
             cache,
-            profile,
+            profile: _,
             image,
             pages: _,
             owned_log,

@@ -71,6 +71,7 @@ fn written_at_random(profile: Profile, wired: u32, ticks: u32) -> (u32, Option<u
 
 /// Two rounds of Random, from the last entry down to Wired.
 fn rounds_are_written(rt: &impl Abort, profile: Profile, last: u32, wired: u32) {
+    assert!(rt; wired <= last && last < 32);
     let mut random = last;
     for ticks in 0..2 * (last + 1 - wired) {
         let got = written_at_random(profile, wired, ticks);
@@ -80,7 +81,7 @@ fn rounds_are_written(rt: &impl Abort, profile: Profile, last: u32, wired: u32) 
             got,
             (random, Some(random as usize)),
         );
-        random = if random == wired { last } else { random - 1 };
+        random = if random <= wired { last } else { random - 1 };
     }
 }
 

@@ -16,7 +16,9 @@ const ERROR: u32 = 0x14;
 const HANDLER: u32 = 0x12;
 
 // Registers with Status and the current address space.
-fn registers(status: u32, asid: u32) -> Cp0 {
+fn registers(status: u32, asid: u32) -> Cp0
+    ensures { result.last_entry ≡ 15 }
+{
     let mut cp0 = Cp0::boot();
     cp0.write(12, 0, status);
     cp0.write(10, 0, asid);
