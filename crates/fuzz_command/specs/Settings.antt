@@ -10,11 +10,7 @@ use Rattle.fuzz_command.specs.declared.order.FuzzOrder.{FuzzOrder}
 use Rattle.fuzz_command.specs.declared.order.Shown.{Shown}
 use Rattle.fuzz_command.specs.declared.setting.Setting.{Setting as SettingCode}
 
-<<<<<<< HEAD
--- the machine that the image boots, of a profile, how many steps are to be made, the states that a run is to end at, and how the output is shown
-=======
 -- the machine of a profile that the image boots, how many steps are to be made, the states that a run is to end at, and how the output is shown
->>>>>>> 12d76f1e53e9c885397353b43829560865f44492
 pub record Setting : Type 0 where
   pub boot : Machine
   pub steps : ℕ

@@ -6,10 +6,6 @@ ghost use Rattle.dev_console.specs.Console.{input_room};
 ghost use Rattle.devices.specs.Devices.{device_input_fed};
 ghost use Rattle.machine.specs.Answers.{replied};
 ghost use Rattle.machine.specs.Board.{page_bytes};
-<<<<<<< HEAD
-=======
-ghost use Rattle.machine.specs.Boot.{boot_memory, boot_board, boot_machine_as};
->>>>>>> 12d76f1e53e9c885397353b43829560865f44492
 ghost use Rattle.reset_machine.specs.Marks.{is_marked, Grows};
 ghost use Rattle.reset_machine.specs.Watched.{HasPages, IsWatched, AreGivenMarked};
 
@@ -24,50 +20,26 @@ use std::marker::Model;
 use std::sync::Arc;
 use word32::{Ppn, page_of};
 
-<<<<<<< HEAD
 /// A plain memory with its devices that marks each page which a store changes, so that it goes back to what it was at first, the memory of its
 /// home, by those pages alone. In clauses it is a `WatchedBoard`.
-=======
-/// A plain memory with its devices that marks each page which a store changes, so that it goes back to how its image boots by those pages
-/// alone. It keeps the profile too, for the processor that the image boots. In clauses it is a `WatchedBoard`.
->>>>>>> 12d76f1e53e9c885397353b43829560865f44492
 #[derive(Drop)]
 pub struct WatchedBus {
     flat: FlatBus,
     marks: Marks,
-<<<<<<< HEAD
     home: Arc<Home, Global>,
 }
 
 impl Model for WatchedBus {
-=======
-    profile: Profile,
-    image: Arc<Image, Global>,
-}
-
-impl Model for WatchedBus {
-    ghost use Rattle.std.specs.Prelude.{length};
-    ghost use Rattle.machine.specs.Boot.{boot_machine_as};
->>>>>>> 12d76f1e53e9c885397353b43829560865f44492
     ghost use Rattle.reset_machine.specs.Watched.{WatchedBoard, IsWatched};
 
     ghost Value = { WatchedBoard };
 
-<<<<<<< HEAD
     ghost view = { λ b. record { board = b.flat; home = b.home.value; written = b.marks.list } };
-=======
-    ghost view = { λ b. record {
-      board = b.flat;
-      boot = boot_machine_as b.profile b.image.value (length b.marks.marked);
-      written = b.marks.list;
-    } };
->>>>>>> 12d76f1e53e9c885397353b43829560865f44492
 
     ghost invariant = { λ b. IsWatched b.flat.memory b.marks.marked b.home.value.board.memory };
 }
 
 impl WatchedBus {
-<<<<<<< HEAD
     /// The memory and the devices of a home. `AllocError` where a request for memory was refused.
     #[tactic(auto, using(crate::proofs::Watching::home_watched))]
     pub fn new(alloc: Global, home: Arc<Home, Global>) -> Result<WatchedBus, AllocError>
@@ -91,31 +63,6 @@ impl WatchedBus {
         drop(marks);
         drop(home);
         (flat, pages)
-=======
-    /// The memory and the devices that an image boots, of `pages` pages, at most 2^20, which hold the image, beside a processor of a
-    /// profile. `AllocError` where a request for memory was refused.
-    #[tactic(auto, using(crate::proofs::Watching::boot_watched, crate::proofs::Watching::booted_count))]
-    pub fn boot(
-        alloc: Global,
-        profile: Profile,
-        image: Arc<Image, Global>,
-        pages: u32,
-    ) -> Result<WatchedBus, AllocError>
-        requires fits { FitsPages image.value pages }
-        requires few { pages ≤ 2 ^ 20 }
-        ensures board { IfOk result (λ bus. bus.board ≡ boot_board image.value pages) }
-        ensures boot { IfOk result (λ bus. bus.boot ≡ boot_machine_as profile image.value pages) }
-        ensures written { IfOk result (λ bus. bus.written ≡ []) }
-    {
-        let flat = FlatBus::boot(alloc, &image, pages)?;
-        let marks = Marks::new(alloc, pages)?;
-        Ok(WatchedBus {
-            flat,
-            marks,
-            profile,
-            image,
-        })
->>>>>>> 12d76f1e53e9c885397353b43829560865f44492
     }
 
     /// The devices.
@@ -148,19 +95,11 @@ impl WatchedBus {
         self.flat.feed(byte)
     }
 
-<<<<<<< HEAD
     /// The processor of its home.
     pub fn home_processor(&self) -> Cpu
         ensures { result ≡ self.now.home.cpu }
     {
         self.home.processor()
-=======
-    /// The processor of the profile that the image boots.
-    pub fn boot_processor(&self) -> Cpu
-        ensures { result ≡ self.now.boot.cpu }
-    {
-        Cpu::boot_as(self.profile, self.image.entry)
->>>>>>> 12d76f1e53e9c885397353b43829560865f44492
     }
 
     /// Goes back to the memory and the devices of its home. `AllocError` where a request for memory was refused, and nothing has changed then.
