@@ -1,11 +1,9 @@
 //! A memory whose changes are watched.
 ghost use Rattle.std.specs.Prelude.{◌≡◌, ℕ, ◌+◌, ◌*◌, ◌<◌, ◌≤◌, ◌^◌, ◌↔◌, true, false, None, Err, IfOk, OnOk, OnErr, IsOk, length, [], slice_set};
 ghost use Rattle.word32.specs.Pages.{page_number};
-ghost use Rattle.word32.specs.Words.{patched};
 ghost use Rattle.dev_console.specs.Console.{input_room};
 ghost use Rattle.devices.specs.Devices.{device_input_fed};
 ghost use Rattle.machine.specs.Answers.{replied};
-ghost use Rattle.machine.specs.Board.{page_bytes};
 ghost use Rattle.reset_machine.specs.Marks.{is_marked, Grows};
 ghost use Rattle.reset_machine.specs.Watched.{HasPages, IsWatched, AreGivenMarked};
 
@@ -13,7 +11,6 @@ use crate::{Home, Marks};
 use devices::{DeviceRegister, Devices};
 use flatvm::{Flat, FlatBus};
 use machine::{Kind, PhysBus, Refusal, Rejection, Reply, Size};
-use mips_cp0::Profile;
 use mips_step::Cpu;
 use std::alloc::{AllocError, Global};
 use std::marker::Model;
