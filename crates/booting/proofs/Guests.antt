@@ -61,7 +61,7 @@ one_at_boot runs asked guest gs g boots a = record {
         (sym (get_or_append_left gs (g ∷ []) d k (omega (arith, before, a.count)))) (a.each k other d before))
     | inr past ↦
         let last : length asked ≡ k = omega (arith, past, inside, length-append asked (guest ∷ [])) in
-        subst (λ (i : ℕ). IsAtBoot (get_or (asked ++ guest ∷ []) i other).image.value (get_or (asked ++ guest ∷ []) i other).pages runs (get_or (gs ++ g ∷ []) i d)) last
+        subst (λ (i : ℕ). IsAtBoot (get_or (asked ++ guest ∷ []) i other).profile (get_or (asked ++ guest ∷ []) i other).image.value (get_or (asked ++ guest ∷ []) i other).pages runs (get_or (gs ++ g ∷ []) i d)) last
         (subst (λ (n : NewGuest). IsAtBoot n.profile n.image.value n.pages runs (get_or (gs ++ g ∷ []) (length asked) d)) (sym (get_last asked guest other))
         (subst (λ (u : GuestIs). IsAtBoot guest.profile guest.image.value guest.pages runs u)
         (sym (ap (λ (i : ℕ). get_or (gs ++ g ∷ []) i d) (sym a.count) ∙ get_last gs g d)) boots))

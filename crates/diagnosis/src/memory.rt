@@ -1,5 +1,5 @@
 //! Which memory an image was read for.
-ghost use Rattle.std.specs.Prelude.{◌≡◌, ◌≤◌};
+ghost use Rattle.std.specs.Prelude.{◌≡◌, ◌≤◌, ◌*◌};
 ghost use Rattle.diagnosis.specs.Memories.{most_pages_of, pages_of};
 
 use mips_cp0::Profile;
