@@ -43,7 +43,7 @@ loaded_memory InMemory at board = refl
 loaded_memory (AtRegister r) at board = refl
 loaded_memory Nowhere at board = refl
 
-still_watched : (old new : List ℕ) (marked : List Bool) (home : List ℕ) → new ≡ old → IsWatched old marked home → IsWatched new marked home
+pub still_watched : (old new : List ℕ) (marked : List Bool) (home : List ℕ) → new ≡ old → IsWatched old marked home → IsWatched new marked home
 still_watched old new marked home is w = subst (λ (m : List ℕ). IsWatched m marked home) (sym is) w
 
 pub loaded_watched : (r : Reach) (at : ℕ) (old new : Board) (marked : List Bool) (home : List ℕ) → new ≡ board_loaded r at old → IsWatched old.memory marked home → IsWatched new.memory marked home
@@ -225,6 +225,10 @@ all_back memory marked home w clear =
     same_lists memory home (w.size ∙ sym w.home_size) (λ k d h.
     let there : k / 4096 < length marked = omega (arith, h, w.size) in
     same_place (k / 4096) home memory (w.same (k / 4096) there (clear (k / 4096))) k d refl)
+
+-- and as its home has
+pub as_long : (memory : List ℕ) (marked : List Bool) (home : List ℕ) → IsWatched memory marked home → length memory ≡ length home
+as_long memory marked home w = w.size ∙ sym w.home_size
 
 -- a memory that is watched has as many pages as there are marks
 pub watched_pages : (memory : List ℕ) (marked : List Bool) (home : List ℕ) → IsWatched memory marked home → HasPages (length marked) memory

@@ -100,15 +100,15 @@ impl WatchedBus {
     }
 
     /// Goes back to the memory and the devices of its home. `AllocError` where a request for memory was refused, and nothing has changed then.
+    #[tactic(auto, using(crate::proofs::Watching::as_long, crate::proofs::Watching::still_watched))]
     pub fn reset(&mut self) -> Result<(), AllocError>
         ensures board { OnOk result (self.new.board ≡ self.old.home.board) }
         ensures written { OnOk result (self.new.written ≡ []) }
         ensures home { self.new.home ≡ self.old.home }
         ensures unchanged { OnErr result (self.new ≡ self.old) }
     {
-        let devices = self.home.devices()?;
+        self.home.put_devices(&mut self.flat)?;
         reload(&mut self.flat, &mut self.marks, &self.home);
-        self.flat.put_devices(devices);
         Ok(())
     }
 }

@@ -1,5 +1,5 @@
 //! The machine that others begin as.
-ghost use Rattle.std.specs.Prelude.{◌≡◌, ◌+◌, ◌*◌, ◌≤◌, ◌^◌, IfOk, length};
+ghost use Rattle.std.specs.Prelude.{◌≡◌, ◌+◌, ◌*◌, ◌≤◌, ◌^◌, IfOk, OnErr, OnOk, length};
 ghost use Rattle.word32.specs.Words.{patched};
 ghost use Rattle.elf32.specs.Images.{FitsPages};
 ghost use Rattle.machine.specs.Board.{page_bytes};
@@ -7,7 +7,6 @@ ghost use Rattle.machine.specs.Boot.{boot_machine_as};
 ghost use Rattle.machine.specs.Step.{machine_with};
 ghost use Rattle.reset_machine.specs.Watched.{HasPages};
 
-use devices::Devices;
 use elf32::Image;
 use flatvm::FlatBus;
 use mips_cp0::Profile;
@@ -84,11 +83,14 @@ impl Home {
         self.bus.try_clone()
     }
 
-    /// Its devices once more.
-    pub(crate) fn devices(&self) -> Result<Devices, AllocError>
-        ensures { IfOk result (λ devices. devices ≡ self.now.board.devices) }
+    /// Puts its devices, once more, in the place of those of another memory of as many pages. `AllocError` where a request for memory was
+    /// refused, and nothing has changed then.
+    pub(crate) fn put_devices(&self, flat: &mut FlatBus) -> Result<(), AllocError>
+        requires { length flat.old.memory ≡ length self.now.board.memory }
+        ensures put { OnOk result (flat.new ≡ record flat.old { devices = self.now.board.devices }) }
+        ensures unchanged { OnErr result (flat.new ≡ flat.old) }
     {
-        self.bus.devices().try_clone()
+        flat.copy_devices(&self.bus)
     }
 
     /// Puts the bytes of one of its pages in the place of those that the page has in another memory.
