@@ -1,5 +1,5 @@
 -- How a machine comes to where it is ready, and that nothing waits in its console then.
-use Rattle.std.proofs.Common.{ℕ, zero, suc, ◌≡◌, ◌<◌, ◌/◌, ◌%◌, Bool, true, false, ◌==◌, ◌&&◌, ◌||◌, if◌then◌else◌, List, [], ◌∷◌, take, drop, Option, Some, None, Result, Ok, Err, refl, sym, ap, subst, ◌∙◌}
+use Rattle.std.proofs.Common.{ℕ, zero, suc, ◌≡◌, ◌<◌, ◌/◌, ◌%◌, Bool, true, false, ◌==◌, ◌&&◌, ◌||◌, if◌then◌else◌, List, [], ◌∷◌, take, drop, Option, Some, None, Result, Ok, Err, refl, sym, ap, subst, ◌∙◌, eq-eqb}
 use Rattle.std.specs.List.{list_any}
 use Rattle.std.proofs.lemmas.Bool.{true≢false}
 use Rattle.dev_console.specs.Console.{ConsoleIs, output_room, output_written}
@@ -122,12 +122,8 @@ steps_alone ran m now is = is ∙ ap (λ (bytes : List ℕ). after_steps ran.ste
 at_address : (address pc : ℕ) → pc ≡ address → list_any (λ (a : ℕ). a == pc) (address ∷ []) ≡ true
 at_address address pc is = subst (λ (a : ℕ). list_any (λ (b : ℕ). b == pc) (a ∷ []) ≡ true) is (here pc)
   where
-    same : (n : ℕ) → (n == n) ≡ true
-    same zero = refl
-    same (suc n) = same n
-
     here : (n : ℕ) → list_any (λ (b : ℕ). b == n) (n ∷ []) ≡ true
-    here n = ap (λ (b : Bool). b || false) (same n)
+    here n = ap (λ (b : Bool). b || false) (eq-eqb n n refl)
 
 -- where a run ends at an address it doesn't go on from there
 not_there : (until : Until) (m : Machine) (address : ℕ) → until.addresses.items ≡ address ∷ [] → state_ending until m ≡ None → m.cpu.pc ≡ address → ⊥
