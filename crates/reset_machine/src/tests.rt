@@ -1,7 +1,7 @@
 //! Programs of which each leaves something behind: after a reset the machine is the one that its image boots, and runs as it did.
 ghost use Rattle.std.specs.Prelude.{◌<◌, ◌≤◌};
 
-use crate::ResetMachine;
+use crate::{Home, ResetMachine};
 use devices::Devices;
 use dump::dump;
 use masm::assemble_image;
@@ -233,8 +233,8 @@ fn boot<R: AllocGlobal + Abort>(
     let image = assemble_image(rt.alloc(), text)?;
     assert!(rt; image.fits(PAGES));
     let table = Table::boot(rt.alloc(), profile, &image, PAGES)?;
-    let image = Arc::new(rt.alloc(), image)?;
-    let machine = ResetMachine::boot(rt.alloc(), profile, image, PAGES)?;
+    let home = Home::boot(rt.alloc(), profile, &image, PAGES)?;
+    let machine = ResetMachine::new(rt.alloc(), Arc::new(rt.alloc(), home)?)?;
     Ok((machine, table))
 }
 
@@ -258,7 +258,7 @@ fn run_and_reset<R: AllocGlobal + Abort>(
         case.text,
         machine.written() == case.written,
     );
-    machine.reset(rt.alloc())?;
+    machine.reset()?;
     expect(rt, "the reset", case.text, is_seen(rt, machine, fresh)?);
     expect(rt, "no pages", case.text, machine.written() == 0);
     Ok(())
@@ -280,6 +280,74 @@ fn run_case<R: AllocGlobal + Abort>(rt: &R, case: &Case) -> Result<(), Fail> {
 fn what_a_run_leaves_is_gone(rt: HostRuntime) -> Result<(), Fail> {
     for case in &CASES {
         run_case(&rt, case)?;
+    }
+    Ok(())
+}
+
+/// The machine of a case in the midst of its run, after so many steps, as the home of another one; and the reference machine there.
+fn in_the_midst<R: AllocGlobal + Abort>(
+    rt: &R,
+    case: &Case,
+    steps: u32,
+) -> Result<(ResetMachine, Table), Fail> {
+    let (mut machine, mut table) = boot(rt, case.profile, case.text)?;
+    feed_all(&mut table, case.input);
+    table.steps(steps);
+    feed_all(&mut machine, case.input);
+    machine.steps(steps);
+    let home = Arc::new(rt.alloc(), machine.into_home())?;
+    Ok((ResetMachine::new(rt.alloc(), home)?, table))
+}
+
+/// From each step of a case on a machine runs to the end and goes back, twice.
+fn go_back_to_the_midst<R: AllocGlobal + Abort>(
+    rt: &R,
+    case: &Case,
+    steps: u32,
+) -> Result<(), Fail> {
+    let (mut machine, mut table) = in_the_midst(rt, case, steps)?;
+    let left = case.steps - case.steps.min(steps);
+    let midst = seen(rt, &table)?;
+    table.steps(left);
+    let end = seen(rt, &table)?;
+    for _ in 0..2 {
+        expect(rt, "the midst", case.text, is_seen(rt, &machine, &midst)?);
+        machine.steps(left);
+        expect(rt, "the end", case.text, is_seen(rt, &machine, &end)?);
+        machine.reset()?;
+    }
+    expect(rt, "no pages", case.text, machine.written() == 0);
+    Ok(())
+}
+
+#[test]
+fn a_home_may_be_in_the_midst_of_a_run(rt: HostRuntime) -> Result<(), Fail> {
+    for case in &CASES {
+        for steps in 1..14 {
+            go_back_to_the_midst(&rt, case, steps)?;
+        }
+    }
+    Ok(())
+}
+
+/// Two machines of one home: what one does is nothing to the other.
+#[test]
+fn machines_of_one_home_are_apart(rt: HostRuntime) -> Result<(), Fail> {
+    for case in &CASES {
+        let (machine, mut table) = boot(&rt, case.profile, case.text)?;
+        let fresh = seen(&rt, &table)?;
+        table.steps(case.steps);
+        let wanted = seen(&rt, &table)?;
+        let home = Arc::new(rt.alloc(), machine.into_home())?;
+        let mut first = ResetMachine::new(rt.alloc(), home.clone()?)?;
+        let mut second = ResetMachine::new(rt.alloc(), home)?;
+        first.steps(case.steps);
+        expect(&rt, "the first", case.text, is_seen(&rt, &first, &wanted)?);
+        expect(&rt, "the second", case.text, is_seen(&rt, &second, &fresh)?);
+        second.steps(case.steps);
+        first.reset()?;
+        expect(&rt, "the reset", case.text, is_seen(&rt, &first, &fresh)?);
+        expect(&rt, "its end", case.text, is_seen(&rt, &second, &wanted)?);
     }
     Ok(())
 }
@@ -346,7 +414,7 @@ fn a_reset_keeps_the_profile(rt: HostRuntime) -> Result<(), Fail> {
     for row in &PROFILES {
         let mut machine = boot(&rt, row.0, READING)?.0;
         run_reading(&rt, &mut machine, row);
-        machine.reset(rt.alloc())?;
+        machine.reset()?;
         run_reading(&rt, &mut machine, row);
     }
     Ok(())
