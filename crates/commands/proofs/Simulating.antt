@@ -135,7 +135,7 @@ pub no_profile : (text : List ℕ) (script : ScriptCode) (f : Fault) → script_
     → (f ≡ fault.Boot unbooted.Limits) × ((profile : Profile) → IsProfileOf script.header.profile profile → ⊥) → IsLoadFault text f
 no_profile text script f is refused =
     let none : HasNoProfile text = λ other also profile said.
-        refused.1 profile (subst (λ (s : Script). IsProfileOf s.header.profile profile) (sym (same_script text (script_view script) other is also)) said) in
+    refused.1 profile (subst (λ (s : Script). IsProfileOf s.header.profile profile) (sym (same_script text (script_view script) other is also)) said) in
     subst (IsLoadFault text) (sym refused.0) (refl, inr none)
 
 -- what is so of what is answered, where that is this
