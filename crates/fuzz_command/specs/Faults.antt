@@ -29,6 +29,7 @@ IsTrialFault other = ⊥
 -- of the lines of a reader: that, or one is no input, or they can't be read
 abbrev pub IsLinesFault : FuzzFault → Type 0
 IsLinesFault (Command fault) = IsWant fault
+IsLinesFault Unready = ⊥
 IsLinesFault (Line number) = Unit {0}
 IsLinesFault Unread = Unit {0}
 IsLinesFault Output = Unit {0}
