@@ -8,6 +8,7 @@ ghost use Rattle.fuzz_command.specs.Settings.{ComesTo, IsReady, IsReadyAfter, Is
 
 use crate::fault::FuzzFault;
 use crate::order::{FuzzOrder, Ready};
+use commands::Fault;
 use commands::fault::of_boot;
 use elf32::Image;
 use reset_machine::{Home, ResetMachine};
@@ -92,6 +93,8 @@ pub(crate) fn make_ready<'a>(
 {
     let mut machine = of_boot(booted(alloc, order, image))?;
     let made = bring(alloc, order.ready, &mut machine)?;
-    let home = Arc::new(alloc, machine.into_home())?;
-    Ok((home, made))
+    match Arc::new(alloc, machine.into_home()) {
+        Ok(home) => Ok((home, made)),
+        Err(_) => Err(FuzzFault::Command(Fault::Memory)),
+    }
 }

@@ -284,40 +284,57 @@ fn what_a_run_leaves_is_gone(rt: HostRuntime) -> Result<(), Fail> {
     Ok(())
 }
 
-/// The machine of a case in the midst of its run, after so many steps, as the home of another one; and the reference machine there.
-fn in_the_midst<R: AllocGlobal + Abort>(
+/// What the reference machine of a case is after its input and so many steps, and what it is at the end.
+fn held_at<R: AllocGlobal + Abort>(rt: &R, case: &Case, steps: u32) -> Result<(Held, Held), Fail> {
+    let mut table = boot(rt, case.profile, case.text)?.1;
+    feed_all(&mut table, case.input);
+    table.steps(steps);
+    let midst = seen(rt, &table)?;
+    table.steps(case.steps.saturating_sub(steps));
+    Ok((midst, seen(rt, &table)?))
+}
+
+/// A machine whose home is one of a case after its input and so many steps.
+fn from_the_midst<R: AllocGlobal + Abort>(
     rt: &R,
     case: &Case,
     steps: u32,
-) -> Result<(ResetMachine, Table), Fail> {
-    let (mut machine, mut table) = boot(rt, case.profile, case.text)?;
-    feed_all(&mut table, case.input);
-    table.steps(steps);
+) -> Result<ResetMachine, Fail> {
+    let mut machine = boot(rt, case.profile, case.text)?.0;
     feed_all(&mut machine, case.input);
     machine.steps(steps);
     let home = Arc::new(rt.alloc(), machine.into_home())?;
-    Ok((ResetMachine::new(rt.alloc(), home)?, table))
+    Ok(ResetMachine::new(rt.alloc(), home)?)
 }
 
-/// From each step of a case on a machine runs to the end and goes back, twice.
+/// From its home a machine runs to the end, and goes back.
+fn end_and_back<R: AllocGlobal + Abort>(
+    rt: &R,
+    machine: &mut ResetMachine,
+    case: &Case,
+    left: u32,
+    midst: &Held,
+    end: &Held,
+) -> Result<(), Fail> {
+    expect(rt, "the midst", case.text, is_seen(rt, machine, midst)?);
+    machine.steps(left);
+    expect(rt, "the end", case.text, is_seen(rt, machine, end)?);
+    machine.reset()?;
+    expect(rt, "no pages", case.text, machine.written() == 0);
+    Ok(())
+}
+
+/// From a step of a case on a machine runs to the end and goes back, twice.
 fn go_back_to_the_midst<R: AllocGlobal + Abort>(
     rt: &R,
     case: &Case,
     steps: u32,
 ) -> Result<(), Fail> {
-    let (mut machine, mut table) = in_the_midst(rt, case, steps)?;
-    let left = case.steps - case.steps.min(steps);
-    let midst = seen(rt, &table)?;
-    table.steps(left);
-    let end = seen(rt, &table)?;
-    for _ in 0..2 {
-        expect(rt, "the midst", case.text, is_seen(rt, &machine, &midst)?);
-        machine.steps(left);
-        expect(rt, "the end", case.text, is_seen(rt, &machine, &end)?);
-        machine.reset()?;
-    }
-    expect(rt, "no pages", case.text, machine.written() == 0);
-    Ok(())
+    let (midst, end) = held_at(rt, case, steps)?;
+    let mut machine = from_the_midst(rt, case, steps)?;
+    let left = case.steps.saturating_sub(steps);
+    end_and_back(rt, &mut machine, case, left, &midst, &end)?;
+    end_and_back(rt, &mut machine, case, left, &midst, &end)
 }
 
 #[test]
@@ -330,24 +347,32 @@ fn a_home_may_be_in_the_midst_of_a_run(rt: HostRuntime) -> Result<(), Fail> {
     Ok(())
 }
 
-/// Two machines of one home: what one does is nothing to the other.
+/// Two machines of one home.
+fn two_of_one_home<R: AllocGlobal + Abort>(
+    rt: &R,
+    case: &Case,
+) -> Result<(ResetMachine, ResetMachine), Fail> {
+    let machine = boot(rt, case.profile, case.text)?.0;
+    let home = Arc::new(rt.alloc(), machine.into_home())?;
+    let first = ResetMachine::new(rt.alloc(), home.clone()?)?;
+    Ok((first, ResetMachine::new(rt.alloc(), home)?))
+}
+
+/// What one of them does is nothing to the other, nor to their home.
+fn keep_apart<R: AllocGlobal + Abort>(rt: &R, case: &Case) -> Result<(), Fail> {
+    let (mut first, second) = two_of_one_home(rt, case)?;
+    let fresh = seen(rt, &second)?;
+    first.steps(case.steps);
+    expect(rt, "the second", case.text, is_seen(rt, &second, &fresh)?);
+    first.reset()?;
+    expect(rt, "the first", case.text, is_seen(rt, &first, &fresh)?);
+    Ok(())
+}
+
 #[test]
 fn machines_of_one_home_are_apart(rt: HostRuntime) -> Result<(), Fail> {
     for case in &CASES {
-        let (machine, mut table) = boot(&rt, case.profile, case.text)?;
-        let fresh = seen(&rt, &table)?;
-        table.steps(case.steps);
-        let wanted = seen(&rt, &table)?;
-        let home = Arc::new(rt.alloc(), machine.into_home())?;
-        let mut first = ResetMachine::new(rt.alloc(), home.clone()?)?;
-        let mut second = ResetMachine::new(rt.alloc(), home)?;
-        first.steps(case.steps);
-        expect(&rt, "the first", case.text, is_seen(&rt, &first, &wanted)?);
-        expect(&rt, "the second", case.text, is_seen(&rt, &second, &fresh)?);
-        second.steps(case.steps);
-        first.reset()?;
-        expect(&rt, "the reset", case.text, is_seen(&rt, &first, &fresh)?);
-        expect(&rt, "its end", case.text, is_seen(&rt, &second, &wanted)?);
+        keep_apart(&rt, case)?;
     }
     Ok(())
 }
