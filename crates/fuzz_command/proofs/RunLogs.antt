@@ -1,5 +1,5 @@
 -- Where the log of a run leads to.
-use Rattle.std.proofs.Common.{◌≡◌, ◌∙◌, refl, sym, ap, ℕ, zero, suc, ◌+◌, ◌<◌, List, [], ◌∷◌, ◌++◌, get_or, length, map, take}
+use Rattle.std.proofs.Common.{◌≡◌, ◌∙◌, refl, sym, ap, ℕ, zero, suc, ◌+◌, ◌<◌, List, [], ◌∷◌, ◌++◌, get_or, length, map, take, append_assoc, append_nil}
 use Rattle.std.proofs.lemmas.List.{map-append, take_more}
 use Rattle.items.specs.declared.item.What.TheVariants.{In}
 use Rattle.items.specs.declared.item.Item.{Item}
@@ -27,6 +27,11 @@ unfolding steps_of
 steps_run zero m = refl
 steps_run (suc n) m = steps_run n (step m) ∙ step_first n m
 
+-- no step more
+pub no_steps : (items : List Item) (count : ℕ) → count ≡ 0 → items ≡ items ++ steps_of 0 count
+unfolding steps_of
+no_steps items count none = sym (append_nil items) ∙ ap (λ (n : ℕ). items ++ steps_of 0 n) (sym none)
+
 -- the steps that make the machine ready, the input, and the steps
 pub leads : (made : ℕ) (first second items : List Item) (ran : Ran) (input : List ℕ) → first ≡ [] ++ steps_of 0 made → second ≡ first ++ input_items (take ran.taken input)
     → items ≡ second ++ steps_of 0 ran.steps → (m : Machine) → run items m ≡ after_run ran input (after_steps made m)
@@ -47,5 +52,5 @@ pub logged_more : (index : ℕ) (bytes : List ℕ) (first items mid items' : Lis
 logged_more index bytes first items mid items' seat inside before same by one =
     one ∙ ap (λ (n : ℕ). mid ++ (let i : Item = record { seat = n; what = In (get_or bytes index 0) } in i) ∷ []) by
     ∙ ap (λ (l : List Item). l ++ item_of (get_or bytes index 0) ∷ []) (same ∙ before)
-    ∙ append-assoc first (input_items (take index bytes)) (item_of (get_or bytes index 0) ∷ [])
+    ∙ append_assoc first (input_items (take index bytes)) (item_of (get_or bytes index 0) ∷ [])
     ∙ ap (λ (l : List Item). first ++ l) (sym (map-append item_of (take index bytes) (get_or bytes index 0 ∷ [])) ∙ ap input_items (sym (take_more bytes index 0 inside)))

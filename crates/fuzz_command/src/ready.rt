@@ -1,5 +1,5 @@
 //! How a machine is made ready for inputs.
-ghost use Rattle.std.specs.Prelude.{◌≡◌, IfErr, IfOk, IfSome};
+ghost use Rattle.std.specs.Prelude.{◌≡◌, ◌∷◌, [], IfErr, IfOk, IfSome};
 ghost use Rattle.commands.specs.Raw.{IsPageCount};
 ghost use Rattle.elf32.specs.Images.{FitsPages};
 ghost use Rattle.runs.specs.Runs.{after_steps};
@@ -30,6 +30,18 @@ fn booted(alloc: Global, order: &FuzzOrder<'_>, image: &Image) -> Result<ResetMa
     ResetMachine::new(alloc, Arc::new(alloc, home)?)
 }
 
+// The states at which PC is an address, and loops for ever.
+fn until_address(alloc: Global, address: u32) -> Result<Until, AllocError>
+    ensures { IfOk result (λ until. until.addresses.items ≡ address ∷ []) }
+{
+    let addresses = Vec::from_array(alloc, [address])?;
+    Ok(Until {
+        loops: true,
+        exceptions: false,
+        addresses,
+    })
+}
+
 // Makes steps until PC is an address for the first time, and tells how many; None where it never is while the machine makes 2^30 steps or
 // before it is in a loop for ever.
 #[tactic(auto, using(crate::proofs::Readiness::steps_alone, crate::proofs::Readiness::comes_first))]
@@ -42,11 +54,7 @@ fn come_to(
     ensures comes { IfOk result (λ made. IfSome made (ComesTo address machine.old.machine)) }
     ensures machine { IfOk result (λ made. IfSome made (λ steps. machine.new.machine ≡ after_steps steps machine.old.machine)) }
 {
-    let until = Until {
-        loops: true,
-        exceptions: false,
-        addresses: Vec::from_array(alloc, [address])?,
-    };
+    let until = until_address(alloc, address)?;
     let ran = run(machine, &[], MOST_STEPS, &until, &mut Nobody);
     if machine.view().cpu.pc() == address {
         Ok(Some(ran.steps))

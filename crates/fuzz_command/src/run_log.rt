@@ -15,6 +15,7 @@ use std::alloc::Global;
 const LOG_RUNS: u32 = 1 << 20;
 
 // Adds so many steps of the runner's seat to a log.
+#[tactic(auto, using(crate::proofs::RunLogs::no_steps))]
 fn add_steps(log: &mut Log, count: u32) -> Result<(), Stop>
     ensures { OnOk result (log.new.items ≡ log.old.items ++ steps_of 0 count) }
 {
