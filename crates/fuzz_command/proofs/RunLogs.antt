@@ -1,5 +1,5 @@
 -- Where the log of a run leads to.
-use Rattle.std.proofs.Common.{◌≡◌, ◌∙◌, refl, sym, ap, ℕ, zero, suc, ◌+◌, ◌<◌, List, [], ◌∷◌, ◌++◌, get_or, length, map, take, append_assoc, append_nil}
+use Rattle.std.proofs.Common.{◌≡◌, ◌∙◌, refl, sym, ap, ℕ, zero, suc, ◌+◌, ◌<◌, List, [], ◌∷◌, ◌++◌, get_or, length, map, take, append_assoc, append-nil}
 use Rattle.std.proofs.lemmas.List.{map-append, take_more}
 use Rattle.items.specs.declared.item.What.TheVariants.{In}
 use Rattle.items.specs.declared.item.Item.{Item}
@@ -30,7 +30,7 @@ steps_run (suc n) m = steps_run n (step m) ∙ step_first n m
 -- no step more
 pub no_steps : (items : List Item) (count : ℕ) → count ≡ 0 → items ≡ items ++ steps_of 0 count
 unfolding steps_of
-no_steps items count none = sym (append_nil items) ∙ ap (λ (n : ℕ). items ++ steps_of 0 n) (sym none)
+no_steps items count none = sym (append-nil items) ∙ ap (λ (n : ℕ). items ++ steps_of 0 n) (sym none)
 
 -- the steps that make the machine ready, the input, and the steps
 pub leads : (made : ℕ) (first second items : List Item) (ran : Ran) (input : List ℕ) → first ≡ [] ++ steps_of 0 made → second ≡ first ++ input_items (take ran.taken input)
