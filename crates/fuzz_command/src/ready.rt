@@ -44,7 +44,7 @@ fn until_address(alloc: Global, address: u32) -> Result<Until, AllocError>
 
 // Makes steps until PC is an address for the first time, and tells how many; None where it never is while the machine makes 2^30 steps or
 // before it is in a loop for ever.
-#[tactic(auto, using(crate::proofs::Readiness::steps_alone, crate::proofs::Readiness::comes_first))]
+#[tactic(auto, using(crate::proofs::Readiness::steps_alone))]
 fn come_to(
     alloc: Global,
     machine: &mut ResetMachine,
@@ -87,7 +87,6 @@ fn bring<'a>(alloc: Global, ready: Ready, machine: &mut ResetMachine) -> Result<
 ///
 /// An error is `Boot` or `Memory` where a request for memory was refused, and `Unready` where the machine does not come to the address where it
 /// is ready.
-#[tactic(auto, using(crate::proofs::Readiness::still_silent))]
 pub(crate) fn make_ready<'a>(
     alloc: Global,
     order: &FuzzOrder<'a>,
