@@ -58,6 +58,9 @@ pub(crate) const ADMIT: &str = "admit";
 
 pub(crate) const GUEST: &str = "guest";
 
+/// The option that says where a machine is ready for inputs.
+pub(crate) const READY: &str = "ready";
+
 /// The options of `fuzz` that have outputs shown themselves and inputs run at once, and its inputs.
 pub(crate) const OUT: &str = "out";
 
@@ -173,11 +176,20 @@ fn guests_command<'a>(alloc: Global) -> Result<Command<'a>, AllocError> {
 
 fn fuzz_command<'a>(alloc: Global) -> Result<Command<'a>, AllocError> {
     let command = Command::new(alloc, FUZZ)
-        .about("Runs an image on many inputs, each from the boot, and prints a line for each")
+        .about(
+            "Runs an image on many inputs, each from where it is ready, and prints a line for each",
+        )
         .after_help(LINE)
         .arg(raw_flag(alloc))?
         .arg(flag(alloc, OUT).help("Print each output itself in place of its SHA-256 digest"))?;
-    let command = with_numbers(alloc, command)?;
+    let command = with_numbers(alloc, command)?.arg(
+        Arg::new(alloc, READY)
+            .long(READY)
+            .value_name("STEPS|0xADDRESS")
+            .help(
+                "Where each input is taken: after so many steps from the boot, or when PC is this address for the first time, in place of at the boot",
+            ),
+    )?;
     let until = until_list(alloc).help(
         "End at the first state that is so: loop (a branch to itself, for ever), exception (one was entered), or an address 0xADDRESS that PC stands at; may be given more than once",
     );

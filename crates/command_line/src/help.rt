@@ -92,6 +92,10 @@ END:
 DIGEST is the SHA-256 digest of the console's output, or with --out the output itself, two hexadecimal digits a byte (- where there is none).
 PC, EPC and outputs are hexadecimal, N and CODE decimal.
 
+With --ready the machine first makes the steps that the option asks for, once and without input; each input is taken there, and the machine goes
+back there behind its run. N counts the steps behind the input, the output is that since the boot. Where PC never is the address, vmhost: ready
+stands on standard error, and nothing is run.
+
 A line on standard input is an input of two hexadecimal digits a byte, at most 256 bytes; an empty line is an input of none. Where a line is
 no input, vmhost: input line L stands on standard error, and nothing behind that line is run.";
 

@@ -1,12 +1,13 @@
 //! The command line.
 use crate::arguments::{
     ADMIT, ALL, ASM, DIS, FRAMES, FUZZ, GUEST, INPUT, INPUTS, JOBS, LINES, LOGS, MEMORY, OUT,
-    PAGES, PORT, PROFILE, REPLAY, RUN_GUESTS, SEED, SIM, SLOTS, STEPS, SWAP, UNTIL, whole_command,
+    PAGES, PORT, PROFILE, READY, REPLAY, RUN_GUESTS, SEED, SIM, SLOTS, STEPS, SWAP, UNTIL,
+    whole_command,
 };
 use clap::error::ErrorKind;
 use clap::{ArgMatches, Command, Error};
 use commands::{Asm, ConsoleInput, DEFAULT_PROFILE, Dis, Exec, Format, MachineKind, Replay, Sim};
-use fuzz_command::{FuzzOrder, InputFile, Jobs, Shown};
+use fuzz_command::{FuzzOrder, InputFile, Jobs, Ready, Shown};
 use hex::FromHexError;
 use inspection::{Extras, LONGEST_REGION, Region};
 use mips_cp0::Profile;
@@ -140,18 +141,40 @@ fn fuzz_of<'a>(
     let Some(jobs) = jobs_of(of_fuzz) else {
         return Ok(Err(JOBS_REFUSED));
     };
+    let Some(ready) = ready_of(of_fuzz) else {
+        return Ok(Err(READY_REFUSED));
+    };
     let inputs = input_files(alloc, of_fuzz.get_strs(INPUTS).unwrap_or(&[]))?;
     if inputs.is_empty() && run.image == STANDARD_INPUT {
         return Ok(Err(FUZZ_REFUSED));
     }
     Ok(Ok(FuzzOrder {
         run,
+        ready,
         until,
         shown: shown_of(of_fuzz),
         logs: of_fuzz.get_str(LOGS),
         inputs,
         jobs,
     }))
+}
+
+/// What is wrong with where a machine is ready.
+const READY_REFUSED: &str =
+    "the value of '--ready <STEPS|0xADDRESS>' is neither a number of steps in decimal digits alone, at most 4294967295, nor 0x and 1 to 8 hexadecimal digits";
+
+/// Where a machine is ready for inputs; none where the word for it is refused.
+fn ready_of(matches: &ArgMatches<'_>) -> Option<Ready> {
+    let Some(word) = matches.get_str(READY) else {
+        return Some(Ready::Boot);
+    };
+    if let Some(address) = hex_word(word) {
+        return Some(Ready::Address(address));
+    }
+    if !is_digits(word) {
+        return None;
+    }
+    Some(Ready::Steps(word.parse::<u32>().ok()?))
 }
 
 /// What is wrong with a number of jobs.

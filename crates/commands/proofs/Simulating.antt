@@ -1,5 +1,5 @@
 -- Events of scripts that can be done.
-use Rattle.std.proofs.Common.{◌≡◌, sym, ap, subst, ◌∙◌, Result, Ok, Err, IfOk, IfErr, OnOk, Option, Bool, arith, ℕ, zero, suc, ◌<◌, ◌≤◌, true, nat_lt, List, [], ◌∷◌, All, length, map, slice_get, ltb-true, leb-true}
+use Rattle.std.proofs.Common.{◌≡◌, refl, inr, sym, ap, subst, ◌∙◌, Result, Ok, Err, IfOk, IfErr, OnOk, Option, Bool, arith, ℕ, zero, suc, ◌<◌, ◌≤◌, true, nat_lt, List, [], ◌∷◌, All, length, map, slice_get, ltb-true, leb-true}
 use Rattle.std.proofs.lemmas.Bool.{and_parts}
 use Rattle.std.proofs.lemmas.List.{length-map}
 use Rattle.std.specs.List.{list_all}
@@ -17,12 +17,13 @@ use Rattle.script.specs.declared.header.Script.{Script as ScriptCode}
 use Rattle.booting.specs.declared.asked.NewGuest.{NewGuest}
 use Rattle.world.specs.Boots.{AreAdmitted, AreWithinLimits}
 use Rattle.simulation.specs.Acts.{IsFor, IsActionFor, IsLineFor, IsBlockFor}
-use Rattle.script.specs.Scripts.{script_of}
+use Rattle.script.specs.Scripts.{Script, script_of}
 use Rattle.commands.specs.declared.fault.Fault.{Fault}
 use Rattle.commands.specs.declared.fault.Fault.TheVariants as fault
+use Rattle.tenant.specs.declared.loading.BootError.TheVariants as unbooted
 use Rattle.commands.specs.declared.sim.SimFault.{SimFault}
 use Rattle.commands.specs.declared.sim.SimFault.TheVariants as sim
-use Rattle.commands.specs.Faults.{IsBootFault, IsLoadFault, IsRefusal, IsSimFault, IsToldFault}
+use Rattle.commands.specs.Faults.{HasNoProfile, IsBootFault, IsLoadFault, IsRefusal, IsSimFault, IsToldFault}
 use Rattle.mips_cp0.specs.declared.profile.Profile.{Profile}
 use Rattle.commands.specs.Sims.{IsOver, IsProfileOf, IsSimulation, config_of, line_numbers, numbers_of}
 
@@ -120,6 +121,22 @@ same_count guests lines same = omega (arith, ap length same, length-map guests n
 -- what is so where all was done
 pub told_whole : {E : Type 0} (r : Result (Unit {0}) E) (P : Type 0) (done : Unit {0}) → r ≡ Ok done → OnOk r P → P
 told_whole r P done is so = subst (λ (q : Result (Unit {0}) _). OnOk q P) is so
+
+-- a text is one script alone
+same_script : (text : List ℕ) (one other : Script) → script_of text ≡ Ok one → script_of text ≡ Ok other → one ≡ other
+same_script text one other is also = ap script_or (sym is ∙ also)
+  where
+    script_or : Result Script ℕ → Script
+    script_or (Ok s) = s
+    script_or (Err line) = one
+
+-- a script of a number of no profile is refused
+pub no_profile : (text : List ℕ) (script : ScriptCode) (f : Fault) → script_of text ≡ Ok (script_view script)
+    → (f ≡ fault.Boot unbooted.Limits) × ((profile : Profile) → IsProfileOf script.header.profile profile → ⊥) → IsLoadFault text f
+no_profile text script f is refused =
+    let none : HasNoProfile text = λ other also profile said.
+    refused.1 profile (subst (λ (s : Script). IsProfileOf s.header.profile profile) (sym (same_script text (script_view script) other is also)) said) in
+    subst (IsLoadFault text) (sym refused.0) (refl, inr none)
 
 -- what is so of what is answered, where that is this
 pub answered : {X E : Type 0} (r : Result X E) (x : X) (So : X → Type 0) → r ≡ Ok x → IfOk r So → So x

@@ -88,8 +88,8 @@ impl FlatBus {
         }
     }
 
-    /// Puts bytes in the place of those of a page that memory has. There are 4,096 of them.
-    pub fn put_page(&mut self, page: Ppn, bytes: &[u8])
+    // Puts bytes in the place of those of a page that memory has. There are 4,096 of them.
+    fn put_page(&mut self, page: Ppn, bytes: &[u8])
         requires there { page * 4096 + 4096 ≤ length self.old.memory }
         requires whole { length bytes.now ≡ 4096 }
         ensures { self.new ≡ record self.old { memory = patched self.old.memory (page * 4096) bytes.now 4096 } }
@@ -128,12 +128,15 @@ impl FlatBus {
         &self.bytes[start..start + 4096]
     }
 
-    /// Puts other devices in the place of the bus's own. They are for a memory of as many pages.
-    pub fn put_devices(&mut self, devices: Devices)
-        requires { length self.old.memory ≡ length devices.balloon.given * 4096 }
-        ensures { self.new ≡ record self.old { devices = devices } }
+    /// Puts the devices of another bus, once more, in the place of its own. Both memories have as many pages. `AllocError` where a request for
+    /// memory was refused, and nothing has changed then.
+    pub fn copy_devices(&mut self, from: &FlatBus) -> Result<(), AllocError>
+        requires { length self.old.memory ≡ length from.now.memory }
+        ensures copied { OnOk result (self.new ≡ record self.old { devices = from.now.devices }) }
+        ensures unchanged { OnErr result (self.new ≡ self.old) }
     {
-        self.devices = devices;
+        self.devices = from.devices.try_clone()?;
+        Ok(())
     }
 
     /// Asks the balloon to hold so many pages.

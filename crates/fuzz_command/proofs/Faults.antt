@@ -6,7 +6,7 @@ use Rattle.commands.specs.declared.fault.Fault.{Fault}
 use Rattle.commands.specs.declared.fault.Fault.TheVariants.{File, Asm, Elf, Raw, Script, Boot, Log, Memory}
 use Rattle.commands.specs.Faults.{IsWant}
 use Rattle.fuzz_command.specs.declared.fault.FuzzFault.{FuzzFault}
-use Rattle.fuzz_command.specs.declared.fault.FuzzFault.TheVariants.{Command, Line, Unread, Output}
+use Rattle.fuzz_command.specs.declared.fault.FuzzFault.TheVariants.{Command, Unready, Line, Unread, Output}
 use Rattle.fuzz_command.specs.declared.order.FuzzOrder.{FuzzOrder}
 use Rattle.fuzz_command.specs.declared.order.InputFile.{InputFile}
 use Rattle.fuzz_command.specs.Faults.{IsCommandFault, IsFileFault, IsFilesFault, IsFuzzFault, IsInput, IsLinesFault, IsTrialFault}
@@ -37,6 +37,7 @@ of_trial files (Command (Script line)) is = is
 of_trial files (Command (Boot error)) is = is
 of_trial files (Command (Log fault)) is = is
 of_trial files (Command Memory) is = tt
+of_trial files Unready is = absurd is
 of_trial files (Line number) is = absurd is
 of_trial files Unread is = absurd is
 of_trial files Output is = tt
@@ -62,6 +63,7 @@ in_the_way order n d inside =
 -- of its lines
 pub of_lines : (order : FuzzOrder) (fault : FuzzFault) → order.inputs.items ≡ [] → IsLinesFault fault → IsFuzzFault order fault
 of_lines order (Command fault) none is = of_want order fault is
+of_lines order Unready none is = absurd is
 of_lines order (Line number) none is = none
 of_lines order Unread none is = none
 of_lines order Output none is = tt
@@ -76,6 +78,7 @@ of_files order (Command (Script line)) is = absurd is
 of_files order (Command (Boot error)) is = inr is
 of_files order (Command (Log fault)) is = absurd is
 of_files order (Command Memory) is = tt
+of_files order Unready is = absurd is
 of_files order (Line number) is = absurd is
 of_files order Unread is = absurd is
 of_files order Output is = tt

@@ -2,5 +2,6 @@ mod Batches
 mod Faults
 mod Limits
 mod Orders
+mod Readiness
 mod RunLogs
 mod Trials

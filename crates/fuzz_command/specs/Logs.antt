@@ -4,7 +4,7 @@ use Rattle.items.specs.declared.item.Item.{Item}
 use Rattle.machine.specs.Step.{Machine}
 use Rattle.machine.specs.Items.{run}
 use Rattle.commands.specs.LogFiles.{IsLogFile}
-use Rattle.runs.specs.Runs.{after_run}
+use Rattle.runs.specs.Runs.{after_run, after_steps}
 use Rattle.runs.specs.declared.ending.Ending.{Ending}
 use Rattle.runs.specs.declared.ending.Ending.TheVariants.{Exception}
 use Rattle.runs.specs.declared.running.Ran.{Ran}
@@ -18,11 +18,11 @@ is_exception (Some (Exception code epc)) = true
 is_exception other = false
 
 -- a file is one of a log of the run of an input: it names the machine's profile, its pages and this digest of its image, and its items lead
--- to where the run has led to
+-- from where the machine boots to where the run has led to
 pub record IsRunLog (s : Setting) (digest input : List ℕ) (ran : Ran) (file : List ℕ) : Type 0 where
   pub items : List Item
   pub is : IsLogFile file s.profile s.pages digest items
-  pub leads : (m : Machine) → run items m ≡ after_run ran input m
+  pub leads : (m : Machine) → run items m ≡ after_run ran input (after_steps s.made m)
 
 -- a log is wanted where such logs are kept and the run ended in an exception; it is lost where there is no memory for it
 abbrev pub IsCrashLog : Setting → List ℕ → Ran → CrashLog → Type 0

@@ -120,6 +120,7 @@ fn without_seats(parts: Parts) -> (Guest, Stake)
         policy,
         debugger,
         stake,
+        profile: _,
         image,
         pages: _,
         limit: _,

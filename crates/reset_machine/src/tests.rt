@@ -1,7 +1,7 @@
 //! Programs of which each leaves something behind: after a reset the machine is the one that its image boots, and runs as it did.
 ghost use Rattle.std.specs.Prelude.{◌<◌, ◌≤◌};
 
-use crate::ResetMachine;
+use crate::{Home, ResetMachine};
 use devices::Devices;
 use dump::dump;
 use masm::assemble_image;
@@ -233,8 +233,8 @@ fn boot<R: AllocGlobal + Abort>(
     let image = assemble_image(rt.alloc(), text)?;
     assert!(rt; image.fits(PAGES));
     let table = Table::boot(rt.alloc(), profile, &image, PAGES)?;
-    let image = Arc::new(rt.alloc(), image)?;
-    let machine = ResetMachine::boot(rt.alloc(), profile, image, PAGES)?;
+    let home = Home::boot(rt.alloc(), profile, &image, PAGES)?;
+    let machine = ResetMachine::new(rt.alloc(), Arc::new(rt.alloc(), home)?)?;
     Ok((machine, table))
 }
 
@@ -258,7 +258,7 @@ fn run_and_reset<R: AllocGlobal + Abort>(
         case.text,
         machine.written() == case.written,
     );
-    machine.reset(rt.alloc())?;
+    machine.reset()?;
     expect(rt, "the reset", case.text, is_seen(rt, machine, fresh)?);
     expect(rt, "no pages", case.text, machine.written() == 0);
     Ok(())
@@ -280,6 +280,99 @@ fn run_case<R: AllocGlobal + Abort>(rt: &R, case: &Case) -> Result<(), Fail> {
 fn what_a_run_leaves_is_gone(rt: HostRuntime) -> Result<(), Fail> {
     for case in &CASES {
         run_case(&rt, case)?;
+    }
+    Ok(())
+}
+
+/// What the reference machine of a case is after its input and so many steps, and what it is at the end.
+fn held_at<R: AllocGlobal + Abort>(rt: &R, case: &Case, steps: u32) -> Result<(Held, Held), Fail> {
+    let mut table = boot(rt, case.profile, case.text)?.1;
+    feed_all(&mut table, case.input);
+    table.steps(steps);
+    let midst = seen(rt, &table)?;
+    table.steps(case.steps.saturating_sub(steps));
+    Ok((midst, seen(rt, &table)?))
+}
+
+/// A machine whose home is one of a case after its input and so many steps.
+fn from_the_midst<R: AllocGlobal + Abort>(
+    rt: &R,
+    case: &Case,
+    steps: u32,
+) -> Result<ResetMachine, Fail> {
+    let mut machine = boot(rt, case.profile, case.text)?.0;
+    feed_all(&mut machine, case.input);
+    machine.steps(steps);
+    let home = Arc::new(rt.alloc(), machine.into_home())?;
+    Ok(ResetMachine::new(rt.alloc(), home)?)
+}
+
+/// From its home a machine runs to the end, and goes back.
+fn end_and_back<R: AllocGlobal + Abort>(
+    rt: &R,
+    machine: &mut ResetMachine,
+    case: &Case,
+    left: u32,
+    midst: &Held,
+    end: &Held,
+) -> Result<(), Fail> {
+    expect(rt, "the midst", case.text, is_seen(rt, machine, midst)?);
+    machine.steps(left);
+    expect(rt, "the end", case.text, is_seen(rt, machine, end)?);
+    machine.reset()?;
+    expect(rt, "no pages", case.text, machine.written() == 0);
+    Ok(())
+}
+
+/// From a step of a case on a machine runs to the end and goes back, twice.
+fn go_back_to_the_midst<R: AllocGlobal + Abort>(
+    rt: &R,
+    case: &Case,
+    steps: u32,
+) -> Result<(), Fail> {
+    let (midst, end) = held_at(rt, case, steps)?;
+    let mut machine = from_the_midst(rt, case, steps)?;
+    let left = case.steps.saturating_sub(steps);
+    end_and_back(rt, &mut machine, case, left, &midst, &end)?;
+    end_and_back(rt, &mut machine, case, left, &midst, &end)
+}
+
+#[test]
+fn a_home_may_be_in_the_midst_of_a_run(rt: HostRuntime) -> Result<(), Fail> {
+    for case in &CASES {
+        for steps in 1..14 {
+            go_back_to_the_midst(&rt, case, steps)?;
+        }
+    }
+    Ok(())
+}
+
+/// Two machines of one home.
+fn two_of_one_home<R: AllocGlobal + Abort>(
+    rt: &R,
+    case: &Case,
+) -> Result<(ResetMachine, ResetMachine), Fail> {
+    let machine = boot(rt, case.profile, case.text)?.0;
+    let home = Arc::new(rt.alloc(), machine.into_home())?;
+    let first = ResetMachine::new(rt.alloc(), home.clone()?)?;
+    Ok((first, ResetMachine::new(rt.alloc(), home)?))
+}
+
+/// What one of them does is nothing to the other, nor to their home.
+fn keep_apart<R: AllocGlobal + Abort>(rt: &R, case: &Case) -> Result<(), Fail> {
+    let (mut first, second) = two_of_one_home(rt, case)?;
+    let fresh = seen(rt, &second)?;
+    first.steps(case.steps);
+    expect(rt, "the second", case.text, is_seen(rt, &second, &fresh)?);
+    first.reset()?;
+    expect(rt, "the first", case.text, is_seen(rt, &first, &fresh)?);
+    Ok(())
+}
+
+#[test]
+fn machines_of_one_home_are_apart(rt: HostRuntime) -> Result<(), Fail> {
+    for case in &CASES {
+        keep_apart(&rt, case)?;
     }
     Ok(())
 }
@@ -346,7 +439,7 @@ fn a_reset_keeps_the_profile(rt: HostRuntime) -> Result<(), Fail> {
     for row in &PROFILES {
         let mut machine = boot(&rt, row.0, READING)?.0;
         run_reading(&rt, &mut machine, row);
-        machine.reset(rt.alloc())?;
+        machine.reset()?;
         run_reading(&rt, &mut machine, row);
     }
     Ok(())
