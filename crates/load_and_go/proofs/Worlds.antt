@@ -1,6 +1,5 @@
 -- A world of one guest.
-use Rattle.std.proofs.Common.{◌≡◌, ℕ, List, [], ◌∷◌, All, slice_index_or, sym, ap, subst, ◌∙◌, arith}
-use Rattle.std.proofs.lemmas.List.Elements.{All-nil, All-cons}
+use Rattle.std.proofs.Common.{◌≡◌, ℕ, List, [], ◌∷◌, slice_index_or, sym, ap, subst, ◌∙◌, arith}
 use Rattle.items.specs.declared.item.Item.{Item}
 use Rattle.masm.specs.Listings.{Listing}
 use Rattle.masm.specs.Assembly.{Means}
@@ -11,8 +10,7 @@ use Rattle.guest.specs.Guests.{view_of}
 use Rattle.booting.specs.declared.asked.Config.{Config}
 use Rattle.booting.specs.declared.asked.NewGuest.{NewGuest}
 use Rattle.tenant.specs.declared.loading.BootError.{BootError}
-use Rattle.tenant.specs.declared.loading.BootError.TheVariants as error
-use Rattle.world.specs.Boots.{HoldsImage, AreBooted, WhyNotBooted}
+use Rattle.world.specs.Boots.{AreBooted, WhyNotBooted}
 use Rattle.tenant.specs.Tenants.{TenantIs}
 use Rattle.load_and_go.specs.Holds.{Holds}
 

@@ -26,5 +26,5 @@ returns-clause-holds c =
       is.listing,
       is.means,
       λ profile.
-      c.booted_machine_holds_its_listing.ensures is.listing is.image c.in_ok-read.field-0 c.in_ok-file.file.items profile c.args.pages is.assembled is.written stands,
+          c.booted_machine_holds_its_listing.ensures is.listing is.image c.in_ok-read.field-0 c.in_ok-file.file.items profile c.args.pages is.assembled is.written stands,
     )
