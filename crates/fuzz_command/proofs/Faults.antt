@@ -1,5 +1,5 @@
 -- Faults of what was asked for.
-use Rattle.std.proofs.Common.{◌≡◌, ◌<◌, ◌⊎◌, ℕ, List, [], Some, length, get_or, inl, inr, refl}
+use Rattle.std.proofs.Common.{◌≡◌, ◌<◌, ◌⊎◌, ℕ, List, [], Some, length, get_or, inl, inr, refl, sym, subst}
 use Rattle.std.specs.List.{slice_get}
 use Rattle.std.proofs.lemmas.Option.{slice_get-get_or}
 use Rattle.commands.specs.declared.fault.Fault.{Fault}
@@ -9,7 +9,7 @@ use Rattle.fuzz_command.specs.declared.fault.FuzzFault.{FuzzFault}
 use Rattle.fuzz_command.specs.declared.fault.FuzzFault.TheVariants.{Command, Unready, Line, Unread, Output}
 use Rattle.fuzz_command.specs.declared.order.FuzzOrder.{FuzzOrder}
 use Rattle.fuzz_command.specs.declared.order.InputFile.{InputFile}
-use Rattle.fuzz_command.specs.Faults.{IsCommandFault, IsFileFault, IsFilesFault, IsFuzzFault, IsInput, IsLinesFault, IsTrialFault}
+use Rattle.fuzz_command.specs.Faults.{IsCommandFault, IsFileFault, IsFilesFault, IsFuzzFault, IsInput, IsLinesFault, IsReadyFault, IsSettingFault, IsTrialFault}
 
 -- ---- a file
 
@@ -59,6 +59,29 @@ of_want order Memory is = tt
 pub in_the_way : (order : FuzzOrder) (n : ℕ) (d : InputFile) → n < length order.inputs.items → IsCommandFault order (File (get_or order.inputs.items n d).place)
 in_the_way order n d inside =
     inr (inr (record { number = n; file = get_or order.inputs.items n d; its = slice_get-get_or order.inputs.items n d inside; place = refl }))
+
+-- of a machine that is made ready
+pub of_ready : (order : FuzzOrder) (fault : FuzzFault) → IsReadyFault order.ready fault → IsSettingFault order fault
+of_ready order (Command fault) is = subst (IsCommandFault order) (sym is) tt
+of_ready order Unready is = is
+of_ready order (Line number) is = absurd is
+of_ready order Unread is = absurd is
+of_ready order Output is = absurd is
+
+-- of what it asks for
+pub of_setting : (order : FuzzOrder) (fault : FuzzFault) → IsSettingFault order fault → IsFuzzFault order fault
+of_setting order (Command fault) is = is
+of_setting order Unready is = is
+of_setting order (Line number) is = absurd is
+of_setting order Unread is = absurd is
+of_setting order Output is = absurd is
+
+pub setting_is_no_line : (order : FuzzOrder) (fault : FuzzFault) (n : ℕ) → IsSettingFault order fault → fault ≡ Line n → ⊥
+setting_is_no_line order (Command fault) n is same = cc
+setting_is_no_line order Unready n is same = cc
+setting_is_no_line order (Line number) n is same = is
+setting_is_no_line order Unread n is same = is
+setting_is_no_line order Output n is same = is
 
 -- of its lines
 pub of_lines : (order : FuzzOrder) (fault : FuzzFault) → order.inputs.items ≡ [] → IsLinesFault fault → IsFuzzFault order fault

@@ -68,6 +68,12 @@ IsReadyFault ready (Command fault) = fault ≡ Memory
 IsReadyFault ready Unready = (address : ℕ) × (ready ≡ Address address)
 IsReadyFault ready other = ⊥
 
+-- of what an order asks for, before an input is looked at: a file, an image, a boot or memory, or the machine is never ready
+abbrev pub IsSettingFault : FuzzOrder → FuzzFault → Type 0
+IsSettingFault order (Command fault) = IsCommandFault order fault
+IsSettingFault order Unready = (address : ℕ) × (order.ready ≡ Address address)
+IsSettingFault order other = ⊥
+
 -- of an order: only to an address a machine may not come, and what reads lines is at fault only where no file is given
 abbrev pub IsFuzzFault : FuzzOrder → FuzzFault → Type 0
 IsFuzzFault order (Command fault) = IsCommandFault order fault

@@ -2,7 +2,7 @@
 ghost use Rattle.std.specs.Prelude.{◌≡◌, ◌≢◌, ℕ, None, IfErr, IfOk, IsErrOf};
 ghost use Rattle.commands.specs.Raw.{IsPageCount};
 ghost use Rattle.elf32.specs.Images.{FitsPages};
-ghost use Rattle.fuzz_command.specs.Faults.{IsCommandFault, IsFuzzFault};
+ghost use Rattle.fuzz_command.specs.Faults.{IsCommandFault, IsFuzzFault, IsSettingFault};
 ghost use Rattle.fuzz_command.specs.Inputs.{AreBefore, AreInputs, BeginInputs};
 ghost use Rattle.fuzz_command.specs.Settings.{CanRun, IsSettingOf, setting_of};
 ghost use Rattle.fuzz_command.specs.Writing.{Begins, IsBroken, IsFuzzed, IsImage, IsLeft, Writes};
@@ -67,6 +67,7 @@ fn run_inputs<'a, R: Files + AllocGlobal + Threads + Sync, I: BufRead, K: CrashK
 /// Runs the image in a file on each of the inputs of an order, as `fuzz_order` does.
 ///
 /// An error is one of `fuzz_order`, but that the file is open and no log is in its way.
+#[tactic(auto, using(crate::proofs::Faults::of_setting))]
 pub fn fuzz_file<'a, R: Files + AllocGlobal + Threads + Sync, F: Read + Drop, I: BufRead, O: Write>(
     rt: &R,
     file: F,
@@ -112,7 +113,7 @@ fn settled<'o, 'a>(
     requires fits { FitsPages image.now order.now.run.pages }
     ensures can { IfOk result CanRun }
     ensures setting { IfOk result (λ setting. IsSettingOf order.now image.now (setting_of setting)) }
-    ensures faults { IfErr result (IsFuzzFault order.now) }
+    ensures faults { IfErr result (IsSettingFault order.now) }
 {
     let (home, made) = make_ready(alloc, order, image)?;
     Ok(Setting {

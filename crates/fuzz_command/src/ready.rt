@@ -3,7 +3,7 @@ ghost use Rattle.std.specs.Prelude.{◌≡◌, ◌∷◌, [], IfErr, IfOk, IfSom
 ghost use Rattle.commands.specs.Raw.{IsPageCount};
 ghost use Rattle.elf32.specs.Images.{FitsPages};
 ghost use Rattle.runs.specs.Runs.{after_steps};
-ghost use Rattle.fuzz_command.specs.Faults.{IsFuzzFault, IsReadyFault};
+ghost use Rattle.fuzz_command.specs.Faults.{IsReadyFault, IsSettingFault};
 ghost use Rattle.fuzz_command.specs.Settings.{ComesTo, IsReady, IsReadyAfter, IsSilent, boot_of};
 
 use crate::fault::FuzzFault;
@@ -87,6 +87,7 @@ fn bring<'a>(alloc: Global, ready: Ready, machine: &mut ResetMachine) -> Result<
 ///
 /// An error is `Boot` or `Memory` where a request for memory was refused, and `Unready` where the machine does not come to the address where it
 /// is ready.
+#[tactic(auto, using(crate::proofs::Faults::of_ready))]
 pub(crate) fn make_ready<'a>(
     alloc: Global,
     order: &FuzzOrder<'a>,
@@ -96,7 +97,7 @@ pub(crate) fn make_ready<'a>(
     requires fits { FitsPages image.now order.now.run.pages }
     ensures ready { IfOk result (λ made. IsReady order.now image.now made.1 made.0.value) }
     ensures silent { IfOk result (λ made. IsSilent made.0.value) }
-    ensures faults { IfErr result (IsFuzzFault order.now) }
+    ensures faults { IfErr result (IsSettingFault order.now) }
 {
     let mut machine = of_boot(booted(alloc, order, image))?;
     let made = bring(alloc, order.ready, &mut machine)?;

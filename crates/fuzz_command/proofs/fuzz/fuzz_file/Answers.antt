@@ -1,9 +1,16 @@
 use Rattle.std.proofs.Common.{◌≢◌, ap, Bool, Result, Err}
 use Rattle.fuzz_command.specs.declared.fault.FuzzFault.{FuzzFault}
 use Rattle.fuzz_command.specs.declared.fault.FuzzFault.TheVariants.{Line, Output}
+use Rattle.fuzz_command.proofs.Faults.{setting_is_no_line}
 use Rattle.fuzz_command.proofs.Orders.{image_begun, image_broken, image_fuzzed}
 use Rattle.fuzz_command.proofs.Trials.{passed_err, passed_of}
 use Rattle.fuzz_command.proofs.fuzz.fuzz_file.Goals as goal
+
+pub returns-in_err-setting-clause-broken : goal.returns-in_err-setting-clause-broken
+returns-in_err-setting-clause-broken g c = λ n of.
+    let fault = c.in_err-setting.field-0.0 in
+    absurd (setting_is_no_line c.args.order.now fault n c.in_err-setting.ensures.faults
+    (passed_of c.from_residual-in_err-setting.result fault (Line n) c.from_residual-in_err-setting.ensures.1 of))
 
 pub returns-in_err-stopped-clause-broken : goal.returns-in_err-stopped-clause-broken
 returns-in_err-stopped-clause-broken g c = λ n of.

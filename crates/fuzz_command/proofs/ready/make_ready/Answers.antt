@@ -1,4 +1,4 @@
-use Rattle.std.proofs.Common.{rules, ◌≡◌}
+use Rattle.std.proofs.Common.{rules, ◌≡◌, ◌∙◌}
 use Rattle.runs.specs.Runs.{after_steps}
 use Rattle.fuzz_command.specs.Settings.{IsSilent}
 use Rattle.fuzz_command.proofs.Readiness.{still_silent}
@@ -8,5 +8,4 @@ pub returns-in-Ok-clause-silent : goal.returns-in-Ok-clause-silent
 returns-in-Ok-clause-silent c =
     let booted = c.in_ok-machine.machine.machine in
     let silent : IsSilent booted = search rules in
-    let made : c.in-Ok.home.value ≡ after_steps c.in_ok-made.made booted = cc in
-    still_silent c.in_ok-made.made booted c.in-Ok.home.value made silent
+    still_silent c.in_ok-made.made booted c.in-Ok.home.value (c.in-Ok.ensures.ok ∙ c.into_home.ensures ∙ c.in_ok-made.ensures.machine) silent
