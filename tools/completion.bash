@@ -5,16 +5,17 @@ _vmhost() {
         words='asm dis exec replay sim run fuzz help --help --version'
     else
         case $before in
+            --profile) mapfile -t COMPREPLY < <(compgen -W '1 2' -- "$word"); return ;;
             --pages | --steps | --jobs | --in | --memory | --frames | --slots | --port | --seed) return ;;
             --until) mapfile -t COMPREPLY < <(compgen -W 'loop exception 0x' -- "$word"); return ;;
         esac
         case ${COMP_WORDS[1]} in
-            exec) words='--raw --flat --pages --steps --until --in --log --all --memory --help' ;;
+            exec) words='--raw --flat --profile --pages --steps --until --in --log --all --memory --help' ;;
             replay) words='--raw --help' ;;
             asm | dis) words='--help' ;;
             sim) words='--lines --logs --help' ;;
-            run) words='--frames --slots --swap --port --seed --logs --admit --help' ;;
-            fuzz) words='--raw --pages --steps --until --out --logs --jobs --help' ;;
+            run) words='--frames --slots --swap --port --seed --logs --profile --admit --help' ;;
+            fuzz) words='--raw --profile --pages --ready --steps --until --out --logs --jobs --help' ;;
             help) words='asm dis exec replay sim run fuzz' ;;
         esac
     fi

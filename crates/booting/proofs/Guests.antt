@@ -50,20 +50,20 @@ last_pages (h ∷ gs) g = ap (λ (l : List (List Page)). pages_in h ∷ l) (last
 pub none_at_boot : (runs : ℕ) → AreAtBoot runs [] []
 none_at_boot runs = record { count = refl; each = λ g guest booted inside. absurd (omega (arith, inside)) }
 
-pub one_at_boot : (runs : ℕ) (asked : List NewGuest) (guest : NewGuest) (gs : List GuestIs) (g : GuestIs) → IsAtBoot guest.image.value guest.pages runs g
+pub one_at_boot : (runs : ℕ) (asked : List NewGuest) (guest : NewGuest) (gs : List GuestIs) (g : GuestIs) → IsAtBoot guest.profile guest.image.value guest.pages runs g
     → AreAtBoot runs asked gs → AreAtBoot runs (asked ++ guest ∷ []) (gs ++ g ∷ [])
 one_at_boot runs asked guest gs g boots a = record {
   count = omega (arith, a.count, length-append asked (guest ∷ []), length-append gs (g ∷ []));
   each = λ k other d inside. elim (cases_lt k (length asked)) [
     | inl before ↦
-        subst (λ (n : NewGuest). IsAtBoot n.image.value n.pages runs (get_or (gs ++ g ∷ []) k d)) (sym (get_or_append_left asked (guest ∷ []) other k before))
-        (subst (λ (u : GuestIs). IsAtBoot (get_or asked k other).image.value (get_or asked k other).pages runs u)
+        subst (λ (n : NewGuest). IsAtBoot n.profile n.image.value n.pages runs (get_or (gs ++ g ∷ []) k d)) (sym (get_or_append_left asked (guest ∷ []) other k before))
+        (subst (λ (u : GuestIs). IsAtBoot (get_or asked k other).profile (get_or asked k other).image.value (get_or asked k other).pages runs u)
         (sym (get_or_append_left gs (g ∷ []) d k (omega (arith, before, a.count)))) (a.each k other d before))
     | inr past ↦
         let last : length asked ≡ k = omega (arith, past, inside, length-append asked (guest ∷ [])) in
-        subst (λ (i : ℕ). IsAtBoot (get_or (asked ++ guest ∷ []) i other).image.value (get_or (asked ++ guest ∷ []) i other).pages runs (get_or (gs ++ g ∷ []) i d)) last
-        (subst (λ (n : NewGuest). IsAtBoot n.image.value n.pages runs (get_or (gs ++ g ∷ []) (length asked) d)) (sym (get_last asked guest other))
-        (subst (λ (u : GuestIs). IsAtBoot guest.image.value guest.pages runs u)
+        subst (λ (i : ℕ). IsAtBoot (get_or (asked ++ guest ∷ []) i other).profile (get_or (asked ++ guest ∷ []) i other).image.value (get_or (asked ++ guest ∷ []) i other).pages runs (get_or (gs ++ g ∷ []) i d)) last
+        (subst (λ (n : NewGuest). IsAtBoot n.profile n.image.value n.pages runs (get_or (gs ++ g ∷ []) (length asked) d)) (sym (get_last asked guest other))
+        (subst (λ (u : GuestIs). IsAtBoot guest.profile guest.image.value guest.pages runs u)
         (sym (ap (λ (i : ℕ). get_or (gs ++ g ∷ []) i d) (sym a.count) ∙ get_last gs g d)) boots))
   ];
 }

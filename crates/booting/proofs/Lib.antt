@@ -1,4 +1,5 @@
 pub mod Guests
+pub mod PageCounts
 pub mod Places
 pub mod Refusing
 pub mod Stores

@@ -1,6 +1,7 @@
 -- Which guests can be booted together, and what they are then.
 use Rattle.std.specs.Prelude.{◌≡◌, ℕ, ◌+◌, ◌-◌, ◌<◌, ◌≤◌, true, List, Option, All, length, sum_by, slice_index_or}
 use Rattle.elf32.specs.Images.{FitsPages}
+use Rattle.mips_cp0.specs.Profiles.{profile_numbers}
 use Rattle.guest_pages.specs.declared.page.Page.{Page}
 use Rattle.page_moves.specs.Faith.{Kept}
 use Rattle.guest.specs.Guests.{GuestIs, view_of}
@@ -13,7 +14,7 @@ use Rattle.tenant.specs.declared.loading.BootError.TheVariants.{Limits, Segment,
 
 -- the numbers of a guest are within their limits
 pub record IsWithinLimits (guest : NewGuest) : Type 0 where
-  pub pages : (2 ≤ guest.pages) × (guest.pages ≤ 16384)
+  pub pages : (2 ≤ guest.pages) × (guest.pages ≤ (profile_numbers guest.profile).most_pages)
   pub shares : (1 ≤ guest.shares) × (guest.shares ≤ 1000000)
   pub minimum : (2 ≤ guest.minimum) × (guest.minimum ≤ guest.pages)
 
@@ -50,7 +51,7 @@ pages_in g = g.bus.pages
 pub record AreAtBoot (log_runs : ℕ) (asked : List NewGuest) (guests : List GuestIs) : Type 0 where
   pub count : length guests ≡ length asked
   pub each : (g : ℕ) (guest : NewGuest) (booted : GuestIs) → g < length asked →
-      IsAtBoot (slice_index_or asked g guest).image.value (slice_index_or asked g guest).pages log_runs (slice_index_or guests g booted)
+      IsAtBoot (slice_index_or asked g guest).profile (slice_index_or asked g guest).image.value (slice_index_or asked g guest).pages log_runs (slice_index_or guests g booted)
 
 -- each page of a guest is as its view has it, by its SHA-256 where it is in a slot, to which the view's bytes were last written
 abbrev pub KeepsPages : (ℕ → Option (List ℕ)) → GuestIs → Type 0

@@ -1,5 +1,6 @@
 //! What is asked for at a boot.
 use elf32::Image;
+use mips_cp0::Profile;
 use std::alloc::Global;
 use std::sync::Arc;
 
@@ -18,9 +19,11 @@ pub struct Config {
 /// A guest that is to be booted.
 #[derive(Drop)]
 pub struct NewGuest {
+    /// The profile of its processor.
+    pub profile: Profile,
     /// Its image. Guests may share one.
     pub image: Arc<Image, Global>,
-    /// How many pages its memory has, 2 to 16,384.
+    /// How many pages its memory has, 2 to the most of its profile (16,384 or 32,768).
     pub pages: u32,
     /// How many shares of the machine's memory it has, 1 to 1,000,000.
     pub shares: u32,

@@ -119,6 +119,7 @@ fn owner(image: &Arc<Image, Global>) -> Result<Arc<Image, Global>, AllocError>
 }
 
 // The guests that are asked for are booted, one after another.
+#[tactic(auto, using(crate::proofs::PageCounts::few_pages))]
 fn boot_each<S: SwapStore>(
     alloc: Global,
     asked: &[NewGuest],
@@ -149,7 +150,16 @@ fn boot_each<S: SwapStore>(
         let Ok(image) = owner(&guest.image) else {
             return Err(BootError::Memory);
         };
-        match loaded(alloc, image, guest.pages, log_runs, pool, slots, store) {
+        match loaded(
+            alloc,
+            guest.profile,
+            image,
+            guest.pages,
+            log_runs,
+            pool,
+            slots,
+            store,
+        ) {
             Ok(guest) => guests.push_reserved(guest),
             Err(error) => return Err(error),
         }

@@ -10,7 +10,7 @@ impl NewGuest {
     fn is_within_limits(&self) -> bool
         ensures { IsTrue result ↔ IsWithinLimits self.now }
     {
-        (2..=16_384).contains(&self.pages)
+        (2..=self.profile.numbers().most_pages).contains(&self.pages)
             && (1..=1_000_000).contains(&self.shares)
             && (2..=self.pages).contains(&self.minimum)
     }

@@ -19,6 +19,7 @@ pub record IsFresh (head : HeadId) (number : ℕ) (seat : SeatIs) : Type 0 where
 -- a front says what the guest was made of
 pub record HasParts {S : Type 0} (front : Front S) (parts : Parts) : Type 0 where
   pub head : front.head.value ≡ parts.guest.head
+  pub profile : front.profile ≡ parts.profile
   pub image : front.image ≡ parts.image
   pub pages : front.pages ≡ parts.pages
   pub limit : front.limit ≡ parts.limit

@@ -8,6 +8,7 @@ use guest::{Guest, Head};
 use keyed_lock::{Close, Fits, KeyedLock};
 use lasting_truth::{Keeper, Truth};
 use machine_memory::{MachineMemory, Stake};
+use mips_cp0::Profile;
 use std::alloc::Global;
 use std::snapshot::Snapshot;
 use std::sync::Arc;
@@ -18,6 +19,8 @@ use swapstore::SwapStore;
 pub struct Front<S: SwapStore + Drop> {
     /// The head of the guest's log.
     pub head: Arc<Head, Global>,
+    /// The profile of the guest's processor.
+    pub profile: Profile,
     /// What the guest has booted.
     pub image: Arc<Image, Global>,
     /// How many pages it has.

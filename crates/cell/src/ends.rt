@@ -1,6 +1,6 @@
 //! How a guest comes under its lock, and how it leaves it.
 ghost use Rattle.std.specs.Prelude.{◌≡◌, ◌≤◌, ◌++◌, [], true, IfOk, IfErr, vec_capacity};
-ghost use Rattle.machine.specs.Boot.{boot_machine};
+ghost use Rattle.machine.specs.Boot.{boot_machine_as};
 ghost use Rattle.guest.specs.Guests.{Intact};
 ghost use Rattle.cell.specs.Inputs.{bytes_in};
 ghost use Rattle.machine_memory.specs.Memories.{IsLevel};
@@ -231,7 +231,7 @@ fn take_apart<S: SwapStore + Drop, R: Wait>(
 
 impl<S: SwapStore + Drop> Cell<S> {
     ghost use Rattle.std.specs.Prelude.{◌≡◌, ◌++◌, [], true, IfOk, IfErr};
-    ghost use Rattle.machine.specs.Boot.{boot_machine};
+    ghost use Rattle.machine.specs.Boot.{boot_machine_as};
     ghost use Rattle.guest.specs.Guests.{Intact};
     ghost use Rattle.cell.specs.Inputs.{bytes_in};
     ghost use Rattle.machine_memory.specs.Memories.{IsLevel};
@@ -243,7 +243,7 @@ impl<S: SwapStore + Drop> Cell<S> {
     /// console. Where the store is true to digests, the pages that are in slots were written to them as they are at the boot. All comes back
     /// where there is no memory for it.
     pub fn new(alloc: Global, memory: &MachineMemory<S>, parts: Parts) -> Result<Made<S>, Parts>
-        requires boots { parts.guest.boot ≡ boot_machine parts.image.value parts.pages }
+        requires boots { parts.guest.boot ≡ boot_machine_as parts.profile parts.image.value parts.pages }
         requires limit { parts.guest.log.limit ≡ parts.limit }
         requires items { parts.guest.log.items ≡ [] }
         requires intact { Intact parts.guest }
@@ -272,7 +272,7 @@ impl<S: SwapStore + Drop> Cell<S> {
         memory: &MachineMemory<S>,
         parts: Parts,
     ) -> Result<Made<S>, Parts>
-        requires boots { parts.guest.boot ≡ boot_machine parts.image.value parts.pages }
+        requires boots { parts.guest.boot ≡ boot_machine_as parts.profile parts.image.value parts.pages }
         requires limit { parts.guest.log.limit ≡ parts.limit }
         requires items { parts.guest.log.items ≡ [] }
         requires intact { Intact parts.guest }
@@ -312,6 +312,7 @@ impl<S: SwapStore + Drop> Cell<S> {
             policy,
             debugger,
             stake,
+            profile,
             image,
             pages,
             limit,
@@ -320,6 +321,7 @@ impl<S: SwapStore + Drop> Cell<S> {
         } = parts;
         let front = Front {
             head,
+            profile,
             image,
             pages,
             limit,
@@ -384,6 +386,7 @@ fn parts_again<S: SwapStore + Drop>(
       policy = seats.policy.seat;
       debugger = seats.debugger.seat;
       stake = stake;
+      profile = front.profile;
       image = front.image;
       pages = front.pages;
       limit = front.limit;
@@ -393,6 +396,7 @@ fn parts_again<S: SwapStore + Drop>(
 {
     let Front {
         head,
+        profile,
         image,
         pages,
         limit,
@@ -419,6 +423,7 @@ fn parts_again<S: SwapStore + Drop>(
         policy: into_seat(policy),
         debugger: into_seat(debugger),
         stake,
+        profile,
         image,
         pages,
         limit,

@@ -2,6 +2,7 @@
 use elf32::Image;
 use guest::{Guest, Seat};
 use machine_memory::Stake;
+use mips_cp0::Profile;
 use std::alloc::Global;
 use std::sync::Arc;
 
@@ -19,6 +20,8 @@ pub struct Parts {
     pub debugger: Seat,
     /// Its stake in machine memory, which is level for its pages.
     pub stake: Stake,
+    /// The profile of its processor.
+    pub profile: Profile,
     /// What it boots.
     pub image: Arc<Image, Global>,
     /// How many pages it has.

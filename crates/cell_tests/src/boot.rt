@@ -4,7 +4,8 @@ ghost use Rattle.frames.specs.Counts.{count_of, below};
 ghost use Rattle.machine_memory.specs.Memories.{IsLevel, AreLevel};
 ghost use Rattle.cell.specs.Level.{IsMemoryOf};
 ghost use Rattle.swapstore.specs.Faults.{store_of};
-ghost use Rattle.machine.specs.Boot.{boot_machine};
+ghost use Rattle.mips_cp0.specs.declared.profile.Profile.{Profile};
+ghost use Rattle.machine.specs.Boot.{boot_machine_as};
 ghost use Rattle.guest.specs.Guests.{Intact};
 ghost use Rattle.cell_tests.specs.Booting.{untouched};
 
@@ -18,6 +19,7 @@ use guest::{Guest, Seat};
 use guest_pages::GuestPages;
 use machine_memory::laws::each_guest_has_its_stake;
 use machine_memory::{Around, Booted, MachineMemory, Stake};
+use mips_cp0::Profile;
 use sharetab::Shares;
 use std::alloc::Global;
 use std::process::Abort;
@@ -50,7 +52,7 @@ fn owner(rt: &impl Abort, image: &Arc<Image, Global>) -> Arc<Image, Global>
 // A guest at the boot of an image of no segment, with no seat yet.
 fn new_guest(rt: &impl Abort, alloc: Global, image: &Arc<Image, Global>, limit: u32) -> Guest
     requires { image.now.value.segments.items ≡ [] }
-    ensures boots { result.boot ≡ boot_machine image.now.value 16 }
+    ensures boots { result.boot ≡ boot_machine_as Profile.One image.now.value 16 }
     ensures pages { result.bus.pages ≡ untouched }
     ensures items { result.log.items ≡ [] }
     ensures limit { result.log.limit ≡ limit }
@@ -60,7 +62,7 @@ fn new_guest(rt: &impl Abort, alloc: Global, image: &Arc<Image, Global>, limit: 
     if !image.fits(16) {
         panic!(rt; "the image has no room");
     }
-    match Guest::boot(alloc, owner(rt, image), 16, limit) {
+    match Guest::boot(alloc, Profile::One, owner(rt, image), 16, limit) {
         Ok(guest) => guest,
         Err(_) => panic!(rt; "no memory for the guest"),
     }
@@ -197,7 +199,7 @@ fn behind_lock(
     stake: Stake,
     wanted: &Wanted,
 ) -> Side
-    requires boots { guest.boot ≡ boot_machine image.value 16 }
+    requires boots { guest.boot ≡ boot_machine_as Profile.One image.value 16 }
     requires pages { guest.bus.pages ≡ untouched }
     requires items { guest.log.items ≡ [] }
     requires limit { guest.log.limit ≡ wanted.now.limit }
@@ -217,6 +219,7 @@ fn behind_lock(
         policy,
         debugger,
         stake,
+        profile: Profile::One,
         image,
         pages: 16,
         limit: wanted.limit,

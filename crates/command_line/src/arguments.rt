@@ -35,6 +35,8 @@ pub(crate) const MEMORY: &str = "memory";
 pub(crate) const LINES: &str = "lines";
 
 /// The options that give numbers.
+pub(crate) const PROFILE: &str = "profile";
+
 pub(crate) const PAGES: &str = "pages";
 
 pub(crate) const STEPS: &str = "steps";
@@ -55,6 +57,9 @@ pub(crate) const LOGS: &str = "logs";
 pub(crate) const ADMIT: &str = "admit";
 
 pub(crate) const GUEST: &str = "guest";
+
+/// The option that says where a machine is ready for inputs.
+pub(crate) const READY: &str = "ready";
 
 /// The options of `fuzz` that have outputs shown themselves and inputs run at once, and its inputs.
 pub(crate) const OUT: &str = "out";
@@ -157,9 +162,11 @@ fn guests_command<'a>(alloc: Global) -> Result<Command<'a>, AllocError> {
         .arg(wanted(alloc, SEED, "N").help(
             "The seed of the words by which the pages are drawn that leave their frames",
         ))?;
-    let command = command.arg(named(alloc, LOGS, "DIR").help(
-        "The directory that the guests' logs are written to at the end, 0.log and so on",
-    ))?;
+    let command = command
+        .arg(named(alloc, LOGS, "DIR").help(
+            "The directory that the guests' logs are written to at the end, 0.log and so on",
+        ))?
+        .arg(profile(alloc))?;
     command
         .arg(flag(alloc, ADMIT).help(
             "Boot only where there are frames for the guests' minimums, and slots for their other pages",
@@ -169,11 +176,20 @@ fn guests_command<'a>(alloc: Global) -> Result<Command<'a>, AllocError> {
 
 fn fuzz_command<'a>(alloc: Global) -> Result<Command<'a>, AllocError> {
     let command = Command::new(alloc, FUZZ)
-        .about("Runs an image on many inputs, each from the boot, and prints a line for each")
+        .about(
+            "Runs an image on many inputs, each from where it is ready, and prints a line for each",
+        )
         .after_help(LINE)
         .arg(raw_flag(alloc))?
         .arg(flag(alloc, OUT).help("Print each output itself in place of its SHA-256 digest"))?;
-    let command = with_numbers(alloc, command)?;
+    let command = with_numbers(alloc, command)?.arg(
+        Arg::new(alloc, READY)
+            .long(READY)
+            .value_name("STEPS|0xADDRESS")
+            .help(
+                "Where each input is taken: after so many steps from the boot, or when PC is this address for the first time, in place of at the boot",
+            ),
+    )?;
     let until = until_list(alloc).help(
         "End at the first state that is so: loop (a branch to itself, for ever), exception (one was entered), or an address 0xADDRESS that PC stands at; may be given more than once",
     );
@@ -207,7 +223,7 @@ fn guests<'a>(alloc: Global) -> Arg<'a> {
         .num_args(1..)
         .action(ArgAction::Append)
         .help(
-            "IMAGE:PAGES:SHARES or IMAGE:PAGES:SHARES:MINIMUM, a guest: the file of its executable, the pages of its memory, 2 to 16384, its shares of the machine's memory, 1 to 1000000, and how many pages in frames it always keeps, 2 where it isn't given",
+            "IMAGE:PAGES:SHARES or IMAGE:PAGES:SHARES:MINIMUM, a guest: the file of its executable, the pages of its memory, 2 to 32768, or to 16384 in profile 1, its shares of the machine's memory, 1 to 1000000, and how many pages in frames it always keeps, 2 where it isn't given",
         )
 }
 
@@ -280,13 +296,23 @@ fn list<'a>(alloc: Global, name: &'a str, value: &'a str) -> Arg<'a> {
 
 fn with_numbers<'a>(alloc: Global, command: Command<'a>) -> Result<Command<'a>, AllocError> {
     command
+        .arg(profile(alloc))?
         .arg(number(alloc, PAGES, "P", "16").help(
-            "Pages of memory, of 4,096 bytes each: 2 to 16384",
+            "Pages of memory, of 4,096 bytes each: 2 to 32768, or to 16384 in profile 1",
         ))?
         .arg(number(alloc, STEPS, "N", "1000").help(
             "Steps to make, an instruction or an exception each: 0 to 4294967295",
         ))
 }
+
+fn profile<'a>(alloc: Global) -> Arg<'a> {
+    number(alloc, PROFILE, "N", DEFAULT_PROFILE).help(
+        "Profile of the processor: 1 (16 TLB entries, at most 16384 pages) or 2 (32 TLB entries, at most 32768 pages)",
+    )
+}
+
+/// The number of `commands::DEFAULT_PROFILE`.
+const DEFAULT_PROFILE: &str = "2";
 
 fn file<'a>(alloc: Global, name: &'a str, value: &'a str) -> Arg<'a> {
     Arg::new(alloc, name).value_name(value).required(true)

@@ -4,10 +4,11 @@
 //! there are no words.
 use commands::image_file::{elf_file, whole_file};
 use commands::log_file::is_log;
-use commands::{Asm, Dis, Exec, Fault, Replay};
+use commands::{Asm, DEFAULT_PROFILE, Dis, Exec, Fault, Replay};
 use diagnosis::{Excerpt, Memory, Words, boot, elf, file, log, raw, script_line, source};
 use directory_files::{files_of, is_directory};
 use fuzz_command::FuzzOrder;
+use logfile::LogHeader;
 use output_file::is_one_file;
 use run_command::{GuestOrder, RunOrder};
 use script::{GuestLine, Header, Script};
@@ -36,6 +37,8 @@ pub enum Subject<'a> {
     Run(&'a RunOrder<'a>),
     /// An image was to be run on many inputs.
     Fuzz(&'a FuzzOrder<'a>),
+    /// A machine of a profile of this number was to be run.
+    NoProfile(u32),
 }
 
 /// Words for a fault of what was asked for.
@@ -338,24 +341,16 @@ fn executable_words<R: Files + AllocGlobal>(
     fault: elf32::Fault,
 ) -> Option<Words> {
     match subject {
-        Subject::Exec(order) => {
-            let memory = Memory::Exec { pages: order.pages };
-            image_words(rt, order.image, memory, fault)
-        }
+        Subject::Exec(order) => image_words(rt, order.image, exec_memory(order), fault),
         Subject::Replay(order) => {
-            let pages = log_pages(rt, order)?;
-            image_words(rt, order.image, Memory::Replay { pages }, fault)
+            let memory = replay_memory(rt, order)?;
+            image_words(rt, order.image, memory, fault)
         }
         Subject::Dis(order) => image_words(rt, order.image, Memory::Kseg0, fault),
         Subject::Script(text, _) => guest_words(rt, text, fault),
         Subject::Run(order) => run_guest_words(rt, order, fault),
-        Subject::Fuzz(order) => {
-            let memory = Memory::Exec {
-                pages: order.run.pages,
-            };
-            image_words(rt, order.run.image, memory, fault)
-        }
-        Subject::Asm(_) | Subject::ScriptFile => None,
+        Subject::Fuzz(order) => image_words(rt, order.run.image, exec_memory(order.run), fault),
+        Subject::Asm(_) | Subject::ScriptFile | Subject::NoProfile(_) => None,
     }
 }
 
@@ -375,12 +370,24 @@ fn image_words<R: Files + AllocGlobal>(
     }
 }
 
+/// The memory of the machine that an image is to be run on.
+fn exec_memory(order: Exec<'_>) -> Memory {
+    Memory::Exec {
+        profile: order.profile,
+        pages: order.pages,
+    }
+}
+
 /// What is wrong with the first executable that is refused of a script's guests, where it has this fault.
 fn guest_words<R: Files + AllocGlobal>(rt: &R, text: &str, fault: elf32::Fault) -> Option<Words> {
     let Script { header, blocks: _ } = script::read(rt.alloc(), text).ok()?;
+    let profile = boot::profile_of(&header, DEFAULT_PROFILE).ok()?;
     for (number, guest) in header.guests.iter().enumerate() {
         let bytes = executable(rt, guest.file)?;
-        let memory = Memory::Guest { pages: guest.pages };
+        let memory = Memory::Guest {
+            profile,
+            pages: guest.pages,
+        };
         if let Some(refusal) = elf::explain(rt.alloc(), &bytes, memory).ok()? {
             if refusal.fault != fault {
                 return None;
@@ -399,7 +406,10 @@ fn run_guest_words<R: Files + AllocGlobal>(
 ) -> Option<Words> {
     for (number, guest) in order.guests.iter().enumerate() {
         let bytes = executable(rt, guest.image)?;
-        let memory = Memory::Guest { pages: guest.pages };
+        let memory = Memory::Guest {
+            profile: order.profile,
+            pages: guest.pages,
+        };
         if let Some(refusal) = elf::explain(rt.alloc(), &bytes, memory).ok()? {
             if refusal.fault != fault {
                 return None;
@@ -410,29 +420,27 @@ fn run_guest_words<R: Files + AllocGlobal>(
     None
 }
 
-/// The number of pages that a log is of.
-fn log_pages<R: Files + AllocGlobal>(rt: &R, order: Replay<'_>) -> Option<u32> {
-    log::pages(&contents(rt, order.log)?)
+/// What a log says of the machine that it is of.
+fn log_header<R: Files + AllocGlobal>(rt: &R, order: Replay<'_>) -> Option<LogHeader> {
+    log::header(&contents(rt, order.log)?)
+}
+
+/// The memory of the machine that a log is of.
+fn replay_memory<R: Files + AllocGlobal>(rt: &R, order: Replay<'_>) -> Option<Memory> {
+    let LogHeader { profile, pages } = log_header(rt, order)?;
+    Some(Memory::Replay { profile, pages })
 }
 
 /// What is wrong with a raw image.
 fn raw_words<R: Files + AllocGlobal>(rt: &R, subject: Subject<'_>) -> Option<Words> {
     let (name, memory) = match subject {
-        Subject::Exec(order) => (order.image, Memory::Exec { pages: order.pages }),
-        Subject::Fuzz(order) => (
-            order.run.image,
-            Memory::Exec {
-                pages: order.run.pages,
-            },
-        ),
-        Subject::Replay(order) => {
-            let pages = log_pages(rt, order)?;
-            (order.image, Memory::Replay { pages })
-        }
+        Subject::Exec(order) => (order.image, exec_memory(order)),
+        Subject::Fuzz(order) => (order.run.image, exec_memory(order.run)),
+        Subject::Replay(order) => (order.image, replay_memory(rt, order)?),
         _ => return None,
     };
     let file = plain_file(rt, name)?;
-    let length = io::copy(&mut file.take(raw::MOST_BYTES + 1), &mut io::sink()).ok()?;
+    let length = io::copy(&mut file.take(memory.most_bytes() + 1), &mut io::sink()).ok()?;
     raw::explain(rt.alloc(), length, memory).ok()
 }
 
@@ -458,7 +466,7 @@ fn header_of<'a>(alloc: Global, order: &RunOrder<'a>) -> Option<Header<'a>> {
         slots: order.slots,
         seed: order.seed,
         guests,
-        profile: None,
+        profile: Some(order.profile.numbers().number),
         admit: order.admit,
         failure: None,
     })
@@ -478,21 +486,27 @@ fn run_boot_words(alloc: Global, order: &RunOrder<'_>, number: u32) -> Option<Wo
     if number == BOOT_STORE {
         Words::of(alloc, "the swap file did not take a page of an image").ok()
     } else {
-        boot::of_guests(alloc, number, &header_of(alloc, order)?).ok()?
+        boot::of_guests(alloc, number, &header_of(alloc, order)?, order.profile).ok()?
     }
 }
 
 /// Why a machine, or the guests of a script or a run, are not booted.
 fn boot_words<R: Files + AllocGlobal>(rt: &R, subject: Subject<'_>, number: u32) -> Option<Words> {
     match subject {
-        Subject::Exec(order) => boot::of_machine(rt.alloc(), number, order.pages).ok()?,
-        Subject::Fuzz(order) => boot::of_machine(rt.alloc(), number, order.run.pages).ok()?,
-        Subject::Replay(order) => {
-            boot::of_machine(rt.alloc(), number, log_pages(rt, order)?).ok()?
+        Subject::Exec(order) => {
+            boot::of_machine(rt.alloc(), number, order.profile, order.pages).ok()?
         }
+        Subject::Fuzz(order) => {
+            boot::of_machine(rt.alloc(), number, order.run.profile, order.run.pages).ok()?
+        }
+        Subject::Replay(order) => {
+            let LogHeader { profile, pages } = log_header(rt, order)?;
+            boot::of_machine(rt.alloc(), number, profile, pages).ok()?
+        }
+        Subject::NoProfile(profile) => boot::of_number(rt.alloc(), profile).ok(),
         Subject::Script(text, _) => {
             let Script { header, blocks: _ } = script::read(rt.alloc(), text).ok()?;
-            boot::of_guests(rt.alloc(), number, &header).ok()?
+            boot::of_guests(rt.alloc(), number, &header, DEFAULT_PROFILE).ok()?
         }
         Subject::Run(order) => run_boot_words(rt.alloc(), order, number),
         _ => None,

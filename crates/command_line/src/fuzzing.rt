@@ -41,6 +41,7 @@ where
     };
     let FuzzOrder {
         run,
+        ready,
         until,
         shown,
         logs,
@@ -49,6 +50,7 @@ where
     } = order;
     let order = FuzzOrder {
         run,
+        ready,
         until,
         shown,
         logs,
@@ -95,12 +97,16 @@ where
         ) => Ok(Status::Done),
         Err(FuzzFault::Command(fault)) => write_refusal(rt, Subject::Fuzz(order), &fault, err),
         Err(FuzzFault::Output) => Err(io::Error::from(ErrorKind::Other)),
+        Err(FuzzFault::Unready) => write_line_fault(FuzzFault::Unready, UNREADY_WORDS, err),
         Err(FuzzFault::Line(number)) => write_line_fault(FuzzFault::Line(number), LINE_WORDS, err),
         Err(FuzzFault::Unread) => write_line_fault(FuzzFault::Unread, UNREAD_WORDS, err),
     }
 }
 
-/// Words for a line that is no input, and for lines that can't be read.
+/// Words for a machine that is never ready, for a line that is no input, and for lines that can't be read.
+const UNREADY_WORDS: &str =
+    "PC never is the address of --ready while the machine, without input, makes 1073741824 steps or comes to a loop for ever";
+
 const LINE_WORDS: &str =
     "an input is an even number of hexadecimal digits, at most 512; an empty line is an empty one";
 

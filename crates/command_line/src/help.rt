@@ -48,6 +48,7 @@ N, of a log:
   2  no log, or a wrong number of pages
   3  of another image                  4  an item that is cut off or wrong
   5  an item that the machine does not accept where it stands
+  6  of a machine of a profile that there is not
 
 The line of the dump of a guest that stopped:
   stop 5  the host has no memory left  stop 6  the log is full";
@@ -91,6 +92,10 @@ END:
 DIGEST is the SHA-256 digest of the console's output, or with --out the output itself, two hexadecimal digits a byte (- where there is none).
 PC, EPC and outputs are hexadecimal, N and CODE decimal.
 
+With --ready the machine first makes the steps that the option asks for, once and without input; each input is taken there, and the machine goes
+back there behind its run. N counts the steps behind the input, the output is that since the boot. Where PC never is the address, vmhost: ready
+stands on standard error, and nothing is run.
+
 A line on standard input is an input of two hexadecimal digits a byte, at most 256 bytes; an empty line is an input of none. Where a line is
 no input, vmhost: input line L stands on standard error, and nothing behind that line is run.";
 
@@ -127,6 +132,7 @@ The header, each once but for guests, which count from 0:
   guest FILE PAGES SHARES, or guest FILE PAGES SHARES MIN
                       MIN is how many pages in frames the guest always keeps, 2 where it isn't given
   and perhaps:
+  profile N           the profile of the guests' processors, 1 or 2; 2 where it isn't given
   admit               guests are booted only where there are frames for their minimums, and slots for their other pages
   fail read K         the K-th read of a slot fails          fail write K        the K-th write of a slot fails
 

@@ -1,14 +1,16 @@
 //! The command line.
 use crate::arguments::{
     ADMIT, ALL, ASM, DIS, FRAMES, FUZZ, GUEST, INPUT, INPUTS, JOBS, LINES, LOGS, MEMORY, OUT,
-    PAGES, PORT, REPLAY, RUN_GUESTS, SEED, SIM, SLOTS, STEPS, SWAP, UNTIL, whole_command,
+    PAGES, PORT, PROFILE, READY, REPLAY, RUN_GUESTS, SEED, SIM, SLOTS, STEPS, SWAP, UNTIL,
+    whole_command,
 };
 use clap::error::ErrorKind;
 use clap::{ArgMatches, Command, Error};
-use commands::{Asm, ConsoleInput, Dis, Exec, Format, MachineKind, Replay, Sim};
-use fuzz_command::{FuzzOrder, InputFile, Jobs, Shown};
+use commands::{Asm, ConsoleInput, DEFAULT_PROFILE, Dis, Exec, Format, MachineKind, Replay, Sim};
+use fuzz_command::{FuzzOrder, InputFile, Jobs, Ready, Shown};
 use hex::FromHexError;
 use inspection::{Extras, LONGEST_REGION, Region};
+use mips_cp0::Profile;
 use run_command::{GuestOrder, RunOrder, guest_of};
 use runs::Until;
 use std::alloc::{AllocError, Global};
@@ -30,6 +32,8 @@ pub enum Order<'a> {
     Run(RunOrder<'a>),
     /// Run an image on many inputs, and print a line for each.
     Fuzz(FuzzOrder<'a>),
+    /// Run a machine of a profile of this number, which no profile has.
+    NoProfile(u32),
 }
 
 /// What a run is given beside its order.
@@ -56,34 +60,39 @@ enum Asked<'a> {
     Refused(&'static str),
 }
 
-/// What the words ask for. The name of the program is not among them.
+/// What the words ask for. The name of the program is not among them. A number of no profile is found once nothing else is wrong with them.
 ///
 /// An error is a request for help, words that are refused, or want of memory: its kind says which.
 pub fn parse<'a>(alloc: Global, words: &'a [String]) -> Result<Order<'a>, Error> {
     let mut command = whole_command(alloc)?;
-    order_in(alloc, &mut command, words)
+    let matches = command.try_get_matches_from_mut(words)?;
+    let order = order_of(alloc, &mut command, &matches)?;
+    match number_of_no_profile(&matches) {
+        Some(number) => Ok(Order::NoProfile(number)),
+        None => Ok(order),
+    }
 }
 
-fn order_in<'a>(
+/// What matches ask for, whatever the number of a profile is.
+fn order_of<'a>(
     alloc: Global,
     command: &mut Command<'a>,
-    words: &'a [String],
+    matches: &ArgMatches<'a>,
 ) -> Result<Order<'a>, Error> {
-    let matches = command.try_get_matches_from_mut(words)?;
-    match asked_of(&matches) {
+    match asked_of(matches) {
         Some(Asked::Asm(asm)) => Ok(Order::Asm(asm)),
         Some(Asked::Dis(dis)) => Ok(Order::Dis(dis)),
         Some(Asked::Replay(replay)) => Ok(Order::Replay(replay)),
         Some(Asked::Sim(sim)) => Ok(Order::Sim(sim)),
-        Some(Asked::Exec(exec)) => match settings_of(alloc, &matches)? {
+        Some(Asked::Exec(exec)) => match settings_of(alloc, matches)? {
             Ok(settings) => Ok(Order::Exec(exec, settings)),
             Err(reason) => Err(command.error(ErrorKind::ValueValidation, reason)?),
         },
-        Some(Asked::Run) => match run_of(alloc, &matches)? {
+        Some(Asked::Run) => match run_of(alloc, matches)? {
             Ok(run) => Ok(Order::Run(run)),
             Err(reason) => Err(command.error(ErrorKind::ValueValidation, reason)?),
         },
-        Some(Asked::Fuzz(run)) => match fuzz_of(alloc, &matches, run)? {
+        Some(Asked::Fuzz(run)) => match fuzz_of(alloc, matches, run)? {
             Ok(fuzz) => Ok(Order::Fuzz(fuzz)),
             Err(reason) => Err(command.error(ErrorKind::ValueValidation, reason)?),
         },
@@ -132,18 +141,40 @@ fn fuzz_of<'a>(
     let Some(jobs) = jobs_of(of_fuzz) else {
         return Ok(Err(JOBS_REFUSED));
     };
+    let Some(ready) = ready_of(of_fuzz) else {
+        return Ok(Err(READY_REFUSED));
+    };
     let inputs = input_files(alloc, of_fuzz.get_strs(INPUTS).unwrap_or(&[]))?;
     if inputs.is_empty() && run.image == STANDARD_INPUT {
         return Ok(Err(FUZZ_REFUSED));
     }
     Ok(Ok(FuzzOrder {
         run,
+        ready,
         until,
         shown: shown_of(of_fuzz),
         logs: of_fuzz.get_str(LOGS),
         inputs,
         jobs,
     }))
+}
+
+/// What is wrong with where a machine is ready.
+const READY_REFUSED: &str =
+    "the value of '--ready <STEPS|0xADDRESS>' is neither a number of steps in decimal digits alone, at most 4294967295, nor 0x and 1 to 8 hexadecimal digits";
+
+/// Where a machine is ready for inputs; none where the word for it is refused.
+fn ready_of(matches: &ArgMatches<'_>) -> Option<Ready> {
+    let Some(word) = matches.get_str(READY) else {
+        return Some(Ready::Boot);
+    };
+    if let Some(address) = hex_word(word) {
+        return Some(Ready::Address(address));
+    }
+    if !is_digits(word) {
+        return None;
+    }
+    Some(Ready::Steps(word.parse::<u32>().ok()?))
 }
 
 /// What is wrong with a number of jobs.
@@ -190,7 +221,7 @@ fn run_of<'a>(
     let Some((_, of_run)) = matches.subcommand() else {
         return Ok(Err("no command"));
     };
-    for name in [FRAMES, SLOTS, PORT, SEED] {
+    for name in [FRAMES, SLOTS, PORT, SEED, PROFILE] {
         if !is_digits(of_run.get_str(name).unwrap_or("")) {
             return Ok(Err(NUMBER_REFUSED));
         }
@@ -210,7 +241,7 @@ fn run_of<'a>(
 
 /// What is wrong with a number of `run`.
 const NUMBER_REFUSED: &str =
-    "a value of '--frames <N>', '--slots <N>', '--port <N>' or '--seed <N>' is not decimal digits alone";
+    "a value of '--frames <N>', '--slots <N>', '--port <N>', '--seed <N>' or '--profile <N>' is not decimal digits alone";
 
 /// What is wrong with the port of `run`.
 const PORT_REFUSED: &str =
@@ -227,6 +258,7 @@ fn settled<'a>(
         return Some(Err(PORT_REFUSED));
     }
     Some(Ok(RunOrder {
+        profile: profile_of(of_run),
         frames: of_run.get_one(FRAMES)?,
         slots: of_run.get_one(SLOTS)?,
         swap: of_run.get_str(SWAP)?,
@@ -329,13 +361,36 @@ fn asked_of<'a>(matches: &ArgMatches<'a>) -> Option<Asked<'a>> {
     }
 }
 
+/// The profile whose number the matches of a command have; the usual one where no profile has it.
+fn profile_of(matches: &ArgMatches<'_>) -> Profile {
+    match matches.get_one(PROFILE) {
+        Some(number) => Profile::of_number(number).unwrap_or(DEFAULT_PROFILE),
+        None => DEFAULT_PROFILE,
+    }
+}
+
+/// The number of a profile that the matches have, where no profile has it.
+fn number_of_no_profile(matches: &ArgMatches<'_>) -> Option<u32> {
+    let (_, of_command) = matches.subcommand()?;
+    let number: u32 = of_command.get_one(PROFILE)?;
+    match Profile::of_number(number) {
+        Some(_) => None,
+        None => Some(number),
+    }
+}
+
 /// What is wrong with a number that is more than decimal digits, which clap takes where it is a sign and digits.
+const PROFILE_REFUSED: &str = "the value of '--profile <N>' is not decimal digits alone";
+
 const PAGES_REFUSED: &str = "the value of '--pages <P>' is not decimal digits alone";
 
 const STEPS_REFUSED: &str = "the value of '--steps <N>' is not decimal digits alone";
 
 /// Which of the numbers of `exec` or `fuzz` is refused, if one is.
 fn refused_number(matches: &ArgMatches<'_>) -> Option<&'static str> {
+    if !is_digits(matches.get_str(PROFILE)?) {
+        return Some(PROFILE_REFUSED);
+    }
     if !is_digits(matches.get_str(PAGES)?) {
         return Some(PAGES_REFUSED);
     }
@@ -391,6 +446,7 @@ fn exec_of<'a>(matches: &ArgMatches<'a>) -> Option<Exec<'a>> {
         } else {
             MachineKind::Guest
         },
+        profile: profile_of(matches),
         pages: matches.get_one(PAGES)?,
         steps: matches.get_one(STEPS)?,
         log: matches.get_str("log"),
@@ -403,6 +459,7 @@ fn fuzzed_run<'a>(matches: &ArgMatches<'a>) -> Option<Exec<'a>> {
         image: file_of(matches.get_str("image")?),
         format: format_of(matches),
         kind: MachineKind::Guest,
+        profile: profile_of(matches),
         pages: matches.get_one(PAGES)?,
         steps: matches.get_one(STEPS)?,
         log: None,

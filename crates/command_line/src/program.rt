@@ -21,6 +21,7 @@ use std::rt::{Env, Files};
 use std::sync::Wait;
 use std::thread::Threads;
 use std::{env, io};
+use tenant::BootError;
 
 /// How the program ends.
 #[derive(Clone, Copy)]
@@ -262,6 +263,12 @@ where
             write_answer(rt, Subject::Replay(order), replayed(rt, order), out, err)
         }
         Order::Sim(order) => answer_script(rt, order, tells.breaking_off, out, err),
+        Order::NoProfile(number) => {
+            let fault = Fault::Boot {
+                error: BootError::Limits,
+            };
+            write_refusal(rt, Subject::NoProfile(number), &fault, err)
+        }
         // No word is `run` or `fuzz`, so none asks for these.
         Order::Run(_) | Order::Fuzz(_) => Ok(Status::Refused),
     }

@@ -22,7 +22,8 @@ use Rattle.machine.specs.declared.access.StepOut.TheVariants as out
 use Rattle.machine.specs.declared.access.Why.{Why}
 use Rattle.machine.proofs.OtherPages.{step_stays}
 use Rattle.elf32.specs.declared.image.Image.{Image}
-use Rattle.machine.specs.Boot.{boot_machine}
+use Rattle.mips_cp0.specs.declared.profile.Profile.{Profile}
+use Rattle.machine.specs.Boot.{boot_machine_as}
 use Rattle.machine.specs.Items.{accepts, after, run}
 use Rattle.machine.proofs.Runs.{run_append}
 use Rattle.sharetab.specs.Entries.{EntriesAre, entry_at, one_entry, tickets_of, entry_count, ticket_count, Fits, AllFit}
@@ -481,17 +482,17 @@ need_is_early at p why is = λ done. both at p why is done
 pub booted_one : (runs : ℕ) (guests : List NewGuest) (guest : NewGuest) (ts : List TenantIs) → guests ≡ guest ∷ [] → AreBooted runs guests ts → length ts ≡ 1
 booted_one runs guests guest ts is b = omega (arith, b.count, ap length is)
 
-pub record IsAtBoot (runs : ℕ) (image : Image) (pages : ℕ) (ts : List TenantIs) : Type 0 where
-  pub machine : (hosted_of ts).machine ≡ boot_machine image pages
+pub record IsAtBoot (runs : ℕ) (profile : Profile) (image : Image) (pages : ℕ) (ts : List TenantIs) : Type 0 where
+  pub machine : (hosted_of ts).machine ≡ boot_machine_as profile image pages
   pub items : (hosted_of ts).log.items ≡ []
   pub limit : (hosted_of ts).log.limit ≡ runs
   pub count : length (first_pages ts) ≡ pages
 
 pub booted : (runs : ℕ) (guests : List NewGuest) (guest : NewGuest) (ts : List TenantIs) → guests ≡ guest ∷ [] → AreBooted runs guests ts
-    → IsAtBoot runs guest.image.value guest.pages ts
+    → IsAtBoot runs guest.profile guest.image.value guest.pages ts
 booted runs guests guest ts is b = by ts (subst (λ (gs : List NewGuest). AreBooted runs gs ts) is b)
   where
-    by : (ts : List TenantIs) → AreBooted runs (guest ∷ []) ts → IsAtBoot runs guest.image.value guest.pages ts
+    by : (ts : List TenantIs) → AreBooted runs (guest ∷ []) ts → IsAtBoot runs guest.profile guest.image.value guest.pages ts
     by [] b = absurd (omega (arith, b.count))
     by (t ∷ ts) b =
         let its = b.each 0 guest t (omega arith) in

@@ -1,4 +1,5 @@
 mod Hosting
+mod Limits
 mod Reading
 mod Replaying
 mod Reports

@@ -1,5 +1,5 @@
 -- Events of scripts that can be done.
-use Rattle.std.proofs.Common.{◌≡◌, sym, ap, subst, ◌∙◌, Result, Ok, Err, IfOk, IfErr, OnOk, Option, Bool, arith, ℕ, zero, suc, ◌<◌, ◌≤◌, true, nat_lt, List, [], ◌∷◌, All, length, map, slice_get, ltb-true, leb-true}
+use Rattle.std.proofs.Common.{◌≡◌, refl, inr, sym, ap, subst, ◌∙◌, Result, Ok, Err, IfOk, IfErr, OnOk, Option, Bool, arith, ℕ, zero, suc, ◌<◌, ◌≤◌, true, nat_lt, List, [], ◌∷◌, All, length, map, slice_get, ltb-true, leb-true}
 use Rattle.std.proofs.lemmas.Bool.{and_parts}
 use Rattle.std.proofs.lemmas.List.{length-map}
 use Rattle.std.specs.List.{list_all}
@@ -20,10 +20,12 @@ use Rattle.simulation.specs.Acts.{IsFor, IsActionFor, IsLineFor, IsBlockFor}
 use Rattle.script.specs.Scripts.{Script, script_of}
 use Rattle.commands.specs.declared.fault.Fault.{Fault}
 use Rattle.commands.specs.declared.fault.Fault.TheVariants as fault
+use Rattle.tenant.specs.declared.loading.BootError.TheVariants as unbooted
 use Rattle.commands.specs.declared.sim.SimFault.{SimFault}
 use Rattle.commands.specs.declared.sim.SimFault.TheVariants as sim
-use Rattle.commands.specs.Faults.{IsBootFault, IsLoadFault, IsRefusal, IsRefusedScript, IsSimFault, IsToldFault}
-use Rattle.commands.specs.Sims.{IsKnown, IsOver, IsSimulation, config_of, line_numbers, numbers_of}
+use Rattle.commands.specs.Faults.{HasNoProfile, IsBootFault, IsLoadFault, IsRefusal, IsSimFault, IsToldFault}
+use Rattle.mips_cp0.specs.declared.profile.Profile.{Profile}
+use Rattle.commands.specs.Sims.{IsOver, IsProfileOf, IsSimulation, config_of, line_numbers, numbers_of}
 
 has_them : (lines : List headers.GuestLine) (g pages : ℕ) → has_pages (slice_get lines g) pages ≡ true → g < length lines
 has_them [] g pages e = absurd (cc)
@@ -87,18 +89,20 @@ all_for guests slots (block ∷ blocks) allowed =
     let parts = and_parts _ _ allowed in
     All-cons (IsBlockFor (length guests) slots) block blocks (lines_for guests slots block.lines parts.0) (all_for guests slots blocks parts.1)
 
--- ---- scripts that are known
+-- ---- scripts that are done
 
 -- what is replied to a script
-pub simulated : (whole numbered : Bool) (text : List ℕ) (script : ScriptCode) (guests : List NewGuest) (made : List BlockCode) (known known' : Option (List ℕ))
-    → script_of text ≡ Ok (script_view script) → IsKnown (script_view script) → map numbers_of guests ≡ map line_numbers script.header.guests.items → made ≡ script.blocks.items
+pub simulated : (whole numbered : Bool) (text : List ℕ) (script : ScriptCode) (profile : Profile) (guests : List NewGuest) (made : List BlockCode) (known known' : Option (List ℕ))
+    → script_of text ≡ Ok (script_view script) → IsProfileOf script.header.profile profile → All (λ (g : NewGuest). g.profile ≡ profile) guests → map numbers_of guests ≡ map line_numbers script.header.guests.items → made ≡ script.blocks.items
     → IsOver script.header.failure whole numbered (config_of script.header) script.header.seed script.header.slots guests (course_of (length guests) (map block_view made)) known known'
     → AreWithinLimits (config_of script.header) script.header.slots guests → AreAdmitted (config_of script.header) script.header.slots guests → IsSimulation whole numbered text known known'
-simulated whole numbered text script guests made known known' reads is_known numbers same told within admitted = record {
+simulated whole numbered text script profile guests made known known' reads said profiles numbers same told within admitted = record {
   script = script;
   reads = reads;
-  known_words = is_known;
+  profile = profile;
+  said = said;
   guests = guests;
+  profiles = profiles;
   numbers = numbers;
   within = within;
   admitted = admitted;
@@ -119,15 +123,20 @@ pub told_whole : {E : Type 0} (r : Result (Unit {0}) E) (P : Type 0) (done : Uni
 told_whole r P done is so = subst (λ (q : Result (Unit {0}) _). OnOk q P) is so
 
 -- a text is one script alone
-pub refused : (text : List ℕ) (script : Script) → script_of text ≡ Ok script → (IsKnown script → ⊥) → IsRefusedScript text
-refused text script is unknown = λ other also known. unknown (subst IsKnown (ap (λ (r : Result Script ℕ). script_or script r) (sym also ∙ is)) known)
+same_script : (text : List ℕ) (one other : Script) → script_of text ≡ Ok one → script_of text ≡ Ok other → one ≡ other
+same_script text one other is also = ap script_or (sym is ∙ also)
   where
-    script_or : Script → Result Script ℕ → Script
-    script_or any (Ok s) = s
-    script_or any (Err line) = any
+    script_or : Result Script ℕ → Script
+    script_or (Ok s) = s
+    script_or (Err line) = one
 
-pub not_read : (text : List ℕ) (line : ℕ) → script_of text ≡ Err line → IsRefusedScript text
-not_read text line is = λ other also known. absurd (cc)
+-- a script of a number of no profile is refused
+pub no_profile : (text : List ℕ) (script : ScriptCode) (f : Fault) → script_of text ≡ Ok (script_view script)
+    → (f ≡ fault.Boot unbooted.Limits) × ((profile : Profile) → IsProfileOf script.header.profile profile → ⊥) → IsLoadFault text f
+no_profile text script f is refused =
+    let none : HasNoProfile text = λ other also profile said.
+    refused.1 profile (subst (λ (s : Script). IsProfileOf s.header.profile profile) (sym (same_script text (script_view script) other is also)) said) in
+    subst (IsLoadFault text) (sym refused.0) (refl, inr none)
 
 -- what is so of what is answered, where that is this
 pub answered : {X E : Type 0} (r : Result X E) (x : X) (So : X → Type 0) → r ≡ Ok x → IfOk r So → So x

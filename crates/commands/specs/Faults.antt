@@ -1,7 +1,8 @@
 -- Which faults a command can have.
-use Rattle.std.specs.Prelude.{◌≡◌, ◌<◌, ◌⊎◌, ℕ, true, is_some, List, length, Some, Ok}
+use Rattle.std.specs.Prelude.{◌≡◌, ◌<◌, ◌⊎◌, ℕ, true, is_some, List, length, Some, Ok, Err}
 use Rattle.elf32.specs.Faults.{first_fault}
 use Rattle.elf32.specs.declared.fault.Fault.TheVariants as elf_fault
+use Rattle.mips_cp0.specs.declared.profile.Profile.{Profile}
 use Rattle.masm.specs.Assembly as assembly
 use Rattle.masm.specs.declared.error.AsmError.{AsmError}
 use Rattle.masm.specs.declared.error.AsmError.TheVariants as asm_error
@@ -25,14 +26,14 @@ use Rattle.script.specs.Scripts as scripts
 use Rattle.tenant.specs.declared.loading.BootError.{BootError}
 use Rattle.tenant.specs.declared.loading.BootError.TheVariants as unbooted
 use Rattle.commands.specs.Raw.{IsPageCount}
-use Rattle.commands.specs.Sims.{IsKnown}
+use Rattle.commands.specs.Sims.{IsProfileOf}
 
 -- memory may be wanted by each command; of the other faults it has those that are named
 
--- why a machine of so many pages, which hold its image, is not booted: the number is outside its limits, or the boot is refused
--- memory
-abbrev pub IsNotBooted : ℕ → BootError → Type 0
-IsNotBooted pages error = ((error ≡ unbooted.Limits) × ¬ IsPageCount pages) ⊎ (error ≡ unbooted.Memory)
+-- why a machine of a profile and of so many pages, which hold its image, is not booted: the number is outside the profile's limits, or the
+-- boot is refused memory
+abbrev pub IsNotBooted : Profile → ℕ → BootError → Type 0
+IsNotBooted profile pages error = ((error ≡ unbooted.Limits) × ¬ IsPageCount profile pages) ⊎ (error ≡ unbooted.Memory)
 
 -- of a machine that is booted and run, or booted and shown: the boot is refused memory, or what follows it is
 abbrev pub IsWant : Fault → Type 0
@@ -44,7 +45,7 @@ IsWant other = ⊥
 abbrev pub IsRawFault : Exec → Fault → Type 0
 IsRawFault order (File name) = name ≡ order.image
 IsRawFault order Raw = Unit {0}
-IsRawFault order (Boot error) = (error ≡ unbooted.Limits) × ¬ IsPageCount order.pages
+IsRawFault order (Boot error) = (error ≡ unbooted.Limits) × ¬ IsPageCount order.profile order.pages
 IsRawFault order Memory = Unit {0}
 IsRawFault order other = ⊥
 
@@ -71,7 +72,7 @@ abbrev pub IsImageFault : Exec → Fault → Type 0
 IsImageFault order (File name) = name ≡ order.image
 IsImageFault order (Elf fault) = order.format ≡ format.Elf
 IsImageFault order Raw = order.format ≡ format.Raw
-IsImageFault order (Boot error) = IsNotBooted order.pages error
+IsImageFault order (Boot error) = IsNotBooted order.profile order.pages error
 IsImageFault order Memory = Unit {0}
 IsImageFault order other = ⊥
 
@@ -79,7 +80,7 @@ IsImageFault order other = ⊥
 abbrev pub IsElfRunFault : Exec → Fault → Type 0
 IsElfRunFault order (File name) = name ≡ order.image
 IsElfRunFault order (Elf fault) = Unit {0}
-IsElfRunFault order (Boot error) = (error ≡ unbooted.Limits) × ¬ IsPageCount order.pages
+IsElfRunFault order (Boot error) = (error ≡ unbooted.Limits) × ¬ IsPageCount order.profile order.pages
 IsElfRunFault order Memory = Unit {0}
 IsElfRunFault order other = ⊥
 
@@ -94,7 +95,7 @@ abbrev pub IsExecFault : Exec → Fault → Type 0
 IsExecFault order (File name) = (name ≡ order.image) ⊎ (order.log ≡ Some name)
 IsExecFault order (Elf fault) = order.format ≡ format.Elf
 IsExecFault order Raw = order.format ≡ format.Raw
-IsExecFault order (Boot error) = IsNotBooted order.pages error
+IsExecFault order (Boot error) = IsNotBooted order.profile order.pages error
 IsExecFault order (Log refusal) = (refusal ≡ log.Flat) × (order.kind ≡ machine.Flat) × (is_some order.log ≡ true)
 IsExecFault order Memory = Unit {0}
 IsExecFault order other = ⊥
@@ -127,7 +128,7 @@ abbrev pub log_fault_of : ReadError → Fault
 log_fault_of (read_error.Fault fault) = Log (log.File fault)
 log_fault_of read_error.Memory = Memory
 
--- the number of a refused log: 0 where there is none, 1 to 4 for a fault of the file, 5 for an item that the machine refuses
+-- the number of a refused log: 0 where there is none, 1 to 4 and 6 for a fault of the file, 5 for an item that the machine refuses
 abbrev pub log_refusal_number : LogRefusal → ℕ
 log_refusal_number log.Flat = 0
 log_refusal_number (log.File fault) = number_of fault
@@ -154,13 +155,13 @@ IsAsmRunFault order (Asm fault line) = Unit {0}
 IsAsmRunFault order Memory = Unit {0}
 IsAsmRunFault order other = ⊥
 
--- the text is no script, or one that says what is not known here
-abbrev pub IsRefusedScript : List ℕ → Type 0
-IsRefusedScript text = (script : scripts.Script) → scripts.script_of text ≡ Ok script → IsKnown script → ⊥
+-- the text is no script: this is its first line that is refused
+abbrev pub IsRefusedScript : List ℕ → ℕ → Type 0
+IsRefusedScript text line = scripts.script_of text ≡ Err line
 
 -- of the text of a script: it is refused
 abbrev pub IsScriptFault : List ℕ → Fault → Type 0
-IsScriptFault text (Script line) = IsRefusedScript text
+IsScriptFault text (Script line) = IsRefusedScript text line
 IsScriptFault text Memory = Unit {0}
 IsScriptFault text other = ⊥
 
@@ -177,14 +178,17 @@ IsDirectoryFault (File name) = Unit {0}
 IsDirectoryFault Memory = Unit {0}
 IsDirectoryFault other = ⊥
 
--- a text is a script of more than 16 guests
+-- a text is a script of more than 16 guests, or of a number of no profile
 abbrev pub HasTooManyGuests : List ℕ → Type 0
 HasTooManyGuests text = (script : scripts.Script) → scripts.script_of text ≡ Ok script → 16 < length script.header.guests
 
+abbrev pub HasNoProfile : List ℕ → Type 0
+HasNoProfile text = (script : scripts.Script) → scripts.script_of text ≡ Ok script → (profile : Profile) → ¬ IsProfileOf script.header.profile profile
+
 -- of a script that is to be done, and the files of its guests
 abbrev pub IsLoadFault : List ℕ → Fault → Type 0
-IsLoadFault text (Script line) = IsRefusedScript text
-IsLoadFault text (Boot error) = (error ≡ unbooted.Limits) × HasTooManyGuests text
+IsLoadFault text (Script line) = IsRefusedScript text line
+IsLoadFault text (Boot error) = (error ≡ unbooted.Limits) × (HasTooManyGuests text ⊎ HasNoProfile text)
 IsLoadFault text (File name) = Unit {0}
 IsLoadFault text (Elf fault) = Unit {0}
 IsLoadFault text Memory = Unit {0}
@@ -202,7 +206,7 @@ IsToldFault sim.Output = Unit {0}
 
 -- of a script that is refused: it is none, or the file of a guest is refused, or the world
 abbrev pub IsRefusal : List ℕ → Fault → Type 0
-IsRefusal text (Script line) = IsRefusedScript text
+IsRefusal text (Script line) = IsRefusedScript text line
 IsRefusal text (File name) = Unit {0}
 IsRefusal text (Elf fault) = Unit {0}
 IsRefusal text (Boot error) = Unit {0}

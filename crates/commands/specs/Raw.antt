@@ -1,11 +1,13 @@
--- Images without a header.
+-- Images without a header, and how many pages a machine has.
 use Rattle.std.specs.Prelude.{◌≡◌, ℕ, ◌<◌, ◌≤◌, List, [], ◌∷◌, length, map}
 use Rattle.elf32.specs.declared.image.Image.{Image}
+use Rattle.mips_cp0.specs.Profiles.{profile_numbers}
+use Rattle.mips_cp0.specs.declared.profile.Profile.{Profile}
 
--- the limits of the number of pages
-pub record IsPageCount (pages : ℕ) : Type 0 where
+-- the limits of the number of pages of a machine of a profile
+pub record IsPageCount (profile : Profile) (pages : ℕ) : Type 0 where
   pub least : 2 ≤ pages
-  pub most : pages ≤ 16384
+  pub most : pages ≤ (profile_numbers profile).most_pages
 
 -- a file of some bytes is a raw image for a memory of `room` bytes: it is not empty, and the memory holds it
 pub record IsRaw (room length : ℕ) : Type 0 where

@@ -1,11 +1,14 @@
 -- What is replied to a script.
-use Rattle.std.specs.Prelude.{◌≡◌, ℕ, Bool, false, true, List, Option, None, Some, Ok, length, map}
+use Rattle.std.specs.Prelude.{◌≡◌, ℕ, Bool, false, true, All, List, Option, None, Some, Ok, length, map}
+use Rattle.mips_cp0.specs.Profiles.{profile_numbers}
+use Rattle.mips_cp0.specs.declared.profile.Profile.{Profile}
+use Rattle.mips_cp0.specs.declared.profile.Profile.TheVariants.{Two}
 use Rattle.script.specs.Courses.{LineEvent, course_of}
 use Rattle.script.specs.declared.header.Fail.{Fail}
 use Rattle.script.specs.declared.header.GuestLine.{GuestLine as GuestLineCode}
 use Rattle.script.specs.declared.header.Header.{Header as HeaderCode}
 use Rattle.script.specs.declared.header.Script.{Script as ScriptCode}
-use Rattle.script.specs.Scripts.{Script, script_of}
+use Rattle.script.specs.Scripts.{script_of}
 use Rattle.script.specs.Views.{script_view}
 use Rattle.booting.specs.declared.asked.Config.{Config}
 use Rattle.booting.specs.declared.asked.NewGuest.{NewGuest}
@@ -16,9 +19,10 @@ use Rattle.swapstore.specs.Faults.{store_of, left_of, with_fault}
 use Rattle.swapstore.specs.Memories.{MemoryIs, AreTold, stored_at}
 use Rattle.swapstore.specs.declared.fault.FaultStore.{FaultStore}
 
--- a script that says nothing of profiles
-abbrev pub IsKnown : Script → Type 0
-IsKnown script = script.header.profile ≡ None
+-- the profile of a script's guests, by the number that its header says: the second where it says none
+abbrev pub IsProfileOf : Option ℕ → Profile → Type 0
+IsProfileOf None profile = profile ≡ Two
+IsProfileOf (Some number) profile = (profile_numbers profile).number ≡ number
 
 -- the pages, the shares and the minimum of a guest, as a line of the header has them; a minimum that isn't given is 2
 abbrev pub line_numbers : GuestLineCode → ℕ × ℕ × ℕ
@@ -85,15 +89,17 @@ IsOver (Some fail) whole numbered config seed slots guests course known known' =
 -- ---- the whole
 
 -- What is written behind known bytes are the replies to the script that a text is, to all events or to the first of them, each behind the
--- number of its line or without it, in a world that is booted with its guests, each with an image and with the pages, shares
--- and minimum of its line, and admitted by these where the header asks for that: the events that its blocks come to are done one after
+-- number of its line or without it, in a world that is booted with its guests, each of the profile that the header says, with an image and with
+-- the pages, shares and minimum of its line, and admitted by these where the header asks for that: the events that its blocks come to are done one after
 -- another, by the words of the generator of the header's seed, and whatever they do, what is shown of a guest is of its own machine run
 -- alone (`IsTranscript`).
 pub record IsSimulation (whole numbered : Bool) (text : List ℕ) (known known' : Option (List ℕ)) : Type 0 where
   pub script : ScriptCode
   pub reads : script_of text ≡ Ok (script_view script)
-  pub known_words : IsKnown (script_view script)
+  pub profile : Profile
+  pub said : IsProfileOf script.header.profile profile
   pub guests : List NewGuest
+  pub profiles : All (λ g. g.profile ≡ profile) guests
   pub numbers : map numbers_of guests ≡ map line_numbers script.header.guests.items
   pub within : AreWithinLimits (config_of script.header) script.header.slots guests
   pub admitted : AreAdmitted (config_of script.header) script.header.slots guests

@@ -4,7 +4,7 @@ ghost use Rattle.sha2.specs.Sha256.{sha256};
 ghost use Rattle.elf32.specs.declared.image.Image.{Image};
 ghost use Rattle.elf32.specs.Files.{StandsFor};
 ghost use Rattle.elf32.specs.Images.{FitsPages};
-ghost use Rattle.machine.specs.Boot.{boot_machine};
+ghost use Rattle.machine.specs.Boot.{boot_machine_as};
 ghost use Rattle.commands.specs.Faults.{IsElfRunFault, IsExecFault, IsImageFault, IsRunFault, IsWant};
 ghost use Rattle.commands.specs.Raw.{IsPageCount};
 ghost use Rattle.commands.specs.Runs.{IsImageOf, IsReport, IsReportOf, report_text};
@@ -51,8 +51,8 @@ pub struct Done {
 ///
 /// An error is `Log` where the reference machine is asked for a log; `File` where the image's file can't be read or the log's
 /// written, and where both are one; `Elf` with the first fault of a file that is no executable for so many pages; `Raw`
-/// where a raw image is empty or longer than the pages; `Boot` where the number of pages is outside its limits, or the
-/// boot was refused memory; `Memory` where another request for memory was refused.
+/// where a raw image is empty or longer than the pages; `Boot` where the number of pages is outside the limits of the
+/// profile, or the boot was refused memory; `Memory` where another request for memory was refused.
 pub fn run_image<'a, R: Files + AllocGlobal, W: Watch>(
     rt: &R,
     order: Exec<'a>,
@@ -61,8 +61,8 @@ pub fn run_image<'a, R: Files + AllocGlobal, W: Watch>(
     extras: &Extras,
     watch: &mut W,
 ) -> Result<Report, Fault<'a>>
-    ensures report { IfOk result (λ r. (image : Image) × IsReport (boot_machine image order.entry.pages) input.now order.entry.steps until.now extras.now r) }
-    ensures legal { IfOk result (λ r. IsPageCount order.entry.pages) }
+    ensures report { IfOk result (λ r. (image : Image) × IsReport (boot_machine_as order.entry.profile image order.entry.pages) input.now order.entry.steps until.now extras.now r) }
+    ensures legal { IfOk result (λ r. IsPageCount order.entry.profile order.entry.pages) }
     ensures log { IfOk result (λ r. order.entry.kind ≡ MachineKind.Flat → order.entry.log ≡ None) }
     ensures apart { IfOk result (λ r. order.entry.log ≢ Some order.entry.image) }
     ensures faults { IfErr result (λ fault. IsExecFault order.entry fault) }
@@ -110,10 +110,10 @@ pub fn run_file<'a, F: Read + Drop, W: Watch>(
 ) -> Result<Done, Fault<'a>>
     ensures report { IfSome (F.remaining file) (λ all. IfOk result (λ done. IsReportOf all order.entry input.now until.now extras.now done.report)) }
     ensures digest { IfSome (F.remaining file) (λ all. IfOk result (λ done. done.digest ≡ sha256 all)) }
-    ensures some_image { IfOk result (λ done. (image : Image) × IsReport (boot_machine image order.entry.pages) input.now order.entry.steps until.now extras.now done.report) }
+    ensures some_image { IfOk result (λ done. (image : Image) × IsReport (boot_machine_as order.entry.profile image order.entry.pages) input.now order.entry.steps until.now extras.now done.report) }
     ensures guest { IfOk result (λ done. order.entry.kind ≡ MachineKind.Guest → done.runner ≢ None) }
     ensures flat_never_stops { IfOk result (λ done. order.entry.kind ≡ MachineKind.Flat → done.report.ran.stop ≡ None) }
-    ensures legal { IfOk result (λ done. IsPageCount order.entry.pages) }
+    ensures legal { IfOk result (λ done. IsPageCount order.entry.profile order.entry.pages) }
     ensures faults { IfErr result (λ fault. IsImageFault order.entry fault) }
 {
     let loaded = load(alloc, file, order)?;
@@ -135,16 +135,16 @@ fn run_guest<'a, W: Watch>(
     watch: &mut W,
 ) -> Result<Done, Fault<'a>>
     requires fits { FitsPages loaded.image order.pages }
-    requires legal { IsPageCount order.pages }
-    ensures report { IfOk result (λ done. IsReport (boot_machine loaded.image order.entry.pages) input.now order.entry.steps until.now extras.now done.report) }
+    requires legal { IsPageCount order.profile order.pages }
+    ensures report { IfOk result (λ done. IsReport (boot_machine_as order.entry.profile loaded.image order.entry.pages) input.now order.entry.steps until.now extras.now done.report) }
     ensures digest { IfOk result (λ done. done.digest ≡ loaded.digest) }
     ensures guest { IfOk result
-        (λ done. IfSome done.runner (λ r. r.machine ≡ after_run done.report.ran input.now (boot_machine loaded.image order.entry.pages))) }
+        (λ done. IfSome done.runner (λ r. r.machine ≡ after_run done.report.ran input.now (boot_machine_as order.entry.profile loaded.image order.entry.pages))) }
     ensures runner { IfOk result (λ done. done.runner ≢ None) }
     ensures faults { IfErr result IsWant }
 {
     let Loaded { image, digest } = loaded;
-    let mut runner = of_boot(HostedGuest::boot(alloc, image, order.pages))?;
+    let mut runner = of_boot(HostedGuest::boot(alloc, order.profile, image, order.pages))?;
     let ran = run(&mut runner, input.as_slice(), order.steps, until, watch);
     let report = report_of(alloc, &runner, ran, extras)?;
     Ok(Done {
@@ -165,13 +165,13 @@ fn run_flat<'a, W: Watch>(
     watch: &mut W,
 ) -> Result<Done, Fault<'a>>
     requires fits { FitsPages loaded.image order.pages }
-    requires legal { IsPageCount order.pages }
-    ensures report { IfOk result (λ done. IsReport (boot_machine loaded.image order.entry.pages) input.now order.entry.steps until.now extras.now done.report) }
+    requires legal { IsPageCount order.profile order.pages }
+    ensures report { IfOk result (λ done. IsReport (boot_machine_as order.entry.profile loaded.image order.entry.pages) input.now order.entry.steps until.now extras.now done.report) }
     ensures digest { IfOk result (λ done. done.digest ≡ loaded.digest) }
     ensures never_stops { IfOk result (λ done. done.report.ran.stop ≡ None) }
     ensures faults { IfErr result IsWant }
 {
-    let mut machine = of_boot(Table::boot(alloc, &loaded.image, order.pages))?;
+    let mut machine = of_boot(Table::boot(alloc, order.profile, &loaded.image, order.pages))?;
     let ran = run(&mut machine, input.as_slice(), order.steps, until, watch);
     let report = report_of(alloc, &machine, ran, extras)?;
     Ok(Done {
@@ -206,7 +206,14 @@ fn write_order<'a, R: Files + AllocGlobal>(
 {
     match (order.log, &done.runner) {
         (Some(name), Some(runner)) => {
-            write_log(rt, name, runner.log(), order.pages, &done.digest)
+            write_log(
+                rt,
+                name,
+                runner.log(),
+                order.profile,
+                order.pages,
+                &done.digest,
+            )
         }
         _ => Ok(()),
     }
@@ -215,7 +222,7 @@ fn write_order<'a, R: Files + AllocGlobal>(
 /// The image that a file holds, which the pages hold too, and the file's digest.
 ///
 /// An error is `File` where the file can't be read; `Elf` with the first fault of a file that is no executable for so many pages; `Raw` where a
-/// raw image is empty or longer than the pages; then `Boot` where the number of pages is outside its limits; `Memory` where a request for memory
+/// raw image is empty or longer than the pages; then `Boot` where the number of pages is outside the limits of the profile; `Memory` where a request for memory
 /// was refused.
 pub fn load<'a, F: Read + Drop>(
     alloc: Global,
@@ -225,7 +232,7 @@ pub fn load<'a, F: Read + Drop>(
     ensures stands { IfSome (F.remaining file) (λ all. IfOk result (λ loaded. IsImageOf order.entry.format order.entry.pages all loaded.image)) }
     ensures digest { IfSome (F.remaining file) (λ all. IfOk result (λ loaded. loaded.digest ≡ sha256 all)) }
     ensures fits { IfOk result (λ loaded. FitsPages loaded.image order.entry.pages) }
-    ensures legal { IfOk result (λ loaded. IsPageCount order.entry.pages) }
+    ensures legal { IfOk result (λ loaded. IsPageCount order.entry.profile order.entry.pages) }
     ensures faults { IfErr result (λ fault. IsImageFault order.entry fault) }
 {
     match order.format {
@@ -242,11 +249,11 @@ fn load_elf<'a, F: Read + Drop>(
     ensures stands { IfSome (F.remaining file) (λ all. IfOk result (λ loaded. StandsFor all order.entry.pages loaded.image)) }
     ensures digest { IfSome (F.remaining file) (λ all. IfOk result (λ loaded. loaded.digest ≡ sha256 all)) }
     ensures fits { IfOk result (λ loaded. FitsPages loaded.image order.entry.pages) }
-    ensures legal { IfOk result (λ loaded. IsPageCount order.entry.pages) }
+    ensures legal { IfOk result (λ loaded. IsPageCount order.entry.profile order.entry.pages) }
     ensures faults { IfErr result (λ fault. IsElfRunFault order.entry fault) }
 {
     let loaded = elf_image(alloc, file, order.image, order.pages)?;
-    if is_page_count(order.pages) {
+    if is_page_count(order.profile, order.pages) {
         Ok(loaded)
     } else {
         Err(Fault::Boot {

@@ -54,7 +54,7 @@ pub enum LogRefusal {
 }
 
 impl LogRefusal {
-    /// Its number: 0 where the machine keeps no log, 1 to 4 for a fault of the file, 5 for an item.
+    /// Its number: 0 where the machine keeps no log, 1 to 4 and 6 for a fault of the file, 5 for an item.
     pub fn number(self) -> u32
         ensures { result ≡ log_refusal_number self }
     {

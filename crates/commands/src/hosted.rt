@@ -3,7 +3,7 @@ ghost use Rattle.std.specs.Prelude.{◌≡◌, ◌+◌, ◌≤◌, ◌<◌, ◌�
 ghost use Rattle.elf32.specs.Images.{FitsPages};
 ghost use Rattle.items.specs.declared.item.What.TheVariants.{In};
 ghost use Rattle.machine.specs.Step.{step};
-ghost use Rattle.machine.specs.Boot.{boot_machine};
+ghost use Rattle.machine.specs.Boot.{boot_machine_as};
 ghost use Rattle.machine.specs.Items.{after};
 ghost use Rattle.guest_log.specs.Logs.{IsFull};
 ghost use Rattle.guest_log.specs.declared.stop.Stop.{Stop};
@@ -20,6 +20,7 @@ use elf32::Image;
 use guest::{Log, Refused, Stop};
 use items::{Item, SeatNo, What};
 use machine::{Ppn, StepOut};
+use mips_cp0::Profile;
 use mips_step::View;
 use page_moves::SupplyError;
 use runs::{NoPlace, Runnable};
@@ -58,33 +59,39 @@ impl Drop for HostedGuest {
 }
 
 impl HostedGuest {
-    /// A guest as its image boots, with a memory of `pages` pages, which hold the image. An error says that a request for memory
-    /// was refused.
-    pub fn boot(alloc: Global, image: Image, pages: u32) -> Result<HostedGuest, AllocError>
+    /// A guest of a profile as its image boots, with a memory of `pages` pages, 2 to the most of the profile, which hold the image.
+    /// An error says that a request for memory was refused.
+    pub fn boot(
+        alloc: Global,
+        profile: Profile,
+        image: Image,
+        pages: u32,
+    ) -> Result<HostedGuest, AllocError>
         requires fits { FitsPages image pages }
-        requires legal { IsPageCount pages }
-        ensures machine { IfOk result (λ r. r.machine ≡ boot_machine image pages) }
+        requires legal { IsPageCount profile pages }
+        ensures machine { IfOk result (λ r. r.machine ≡ boot_machine_as profile image pages) }
         ensures log { IfOk result (λ r. r.log.items ≡ []) }
         ensures limit { IfOk result (λ r. r.log.limit ≡ 1048576) }
     {
         let image = Arc::new(alloc, image)?;
-        HostedGuest::boot_shared(alloc, image, pages)
+        HostedGuest::boot_shared(alloc, profile, image, pages)
     }
 
-    /// A guest as an image boots that others boot from too, with a memory of `pages` pages, which hold the image: nothing of it is copied but
-    /// what these pages take. An error says that a request for memory was refused.
+    /// A guest of a profile as an image boots that others boot from too, with a memory of `pages` pages, 2 to the most of the profile, which
+    /// hold the image: nothing of it is copied but what these pages take. An error says that a request for memory was refused.
     pub fn boot_shared(
         alloc: Global,
+        profile: Profile,
         image: Arc<Image, Global>,
         pages: u32,
     ) -> Result<HostedGuest, AllocError>
         requires fits { FitsPages image.value pages }
-        requires legal { IsPageCount pages }
-        ensures machine { IfOk result (λ r. r.machine ≡ boot_machine image.value pages) }
+        requires legal { IsPageCount profile pages }
+        ensures machine { IfOk result (λ r. r.machine ≡ boot_machine_as profile image.value pages) }
         ensures log { IfOk result (λ r. r.log.items ≡ []) }
         ensures limit { IfOk result (λ r. r.log.limit ≡ 1048576) }
     {
-        let world = boot_world(alloc, image, pages)?;
+        let world = boot_world(alloc, profile, image, pages)?;
         Ok(HostedGuest { world, alloc })
     }
 
@@ -139,20 +146,23 @@ impl Runnable for HostedGuest {
     }
 }
 
-/// A world of one guest as its image boots.
+/// A world of one guest of a profile as its image boots.
+#[tactic(auto, using(crate::proofs::Limits::most_few))]
 fn boot_world(
     alloc: Global,
+    profile: Profile,
     image: Arc<Image, Global>,
     pages: u32,
 ) -> Result<World<MemStore>, AllocError>
     requires fits { FitsPages image.value pages }
-    requires legal { IsPageCount pages }
+    requires legal { IsPageCount profile pages }
     ensures alone { IfOk result IsAlone }
-    ensures machine { IfOk result (λ w. (hosted_of w.tenants).machine ≡ boot_machine image.value pages) }
+    ensures machine { IfOk result (λ w. (hosted_of w.tenants).machine ≡ boot_machine_as profile image.value pages) }
     ensures log { IfOk result (λ w. (hosted_of w.tenants).log.items ≡ []) }
     ensures limit { IfOk result (λ w. (hosted_of w.tenants).log.limit ≡ 1048576) }
 {
     let guest = NewGuest {
+        profile,
         image,
         pages,
         shares: 1,

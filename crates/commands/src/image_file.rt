@@ -11,21 +11,20 @@ use crate::fault::{Fault, of_file};
 use crate::order::Exec;
 use elf32::{ElfError, Image};
 use logfile::image_digest;
+use mips_cp0::Profile;
 use std::alloc::Global;
 use std::io;
 use std::io::{BufRead, BufReader, Read};
 use tenant::BootError;
 
-/// The least and the greatest number of pages.
+/// The least number of pages of a machine.
 const LEAST_PAGES: u32 = 2;
 
-const MOST_PAGES: u32 = 16_384;
-
-/// Whether a machine may have so many pages.
-pub fn is_page_count(pages: u32) -> bool
-    ensures { IsTrue result ↔ IsPageCount pages }
+/// Whether a machine of a profile may have so many pages: 2 to the most of the profile, 16,384 or 32,768.
+pub fn is_page_count(profile: Profile, pages: u32) -> bool
+    ensures { IsTrue result ↔ IsPageCount profile pages }
 {
-    LEAST_PAGES <= pages && pages <= MOST_PAGES
+    LEAST_PAGES <= pages && pages <= profile.numbers().most_pages
 }
 
 /// The image of a file, and the digest of the file.
@@ -118,21 +117,21 @@ pub fn image_in<'a>(alloc: Global, bytes: &[u8], pages: u32) -> Result<Image, Fa
 /// The image of a file without a header, which the pages hold.
 ///
 /// An error is `Raw` where the file is empty or longer than the pages, then `Boot` where the number of pages is outside
-/// its limits, `Memory` where a request for memory was refused, and `File` where the file can't be read.
+/// the limits of the profile, `Memory` where a request for memory was refused, and `File` where the file can't be read.
 pub fn raw_image<'a, F: Read + Drop>(
     alloc: Global,
     file: F,
     order: Exec<'a>,
 ) -> Result<Loaded, Fault<'a>>
     ensures fits { IfOk result (λ loaded. FitsPages loaded.image order.entry.pages) }
-    ensures legal { IfOk result (λ loaded. IsPageCount order.entry.pages) }
+    ensures legal { IfOk result (λ loaded. IsPageCount order.entry.profile order.entry.pages) }
     ensures image { IfSome (F.remaining file) (λ all. IfOk result (λ loaded. IsRawImage all loaded.image)) }
     ensures digest { IfSome (F.remaining file) (λ all. IfOk result (λ loaded. loaded.digest ≡ sha256 all)) }
-    ensures raw { IfSome (F.remaining file) (λ all. IsPageCount order.entry.pages → IsErrOf result Fault.Raw
+    ensures raw { IfSome (F.remaining file) (λ all. IsPageCount order.entry.profile order.entry.pages → IsErrOf result Fault.Raw
         → ¬ IsRaw (order.entry.pages * 4096) (length all)) }
     ensures faults { IfErr result (λ fault. IsRawFault order.entry fault) }
 {
-    if is_page_count(order.pages) {
+    if is_page_count(order.profile, order.pages) {
         raw_image_within(alloc, file, order)
     } else {
         Err(fault_outside(file, order))
@@ -140,12 +139,13 @@ pub fn raw_image<'a, F: Read + Drop>(
 }
 
 /// The raw image for a number of pages within its limits.
+#[tactic(auto, using(crate::proofs::Limits::most_few))]
 fn raw_image_within<'a, F: Read + Drop>(
     alloc: Global,
     file: F,
     order: Exec<'a>,
 ) -> Result<Loaded, Fault<'a>>
-    requires { IsPageCount order.pages }
+    requires { IsPageCount order.profile order.pages }
     ensures fits { IfOk result (λ loaded. FitsPages loaded.image order.entry.pages) }
     ensures image { IfSome (F.remaining file) (λ all. IfOk result (λ loaded. IsRawImage all loaded.image)) }
     ensures digest { IfSome (F.remaining file) (λ all. IfOk result (λ loaded. loaded.digest ≡ sha256 all)) }
@@ -163,10 +163,10 @@ fn raw_image_within<'a, F: Read + Drop>(
     }
 }
 
-/// The image of these bytes without a header, which the pages hold. An error is `Raw` where there are none or too many, and
-/// `Memory` where a request for memory was refused.
+/// The image of these bytes without a header, which the pages, fewer than 2^20, hold. An error is `Raw` where there are none or too
+/// many, and `Memory` where a request for memory was refused.
 pub fn raw_image_in<'a>(alloc: Global, bytes: Vec<u8>, pages: u32) -> Result<Image, Fault<'a>>
-    requires { IsPageCount pages }
+    requires { pages < 2 ^ 20 }
     ensures fits { IfOk result (λ image. FitsPages image pages) }
     ensures image { IfOk result (IsRawImage bytes.items) }
     ensures raw { IsErrOf result Fault.Raw → ¬ IsRaw (pages * 4096) (length bytes.items) }
@@ -181,7 +181,7 @@ pub fn raw_image_in<'a>(alloc: Global, bytes: Vec<u8>, pages: u32) -> Result<Ima
 
 /// What is wrong with a raw image where the number of pages is outside its limits.
 fn fault_outside<'a, F: Read + Drop>(file: F, order: Exec<'a>) -> Fault<'a>
-    requires { ¬ IsPageCount order.pages }
+    requires { ¬ IsPageCount order.profile order.pages }
     ensures { IsRawFault order.entry result }
 {
     let room = u64::from(order.pages) * 4096;

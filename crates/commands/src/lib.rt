@@ -26,6 +26,6 @@ pub use asm::assemble_file;
 pub use dis::disassemble_file;
 pub use exec::{Done, Report, run_file, run_image};
 pub use fault::Fault;
-pub use order::{Asm, ConsoleInput, Dis, Exec, Format, MachineKind, Replay, Sim};
+pub use order::{Asm, ConsoleInput, DEFAULT_PROFILE, Dis, Exec, Format, MachineKind, Replay, Sim};
 pub use replay::replay_log;
 pub use sim::{SimFault, run_script, script_text};

@@ -5,7 +5,8 @@ ghost use Rattle.commands.specs.LogFiles.{IsLogFile};
 
 use crate::fault::{Fault, of_file};
 use guest::Log;
-use logfile::{append, write};
+use logfile::{append_as, write_as};
+use mips_cp0::Profile;
 use output_file::{is_one_file, write_file};
 use simulation::LogKeeper;
 use std::alloc::{AllocError, Global};
@@ -55,15 +56,18 @@ fn directory<R: Files>(rt: &R, name: &str) -> io::Result<()> {
 pub(crate) struct LogFiles<'r, 'a, R: Files + AllocGlobal> {
     rt: &'r R,
     directory: Option<&'a str>,
+    profile: Profile,
     digests: Vec<[u8; 32]>,
     unwritten: Option<usize>,
 }
 
 impl<'r, 'a, R: Files + AllocGlobal> LogFiles<'r, 'a, R> {
-    /// Files in this directory, if it is given, which is made where it is not there, of logs of images of these digests, guest after guest.
+    /// Files in this directory, if it is given, which is made where it is not there, of logs of guests of this profile and of images of these
+    /// digests, guest after guest.
     pub(crate) fn new(
         rt: &'r R,
         directory: Option<&'a str>,
+        profile: Profile,
         digests: Vec<[u8; 32]>,
     ) -> Result<LogFiles<'r, 'a, R>, Fault<'a>>
         ensures { IfErr result IsDirectoryFault }
@@ -74,6 +78,7 @@ impl<'r, 'a, R: Files + AllocGlobal> LogFiles<'r, 'a, R> {
         Ok(LogFiles {
             rt,
             directory,
+            profile,
             digests,
             unwritten: None,
         })
@@ -90,7 +95,9 @@ impl<'r, 'a, R: Files + AllocGlobal> LogFiles<'r, 'a, R> {
             return false;
         };
         match log_name(self.rt.alloc(), directory, guest) {
-            Ok(name) => write_log(self.rt, name.as_str(), log, pages, digest).is_ok(),
+            Ok(name) => {
+                write_log(self.rt, name.as_str(), log, self.profile, pages, digest).is_ok()
+            }
             Err(_) => false,
         }
     }
@@ -107,36 +114,39 @@ impl<R: Files + AllocGlobal> LogKeeper for LogFiles<'_, '_, R> {
     }
 }
 
-/// Writes the log of a guest of so many pages and of the image file of this digest into the file of this name.
+/// Writes the log of a guest of this profile, of so many pages and of the image file of this digest into the file of this name, in version 2.
 ///
 /// An error is `File` where it can't be written, and `Memory` where a request for memory was refused.
 pub fn write_log<'a, R: Files + AllocGlobal>(
     rt: &R,
     name: &'a str,
     log: &Log,
+    profile: Profile,
     pages: u32,
     digest: &[u8; 32],
 ) -> Result<(), Fault<'a>>
     ensures { IfErr result (λ fault. (fault ≡ Fault.Memory) ⊎ (fault ≡ Fault.File name.entry)) }
 {
-    let bytes = log_bytes(rt.alloc(), log, pages, digest)?;
+    let bytes = log_bytes(rt.alloc(), log, profile, pages, digest)?;
     of_file(name, write_file(rt, name, &bytes))
 }
 
-/// The bytes of the file of a log: it stands for entries with the log's items, in order.
+/// The bytes of the file of the log of a guest of this profile, of so many pages and of the image file of this digest, in version 2: it
+/// stands for entries with the log's items, in order. An error says that a request for memory was refused.
 pub fn log_bytes(
     alloc: Global,
     log: &Log,
+    profile: Profile,
     pages: u32,
     digest: &[u8; 32],
 ) -> Result<Vec<u8>, AllocError>
-    ensures { IfOk result (λ bytes. IsLogFile bytes.items pages digest.now log.now.items) }
+    ensures { IfOk result (λ bytes. IsLogFile bytes.items profile pages digest.now log.now.items) }
 {
-    let mut bytes = write(alloc, pages, digest, log.entries())?;
+    let mut bytes = write_as(alloc, profile, pages, digest, log.entries())?;
     match log.last_steps() {
         None => Ok(bytes),
         Some(last) => {
-            append(&mut bytes, &last)?;
+            append_as(&mut bytes, &last)?;
             Ok(bytes)
         }
     }

@@ -1,7 +1,11 @@
 //! What a command is to do.
 ghost use Rattle.std.specs.Prelude.{◌≡◌, ◌≤◌, length};
 
+use mips_cp0::Profile;
 use std::marker::Model;
+
+/// The profile of a machine of which none is said: the second.
+pub const DEFAULT_PROFILE: Profile = Profile::Two;
 
 /// What `asm` assembles.
 #[derive(Clone, Copy, Debug)]
@@ -28,6 +32,8 @@ pub struct Exec<'a> {
     pub format: Format,
     /// Which machine runs it.
     pub kind: MachineKind,
+    /// The profile of the machine's processor.
+    pub profile: Profile,
     /// How many pages of memory the machine has; any number is taken here.
     pub pages: u32,
     /// How many steps are to be made.

@@ -1,11 +1,11 @@
 //! The command `replay`.
-ghost use Rattle.std.specs.Prelude.{◌≡◌, ◌≤◌, ◌%◌, ◌^◌, length, IfErr, IfOk, OnOk, IsErrOf, string_bytes};
+ghost use Rattle.std.specs.Prelude.{◌≡◌, ◌<◌, ◌%◌, ◌^◌, IfErr, IfOk, OnOk, IsErrOf, string_bytes};
 ghost use Rattle.sha2.specs.Sha256.{sha256};
 ghost use Rattle.elf32.specs.Images.{FitsPages};
 ghost use Rattle.items.specs.Items.{is_step};
 ghost use Rattle.items.specs.Entries.{steps_of, items_in, items_of};
 ghost use Rattle.machine.specs.Items.{run, AllAccepted};
-ghost use Rattle.logfile.specs.Files.{HasHeader};
+ghost use Rattle.logfile.specs.Versions.{HasHeaderAs, IsLong};
 ghost use Rattle.commands.specs.Faults.{IsReplayFault};
 ghost use Rattle.commands.specs.Raw.{IsPageCount};
 ghost use Rattle.dump.specs.Steps.{step_count};
@@ -19,7 +19,7 @@ use dump::dump;
 use elf32::Image;
 use flatvm::Flat;
 use items::{Entry, SeatNo, What};
-use logfile::{check_header, image_digest, read_entries};
+use logfile::{LogHeader, image_digest, read_entries_as, read_header};
 use machine::Rejection;
 use std::alloc::Global;
 use std::fs::File;
@@ -35,7 +35,7 @@ pub enum Halt {
 }
 
 /// Replays a log on the reference machine that boots its image, and gives the dump of the machine after the log's last item;
-/// its steps are those of the log.
+/// its steps are those of the log. The log's file is of either version; one of version 1 is of a machine of the first profile.
 ///
 /// An error is `File` where a file can't be read, the image's before the log's; `Log` with the first fault of the log's
 /// header; `Elf` or `Raw` where the image is refused for the log's pages; `Log` with the first fault of the log's items, of
@@ -66,29 +66,31 @@ pub fn replay_bytes<'a>(
     ensures faults { IfErr result (λ fault. IsReplayFault order.entry fault) }
 {
     let digest = image_digest(&image);
-    match check_header(log, &digest) {
+    match read_header(log, &digest) {
         Err(fault) => Err(log_file_fault(fault)),
-        Ok(pages) => replay_on(alloc, image, log, order, pages),
+        Ok(header) => replay_on(alloc, image, log, order, header),
     }
 }
 
-/// Replays the items of a log whose header names these pages and the image's digest.
+/// Replays the items of a log whose header says this of the machine, and names the image's digest.
+#[tactic(auto, using(crate::proofs::Limits::most_few))]
 fn replay_on<'a>(
     alloc: Global,
     image: Vec<u8>,
     log: &[u8],
     order: Replay<'a>,
-    pages: u32,
+    header: LogHeader,
 ) -> Result<String, Fault<'a>>
-    requires pages { IsPageCount pages }
-    requires long { 40 ≤ length log.now }
-    requires header { HasHeader log.now (sha256 image.items) pages }
+    requires pages { IsPageCount header.profile header.pages }
+    requires long { IsLong log.now }
+    requires header { HasHeaderAs log.now (sha256 image.items) header.profile header.pages }
     ensures replay { IfOk result (λ text. IsReplay image.items log.now order.entry (string_bytes text)) }
     ensures faults { IfErr result (λ fault. IsReplayFault order.entry fault) }
 {
+    let LogHeader { profile, pages } = header;
     let image = image_of(alloc, image, order, pages)?;
-    let entries = read_entries(alloc, log)?;
-    let mut flat = of_boot(Flat::boot(alloc, &image, pages))?;
+    let entries = read_entries_as(alloc, log)?;
+    let mut flat = of_boot(Flat::boot_as(alloc, profile, &image, pages))?;
     match replay_entries(&mut flat, &entries) {
         Ok(steps) => Ok(dump(alloc, flat.view(), steps, None)?),
         Err(Halt::Item) => Err(Fault::Log {
@@ -98,14 +100,14 @@ fn replay_on<'a>(
     }
 }
 
-/// The image that a file of these bytes holds, by its format, for so many pages.
+/// The image that a file of these bytes holds, by its format, for so many pages, fewer than 2^20.
 fn image_of<'a>(
     alloc: Global,
     bytes: Vec<u8>,
     order: Replay<'a>,
     pages: u32,
 ) -> Result<Image, Fault<'a>>
-    requires { IsPageCount pages }
+    requires { pages < 2 ^ 20 }
     ensures stands { IfOk result (IsImageOf order.entry.format pages bytes.items) }
     ensures fits { IfOk result (λ image. FitsPages image pages) }
     ensures faults { IfErr result (λ fault. IsReplayFault order.entry fault) }

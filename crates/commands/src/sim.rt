@@ -1,19 +1,21 @@
 //! The command `sim`.
-ghost use Rattle.std.specs.Prelude.{◌≡◌, ◌⊎◌, ◌↔◌, All, IfErr, IfOk, IfSome, IsErrOf, IsTrue, Ok, OnOk, false, length, map, true};
+ghost use Rattle.std.specs.Prelude.{◌≡◌, ◌⊎◌, All, IfErr, IfOk, IfSome, IsErrOf, Ok, OnOk, false, length, map, true};
 ghost use Rattle.elf32.specs.Images.{FitsPages};
+ghost use Rattle.mips_cp0.specs.declared.profile.Profile.{Profile};
 ghost use Rattle.script.specs.Courses.{course_of};
 ghost use Rattle.script.specs.Scripts.{script_of};
 ghost use Rattle.script.specs.Views.{block_view, script_view};
 ghost use Rattle.simulation.specs.Acts.{IsBlockFor};
 ghost use Rattle.world.specs.Boots.{AreAdmitted, AreWithinLimits};
 ghost use Rattle.commands.specs.Faults.{IsFileFault, IsLoadFault, IsScriptFault, IsSimFault, IsToldFault};
-ghost use Rattle.commands.specs.Sims.{IsKnown, IsOver, IsSimulation, config_of, line_numbers, numbers_of};
+ghost use Rattle.commands.specs.Sims.{IsOver, IsProfileOf, IsSimulation, config_of, line_numbers, numbers_of};
 
 use crate::fault::{Fault, of_file};
 use crate::image_file::{Loaded, elf_image, whole_file};
 use crate::log_file::{LogFiles, is_log};
-use crate::order::Sim;
+use crate::order::{DEFAULT_PROFILE, Sim};
 use elf32::Image;
+use mips_cp0::Profile;
 use script::{Block, GuestLine, Header, Script, ScriptError, StoreCall};
 use simulation::{LogKeeper, SimError, simulate};
 use std::alloc::{AllocError, Global};
@@ -59,10 +61,10 @@ pub enum SimFault<'a> {
 /// the directory of the order, if it names one. The answer is the number of the first guest whose log could not be written.
 ///
 /// An error is `Refused`, before anything is written: `Script` with the first line that is refused, and `Boot` where there are more than
-/// 16 guests, before any other file is read; `File` with the script's name or a guest's file where a log would be written over it; `File`
-/// where a guest's file can't be read and `Elf` with its first fault, guest after guest; `File` where the directory of the logs can't be made; `Boot` where the world is refused; `Memory` where a
-/// request for memory was refused. Behind the boot it is `Memory`, where the replies to the first events are written, or `Output` where a
-/// reply could not be. The line `profile` is refused like a word of no event.
+/// 16 guests or the header says a number of no profile, before any other file is read; `File` with the script's name or a guest's file where
+/// a log would be written over it; `File` where a guest's file can't be read and `Elf` with its first fault, guest after guest; `File` where
+/// the directory of the logs can't be made; `Boot` where the world is refused; `Memory` where a request for memory was refused. Behind the
+/// boot it is `Memory`, where the replies to the first events are written, or `Output` where a reply could not be.
 pub fn run_script<'a, R: Files + AllocGlobal, O: Write>(
     rt: &R,
     order: Sim<'a>,
@@ -74,11 +76,16 @@ pub fn run_script<'a, R: Files + AllocGlobal, O: Write>(
     ensures unwritten { (fault : Fault) → IsErrOf result (SimFault.Refused fault) → out.new ≡ out.old }
     ensures faults { IfErr result (λ fault. IsSimFault text.now fault) }
 {
-    let (header, blocks, guests, digests) = match loaded(rt, order, text) {
-        Ok(loaded) => loaded,
+    let (header, blocks, loaded) = match loaded(rt, order, text) {
+        Ok(parts) => parts,
         Err(fault) => return Err(SimFault::Refused(fault)),
     };
-    let mut files = match LogFiles::new(rt, order.logs, digests) {
+    let LoadedGuests {
+        profile,
+        guests,
+        digests,
+    } = loaded;
+    let mut files = match LogFiles::new(rt, order.logs, profile, digests) {
         Ok(files) => files,
         Err(fault) => return Err(SimFault::Refused(fault)),
     };
@@ -96,34 +103,53 @@ pub fn run_script<'a, R: Files + AllocGlobal, O: Write>(
     }
 }
 
-/// Guests with the images of their files, and the digest of each file, by which a log names it.
+/// Guests with the images of their files, the profile that each of them has, and the digest of each file, by which a log names it.
 #[derive(Drop)]
 struct LoadedGuests {
+    profile: Profile,
     guests: Vec<NewGuest>,
     digests: Vec<[u8; 32]>,
 }
 
-/// The script that a text is, and its guests, with the images of their files and these files' digests.
+/// The script that a text is, and its guests, of the profile that it says, with the images of their files and these files' digests.
 fn loaded<'a, R: Files + AllocGlobal>(
     rt: &R,
     order: Sim<'a>,
     text: &'a str,
-) -> Result<(Header<'a>, Vec<Block>, Vec<NewGuest>, Vec<[u8; 32]>), Fault<'a>>
+) -> Result<(Header<'a>, Vec<Block>, LoadedGuests), Fault<'a>>
     ensures script { IfOk result (λ parts. script_of text.now ≡ Ok (script_view (record { header = parts.0; blocks = parts.1 }))) }
-    ensures known { IfOk result (λ parts. IsKnown (script_view (record { header = parts.0; blocks = parts.1 }))) }
-    ensures can { IfOk result (λ parts. All (IsBlockFor (length parts.2.items) parts.0.slots) (map block_view parts.1.items)) }
-    ensures guests { IfOk result (λ parts. map numbers_of parts.2.items ≡ map line_numbers parts.0.guests.items) }
+    ensures profile { IfOk result (λ parts. IsProfileOf parts.0.profile parts.2.profile) }
+    ensures can { IfOk result (λ parts. All (IsBlockFor (length parts.2.guests.items) parts.0.slots) (map block_view parts.1.items)) }
+    ensures guests { IfOk result (λ parts. map numbers_of parts.2.guests.items ≡ map line_numbers parts.0.guests.items) }
+    ensures profiles { IfOk result (λ parts. All (λ g. g.profile ≡ parts.2.profile) parts.2.guests.items) }
     ensures faults { IfErr result (λ fault. IsLoadFault text.now fault) }
 {
     let Script { header, blocks } = script_in(rt.alloc(), text)?;
+    let profile = profile_of(&header)?;
     if header.guests.len() > MOST_GUESTS {
         return Err(Fault::Boot {
             error: BootError::Limits,
         });
     }
     logs_are_apart(rt, order, &header.guests)?;
-    let loaded = load_guests(rt, &header.guests)?;
-    Ok((header, blocks, loaded.guests, loaded.digests))
+    let loaded = load_guests(rt, profile, &header.guests)?;
+    Ok((header, blocks, loaded))
+}
+
+/// The profile of the guests of a script with this header; an error is `Boot` with `Limits` where it says a number of no profile.
+fn profile_of<'a>(header: &Header<'_>) -> Result<Profile, Fault<'a>>
+    ensures said { IfOk result (IsProfileOf header.now.profile) }
+    ensures none { IfErr result (λ fault. (fault ≡ Fault.Boot BootError.Limits) × ((profile : Profile) → ¬ IsProfileOf header.now.profile profile)) }
+{
+    let Some(number) = header.profile else {
+        return Ok(DEFAULT_PROFILE);
+    };
+    match Profile::of_number(number) {
+        Some(profile) => Ok(profile),
+        None => Err(Fault::Boot {
+            error: BootError::Limits,
+        }),
+    }
 }
 
 /// Whether no log, where the order wants them, is to be written over the script or the file of a guest.
@@ -148,64 +174,29 @@ fn logs_are_apart<'a, R: Files + AllocGlobal>(
     Ok(())
 }
 
-/// The script that a text is, where all that it says is known.
+/// The script that a text is.
 fn script_in<'a>(alloc: Global, text: &'a str) -> Result<Script<'a>, Fault<'a>>
     ensures script { IfOk result (λ script. script_of text.now ≡ Ok (script_view script)) }
-    ensures known { IfOk result (λ script. IsKnown (script_view script)) }
     ensures can { IfOk result (λ script. All (IsBlockFor (length script.header.guests.items) script.header.slots) (map block_view script.blocks.items)) }
     ensures faults { IfErr result (λ fault. IsScriptFault text.now fault) }
 {
     match script::read(alloc, text) {
-        Ok(script) => if is_known(&script) {
-            Ok(script)
-        } else {
-            Err(Fault::Script {
-                line: first_unknown(text),
-            })
-        },
-        Err(ScriptError::Line(line)) => Err(Fault::Script {
-            line: line.min(first_unknown(text)),
-        }),
+        Ok(script) => Ok(script),
+        Err(ScriptError::Line(line)) => Err(Fault::Script { line }),
         Err(ScriptError::Memory) => Err(Fault::Memory),
     }
 }
 
-/// Whether a script says nothing but what is known here.
-fn is_known(script: &Script<'_>) -> bool
-    ensures { IsTrue result ↔ IsKnown (script_view script.now) }
-{
-    script.header.profile.is_none()
-}
-
-/// The number of the first line, counted from 1, that says what is not known here; the greatest number where none does. Each line
-/// up to that one is in the language of scripts.
-fn first_unknown(text: &str) -> u64 {
-    let mut number: u64 = 1;
-    for line in text.lines() {
-        if is_unknown(line) {
-            return number;
-        }
-        number = number.saturating_add(1);
-    }
-    u64::MAX
-}
-
-/// Whether a line of the language of scripts says what is not known here.
-fn is_unknown(line: &str) -> bool {
-    let name = match line.split_once(' ') {
-        Some((name, _)) => name,
-        None => line,
-    };
-    name == "profile"
-}
-
-/// The guests of a script's header, with the images of their files. A file is read once for all lines that have its name, unless the
-/// pages of a line don't hold what was read: then it is read again, and refused.
+/// The guests of a script's header, of this profile, with the images of their files. A file is read once for all lines that have its name,
+/// unless the pages of a line don't hold what was read: then it is read again, and refused.
 fn load_guests<'a, R: Files + AllocGlobal>(
     rt: &R,
+    profile: Profile,
     lines: &[GuestLine<'a>],
 ) -> Result<LoadedGuests, Fault<'a>>
+    ensures profile { IfOk result (λ loaded. loaded.profile ≡ profile) }
     ensures guests { IfOk result (λ loaded. map numbers_of loaded.guests.items ≡ map line_numbers lines.now) }
+    ensures profiles { IfOk result (λ loaded. All (λ g. g.profile ≡ profile) loaded.guests.items) }
     ensures faults { IfErr result (λ fault. IsFileFault fault) }
 {
     let mut guests = Vec::with_capacity(rt.alloc(), lines.len())?;
@@ -218,9 +209,13 @@ fn load_guests<'a, R: Files + AllocGlobal>(
         if digests.push(digest).is_err() {
             return Err(Fault::Memory);
         }
-        guests.push_reserved(new_guest(*line, image));
+        guests.push_reserved(new_guest(profile, *line, image));
     }
-    Ok(LoadedGuests { guests, digests })
+    Ok(LoadedGuests {
+        profile,
+        guests,
+        digests,
+    })
 }
 
 /// The image, and the digest, of an earlier guest whose file has the name of a line's, where the line's pages hold it.
@@ -256,12 +251,14 @@ fn load_image<'a, R: Files + AllocGlobal>(
     }
 }
 
-/// A guest of a script's header, with an image.
-fn new_guest(line: GuestLine<'_>, image: Arc<Image, Global>) -> NewGuest
+/// A guest of a script's header, of this profile and with an image.
+fn new_guest(profile: Profile, line: GuestLine<'_>, image: Arc<Image, Global>) -> NewGuest
+    ensures profile { result.profile ≡ profile }
     ensures numbers { numbers_of result ≡ line_numbers line.entry }
     ensures image { result.image ≡ image }
 {
     NewGuest {
+        profile,
         image,
         pages: line.pages,
         shares: line.shares,

@@ -42,6 +42,19 @@ impl Balloon {
         })
     }
 
+    /// The same balloon once more, for a snapshot: it has the same target and the same pages. `AllocError` where a request for
+    /// memory was refused.
+    pub fn try_clone(&self) -> Result<Balloon, AllocError>
+        ensures { IfOk result (λ balloon. balloon ≡ self.now) }
+    {
+        let given = self.given.clone()?;
+        Ok(Balloon {
+            target: self.target,
+            count: self.count,
+            given,
+        })
+    }
+
     /// How many pages the memory has, at most 2^20.
     pub fn pages(&self) -> u32
         ensures value { result ≡ length self.now.given }

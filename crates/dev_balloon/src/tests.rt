@@ -22,7 +22,10 @@ fn pages_are_given_and_taken(rt: HostRuntime) -> Result<(), Fail> {
     balloon.take(Ppn::new(8));
     balloon.take(Ppn::new(16));
     assert_eq!(rt; balloon.given(), 2);
+    let copy = balloon.try_clone()?;
     balloon.take(Ppn::new(7));
+    assert!(rt; copy.is_given(Ppn::new(7)));
+    assert_eq!(rt; (copy.target(), copy.given(), copy.pages()), (2, 2, 16));
     assert!(rt; !balloon.is_given(Ppn::new(7)));
     assert_eq!(rt; balloon.given(), 1);
     balloon.touch(Ppn::new(15));

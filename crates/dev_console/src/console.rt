@@ -51,6 +51,17 @@ impl Console {
         Ok(Console { input, output })
     }
 
+    /// The same console once more, for a snapshot: the same bytes wait in it. `AllocError` where a request for memory was
+    /// refused.
+    pub fn try_clone(&self) -> Result<Console, AllocError>
+        ensures { IfOk result (λ console. console ≡ self.now) }
+    {
+        Ok(Console {
+            input: copied(&self.input)?,
+            output: copied(&self.output)?,
+        })
+    }
+
     /// Whether input waits.
     pub fn has_input(&self) -> bool
         ensures { result ≡ has_input self.now.input }
@@ -167,6 +178,19 @@ impl Console {
         holds_bytes(&self.input);
         holds_bytes(&self.output);
     }
+}
+
+// The same buffer once more.
+#[tactic(auto, using(crate::proofs::Copies::copied_in_two))]
+fn copied(from: &HeapCircularBuffer<u8>) -> Result<HeapCircularBuffer<u8>, AllocError>
+    ensures { IfOk result (λ copy. copy ≡ from.now) }
+{
+    let _within = from.len();
+    let mut copy = HeapCircularBuffer::with_capacity(*from.allocator(), from.capacity())?;
+    let (front, back) = from.as_slices();
+    copy.extend_from_slice(front);
+    copy.extend_from_slice(back);
+    Ok(copy)
 }
 
 // The items of a buffer of bytes are bytes: those of the two slices that it stands in are.

@@ -67,3 +67,21 @@ fn output_is_drained_once(rt: HostRuntime) -> Result<(), Fail> {
     assert_eq!(rt; console.drain()?.len(), 0);
     Ok(())
 }
+
+#[test]
+fn copy_has_the_same_bytes(rt: HostRuntime) -> Result<(), Fail> {
+    let mut console = Console::new(rt.alloc())?;
+    for byte in 0..=255 {
+        assert_eq!(rt; console.feed(byte), Ok(()));
+    }
+    assert_eq!(rt; console.take_input(), 0);
+    assert_eq!(rt; console.feed(7), Ok(()));
+    console.write_output(b'o');
+    let mut copy = console.try_clone()?;
+    assert_eq!(rt; console.take_input(), 1);
+    console.write_output(b'k');
+    assert_eq!(rt; copy.take_input(), 1);
+    assert_eq!(rt; copy.drain()?.as_slice(), b"o");
+    assert_eq!(rt; console.drain()?.as_slice(), b"ok");
+    Ok(())
+}

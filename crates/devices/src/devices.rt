@@ -72,6 +72,19 @@ impl Devices {
         })
     }
 
+    /// The same devices once more, for a snapshot. `AllocError` where a request for memory was refused.
+    pub fn try_clone(&self) -> Result<Devices, AllocError>
+        ensures { IfOk result (λ devices. devices ≡ self.now) }
+    {
+        let console = self.console.try_clone()?;
+        let balloon = self.balloon.try_clone()?;
+        Ok(Devices {
+            console,
+            balloon,
+            lines: self.lines,
+        })
+    }
+
     /// The interrupt lines that are raised, bit k that of IPk: IP3 while the balloon's target differs from the number of
     /// given pages, IP2 while the console's input waits.
     #[inline(always)]

@@ -96,3 +96,18 @@ fn balloon_raises_ip3(rt: HostRuntime) -> Result<(), Fail> {
     assert_eq!(rt; devices.given(), 0);
     Ok(())
 }
+
+#[test]
+fn copy_has_the_same_lines(rt: HostRuntime) -> Result<(), Fail> {
+    let mut devices = Devices::new(rt.alloc(), 16)?;
+    devices.set_target(2);
+    assert_eq!(rt; devices.feed(0x41), Ok(()));
+    let mut copy = devices.try_clone()?;
+    assert_eq!(rt; devices.load(DeviceRegister::ConIn), 0x41);
+    devices.set_target(0);
+    assert_eq!(rt; devices.lines(), 0);
+    assert_eq!(rt; copy.lines(), 12);
+    assert_eq!(rt; copy.load(DeviceRegister::ConIn), 0x41);
+    assert_eq!(rt; copy.lines(), 8);
+    Ok(())
+}

@@ -5,7 +5,7 @@ use std::alloc::{AllocError, Global};
 pub type Form = (&'static str, &'static str, &'static str);
 
 /// The lines of the header, in the order in which they are told.
-pub static HEADER: [Form; 6] = [
+pub static HEADER: [Form; 7] = [
     ("frames", "frames N", "once"),
     ("slots", "slots N", "once"),
     ("seed", "seed N", "once"),
@@ -20,6 +20,7 @@ pub static HEADER: [Form; 6] = [
         "fail read K or fail write K (K at least 1)",
         "once at most",
     ),
+    ("profile", "profile N", "once at most"),
 ];
 
 /// The events.

@@ -113,9 +113,6 @@ fn line_text(
             "{quoted}: {form} is a line of the header, which stands {note} and before the first event"
         );
     }
-    if word == "profile" {
-        return format!(in alloc; "{quoted}: profile is not known yet");
-    }
     let words = event_words(alloc)?;
     format!(in alloc; "{quoted}: no line begins so; behind the header stand events: {words}")
 }

@@ -4,7 +4,7 @@ ghost use Rattle.elf32.specs.Faults.{has_wrong_contents, is_outside, share_addre
 
 use crate::headers::is_loadable;
 use crate::memory::Memory;
-use crate::pages::{MOST_PAGES, least_pages, least_pages_for};
+use crate::pages::{least_pages, least_pages_for};
 use crate::words::plural;
 use elf32::SEGMENT_BASE;
 use elf32::header::ProgramHeader;
@@ -106,11 +106,13 @@ pub fn place_text(
     ranges: &[AddressRange],
 ) -> Result<String, AllocError> {
     let pages = memory.pages();
-    let unheld = ranges.iter().find(|range| least_pages(range).is_none());
+    let unheld = ranges
+        .iter()
+        .find(|range| least_pages(range, memory).is_none());
     match (
         unheld,
         first_outside(ranges, pages),
-        least_pages_for(ranges),
+        least_pages_for(ranges, memory),
     ) {
         (None, Some(range), Some(wanted)) => {
             let range = range_text(alloc, &range)?;
@@ -121,8 +123,7 @@ pub fn place_text(
                 "a segment at {range} lies outside {pages} page{s} ({SEGMENT_BASE:08x} to {limit:08x}); {advice}"
             )
         }
-        (Some(range), _, _) if memory != Memory::Kseg0 => unheld_text(alloc, range, MOST_PAGES),
-        (_, Some(range), _) => unheld_text(alloc, &range, pages),
+        (Some(range), _, _) => unheld_text(alloc, range, memory),
         _ => String::from_str(alloc, "a segment lies outside the memory"),
     }
 }
@@ -132,17 +133,19 @@ fn memory_end(pages: u32) -> u64 {
     u64::from(SEGMENT_BASE) + 4096 * u64::from(pages)
 }
 
-/// A segment that no memory holds, of which the largest has so many pages.
-fn unheld_text(alloc: Global, range: &AddressRange, pages: u32) -> Result<String, AllocError> {
+/// A segment that no such memory holds, whatever its pages.
+fn unheld_text(alloc: Global, range: &AddressRange, memory: Memory) -> Result<String, AllocError> {
     let place = range_text(alloc, range)?;
+    let pages = memory.most_pages();
     let limit = memory_end(pages);
+    let of = memory.of_profile();
     let side = if range.address < SEGMENT_BASE {
         "begins below"
     } else {
         "ends past"
     };
     format!(in alloc;
-        "a segment at {place} {side} the memory, which lies at {SEGMENT_BASE:08x} to {limit:08x} at most ({pages} pages); {PLACED}"
+        "a segment at {place} {side} the memory{of}, which lies at {SEGMENT_BASE:08x} to {limit:08x} at most ({pages} pages); {PLACED}"
     )
 }
 

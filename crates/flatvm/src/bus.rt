@@ -7,7 +7,7 @@ ghost use Rattle.dev_console.specs.Console.{input_room};
 ghost use Rattle.devices.specs.Registers.{device_register_at};
 ghost use Rattle.devices.specs.Devices.{device_input_fed, device_output_drained, device_target_set};
 ghost use Rattle.elf32.specs.Images.{IsWithin, FitsPages};
-ghost use Rattle.machine.specs.Board.{Board, first_byte, bytes_of, value_in, limit_of, bytes_after, page_cleared};
+ghost use Rattle.machine.specs.Board.{Board, first_byte, bytes_of, value_in, limit_of, bytes_after, page_bytes, page_cleared};
 ghost use Rattle.machine.specs.Board.{register_reach, device_reach, reached_value, board_loaded, board_stored};
 ghost use Rattle.machine.specs.Bus.{ready_answer};
 ghost use Rattle.machine.specs.Answers.{replied};
@@ -88,8 +88,8 @@ impl FlatBus {
         }
     }
 
-    /// Puts bytes in the place of those of a page that memory has. There are 4,096 of them.
-    pub fn put_page(&mut self, page: Ppn, bytes: &[u8])
+    // Puts bytes in the place of those of a page that memory has. There are 4,096 of them.
+    fn put_page(&mut self, page: Ppn, bytes: &[u8])
         requires there { page * 4096 + 4096 ≤ length self.old.memory }
         requires whole { length bytes.now ≡ 4096 }
         ensures { self.new ≡ record self.old { memory = patched self.old.memory (page * 4096) bytes.now 4096 } }
@@ -98,12 +98,45 @@ impl FlatBus {
         self.bytes[start..start + 4096].copy_from_slice(bytes);
     }
 
-    /// Puts other devices in the place of the bus's own. They are for a memory of as many pages.
-    pub fn put_devices(&mut self, devices: Devices)
-        requires { length self.old.memory ≡ length devices.balloon.given * 4096 }
-        ensures { self.new ≡ record self.old { devices = devices } }
+    /// The same memory with its devices once more, for a snapshot. `AllocError` where a request for memory was refused.
+    pub fn try_clone(&self) -> Result<FlatBus, AllocError>
+        ensures { IfOk result (λ bus. bus ≡ self.now) }
     {
-        self.devices = devices;
+        let bytes = self.bytes.to_vec(*self.bytes.allocator())?;
+        Ok(FlatBus {
+            bytes,
+            devices: self.devices.try_clone()?,
+        })
+    }
+
+    /// Puts the bytes that a page has in another memory in the place of its own. Both have the page.
+    pub fn copy_page(&mut self, page: Ppn, from: &FlatBus)
+        requires here { page * 4096 + 4096 ≤ length self.old.memory }
+        requires there { page * 4096 + 4096 ≤ length from.now.memory }
+        ensures { self.new ≡ record self.old { memory = patched self.old.memory (page * 4096) (page_bytes page from.now.memory) 4096 } }
+    {
+        self.put_page(page, from.page(page));
+    }
+
+    // The bytes of a page that memory has.
+    fn page(&self, page: Ppn) -> &[u8]
+        requires { page * 4096 + 4096 ≤ length self.now.memory }
+        ensures bytes { result.now ≡ page_bytes page self.now.memory }
+        ensures whole { length result.now ≡ 4096 }
+    {
+        let start = page.number() as usize * 4096;
+        &self.bytes[start..start + 4096]
+    }
+
+    /// Puts the devices of another bus, once more, in the place of its own. Both memories have as many pages. `AllocError` where a request for
+    /// memory was refused, and nothing has changed then.
+    pub fn copy_devices(&mut self, from: &FlatBus) -> Result<(), AllocError>
+        requires { length self.old.memory ≡ length from.now.memory }
+        ensures copied { OnOk result (self.new ≡ record self.old { devices = from.now.devices }) }
+        ensures unchanged { OnErr result (self.new ≡ self.old) }
+    {
+        self.devices = from.devices.try_clone()?;
+        Ok(())
     }
 
     /// Asks the balloon to hold so many pages.

@@ -10,7 +10,7 @@ use Rattle.std.proofs.lemmas.List.Folds.{list_any-append}
 use Rattle.commands.specs.declared.fault.Fault.{Fault as CommandFault}
 use Rattle.commands.specs.declared.fault.Fault.TheVariants.{Memory}
 use Rattle.fuzz_command.specs.declared.fault.FuzzFault.{FuzzFault}
-use Rattle.fuzz_command.specs.declared.fault.FuzzFault.TheVariants.{Command, Line, Unread, Output}
+use Rattle.fuzz_command.specs.declared.fault.FuzzFault.TheVariants.{Command, Unready, Line, Unread, Output}
 use Rattle.fuzz_command.specs.declared.job.Job.{Job}
 use Rattle.fuzz_command.specs.declared.job.Outcome.{Outcome}
 use Rattle.fuzz_command.specs.declared.job.Outcome.TheVariants.{Waiting, Done, Refused}
@@ -223,6 +223,7 @@ is_behind : (number at : ℕ) (rest : List ℕ) (left' : Option (List ℕ)) (fau
     → IsBehind at rest left' (Fault fault)
 is_behind number at rest left' (Command fault) count none = tt
 is_behind number at rest left' (Line n) count none = let is = none n refl in (is.1, is.0 ∙ count)
+is_behind number at rest left' Unready count none = tt
 is_behind number at rest left' Unread count none = tt
 is_behind number at rest left' Output count none = tt
 
@@ -480,6 +481,7 @@ one_from files first index jobs job d inside from is = record {
 pub trial_is_no_line : (fault : FuzzFault) (n : ℕ) → IsTrialFault fault → fault ≡ Line n → ⊥
 trial_is_no_line (Command fault) n is same = cc
 trial_is_no_line (Line m) n is same = is
+trial_is_no_line Unready n is same = is
 trial_is_no_line Unread n is same = is
 trial_is_no_line Output n is same = cc
 

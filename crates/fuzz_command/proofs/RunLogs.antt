@@ -1,5 +1,5 @@
 -- Where the log of a run leads to.
-use Rattle.std.proofs.Common.{◌≡◌, ◌∙◌, refl, sym, ap, ℕ, zero, suc, ◌+◌, ◌<◌, List, [], ◌∷◌, ◌++◌, get_or, length, map, take}
+use Rattle.std.proofs.Common.{◌≡◌, ◌∙◌, refl, sym, ap, ℕ, zero, suc, ◌+◌, ◌<◌, List, [], ◌∷◌, ◌++◌, get_or, length, map, take, append_assoc, append-nil}
 use Rattle.std.proofs.lemmas.List.{map-append, take_more}
 use Rattle.items.specs.declared.item.What.TheVariants.{In}
 use Rattle.items.specs.declared.item.Item.{Item}
@@ -27,29 +27,30 @@ unfolding steps_of
 steps_run zero m = refl
 steps_run (suc n) m = steps_run n (step m) ∙ step_first n m
 
-leads : (items : List Item) (ran : Ran) (input : List ℕ) → items ≡ input_items (take ran.taken input) ++ steps_of 0 ran.steps → (m : Machine) → run items m ≡ after_run ran input m
-leads items ran input is m =
-    ap (λ (l : List Item). run l m) is ∙ run_more (input_items (take ran.taken input)) (steps_of 0 ran.steps) m
-    ∙ ap (run (steps_of 0 ran.steps)) (input_run (take ran.taken input) m) ∙ steps_run ran.steps (fed (take ran.taken input) m)
+-- no step more
+pub no_steps : (items : List Item) (count : ℕ) → count ≡ 0 → items ≡ items ++ steps_of 0 count
+unfolding steps_of
+no_steps items count none = sym (append-nil items) ∙ ap (λ (n : ℕ). items ++ steps_of 0 n) (sym none)
 
-pub leads_with_none : (items : List Item) (ran : Ran) (input : List ℕ) → items ≡ input_items (take ran.taken input) → ran.steps ≡ 0 → (m : Machine) → run items m ≡ after_run ran input m
-leads_with_none items ran input is none m =
-    ap (λ (l : List Item). run l m) is ∙ input_run (take ran.taken input) m ∙ ap (λ (n : ℕ). after_steps n (fed (take ran.taken input) m)) (sym none)
+-- the steps that make the machine ready, the input, and the steps
+pub leads : (made : ℕ) (first second items : List Item) (ran : Ran) (input : List ℕ) → first ≡ [] ++ steps_of 0 made → second ≡ first ++ input_items (take ran.taken input)
+    → items ≡ second ++ steps_of 0 ran.steps → (m : Machine) → run items m ≡ after_run ran input (after_steps made m)
+leads made first second items ran input ready taken is m =
+    ap (λ (l : List Item). run l m) is ∙ run_more second (steps_of 0 ran.steps) m
+    ∙ ap (run (steps_of 0 ran.steps)) (ap (λ (l : List Item). run l m) taken ∙ run_more first (input_items (take ran.taken input)) m
+    ∙ ap (run (input_items (take ran.taken input))) (ap (λ (l : List Item). run l m) ready ∙ steps_run made m)
+    ∙ input_run (take ran.taken input) (after_steps made m))
+    ∙ steps_run ran.steps (fed (take ran.taken input) (after_steps made m))
 
 -- the item of a byte of input
 abbrev pub item_of : ℕ → Item
 item_of byte = record { seat = 0; what = In byte }
 
 -- one byte more
-pub logged_more : (index : ℕ) (bytes : List ℕ) (items mid items' : List Item) (seat : ℕ) → index < length bytes → items ≡ input_items (take index bytes) → mid ≡ items → seat ≡ 0
-    → items' ≡ mid ++ (let i : Item = record { seat = seat; what = In (get_or bytes index 0) } in i) ∷ [] → items' ≡ input_items (take (index + 1) bytes)
-logged_more index bytes items mid items' seat inside before same by one =
+pub logged_more : (index : ℕ) (bytes : List ℕ) (first items mid items' : List Item) (seat : ℕ) → index < length bytes → items ≡ first ++ input_items (take index bytes) → mid ≡ items → seat ≡ 0
+    → items' ≡ mid ++ (let i : Item = record { seat = seat; what = In (get_or bytes index 0) } in i) ∷ [] → items' ≡ first ++ input_items (take (index + 1) bytes)
+logged_more index bytes first items mid items' seat inside before same by one =
     one ∙ ap (λ (n : ℕ). mid ++ (let i : Item = record { seat = n; what = In (get_or bytes index 0) } in i) ∷ []) by
-    ∙ ap (λ (l : List Item). l ++ item_of (get_or bytes index 0) ∷ []) (same ∙ before) ∙ sym (map-append item_of (take index bytes) (get_or bytes index 0 ∷ []))
-    ∙ ap input_items (sym (take_more bytes index 0 inside))
-
--- the steps behind the input
-pub leads_made : (before mid items : List Item) (seat : ℕ) (ran : Ran) (input : List ℕ) → before ≡ input_items (take ran.taken input) → mid ≡ before → seat ≡ 0
-    → items ≡ mid ++ steps_of seat ran.steps → (m : Machine) → run items m ≡ after_run ran input m
-leads_made before mid items seat ran input is same by made =
-    leads items ran input (made ∙ ap (λ (n : ℕ). mid ++ steps_of n ran.steps) by ∙ ap (λ (l : List Item). l ++ steps_of 0 ran.steps) (same ∙ is))
+    ∙ ap (λ (l : List Item). l ++ item_of (get_or bytes index 0) ∷ []) (same ∙ before)
+    ∙ append_assoc first (input_items (take index bytes)) (item_of (get_or bytes index 0) ∷ [])
+    ∙ ap (λ (l : List Item). first ++ l) (sym (map-append item_of (take index bytes) (get_or bytes index 0 ∷ [])) ∙ ap input_items (sym (take_more bytes index 0 inside)))

@@ -7,9 +7,11 @@ use Rattle.commands.specs.declared.fault.Fault.TheVariants.{File, Elf, Raw, Boot
 use Rattle.commands.specs.declared.order.Format.TheVariants as format
 use Rattle.commands.specs.Faults.{IsNotBooted, IsWant}
 use Rattle.fuzz_command.specs.declared.fault.FuzzFault.{FuzzFault}
-use Rattle.fuzz_command.specs.declared.fault.FuzzFault.TheVariants.{Command, Line, Unread, Output}
+use Rattle.fuzz_command.specs.declared.fault.FuzzFault.TheVariants.{Command, Unready, Line, Unread, Output}
 use Rattle.fuzz_command.specs.declared.order.FuzzOrder.{FuzzOrder}
 use Rattle.fuzz_command.specs.declared.order.InputFile.{InputFile}
+use Rattle.fuzz_command.specs.declared.order.Ready.{Ready}
+use Rattle.fuzz_command.specs.declared.order.Ready.TheVariants.{Address}
 
 -- one of the files is read at this place
 pub record IsInput (files : List InputFile) (name : Bor (List ℕ)) : Type 0 where
@@ -27,6 +29,7 @@ IsTrialFault other = ⊥
 -- of the lines of a reader: that, or one is no input, or they can't be read
 abbrev pub IsLinesFault : FuzzFault → Type 0
 IsLinesFault (Command fault) = IsWant fault
+IsLinesFault Unready = ⊥
 IsLinesFault (Line number) = Unit {0}
 IsLinesFault Unread = Unit {0}
 IsLinesFault Output = Unit {0}
@@ -55,13 +58,26 @@ abbrev pub IsCommandFault : FuzzOrder → Fault → Type 0
 IsCommandFault order (File name) = (name ≡ order.run.image) ⊎ (order.logs ≡ Some name) ⊎ IsInput order.inputs.items name
 IsCommandFault order (Elf fault) = order.run.format ≡ format.Elf
 IsCommandFault order Raw = order.run.format ≡ format.Raw
-IsCommandFault order (Boot error) = IsNotBooted order.run.pages error
+IsCommandFault order (Boot error) = IsNotBooted order.run.profile order.run.pages error
 IsCommandFault order Memory = Unit {0}
 IsCommandFault order other = ⊥
 
--- of an order: what reads lines is at fault only where no file is given
+-- of a machine that is made ready: memory was refused, or it does not come to the address where it is ready
+abbrev pub IsReadyFault : Ready → FuzzFault → Type 0
+IsReadyFault ready (Command fault) = fault ≡ Memory
+IsReadyFault ready Unready = (address : ℕ) × (ready ≡ Address address)
+IsReadyFault ready other = ⊥
+
+-- of what an order asks for, before an input is looked at: a file, an image, a boot or memory, or the machine is never ready
+abbrev pub IsSettingFault : FuzzOrder → FuzzFault → Type 0
+IsSettingFault order (Command fault) = IsCommandFault order fault
+IsSettingFault order Unready = (address : ℕ) × (order.ready ≡ Address address)
+IsSettingFault order other = ⊥
+
+-- of an order: only to an address a machine may not come, and what reads lines is at fault only where no file is given
 abbrev pub IsFuzzFault : FuzzOrder → FuzzFault → Type 0
 IsFuzzFault order (Command fault) = IsCommandFault order fault
+IsFuzzFault order Unready = (address : ℕ) × (order.ready ≡ Address address)
 IsFuzzFault order (Line number) = order.inputs.items ≡ []
 IsFuzzFault order Unread = order.inputs.items ≡ []
 IsFuzzFault order Output = Unit {0}

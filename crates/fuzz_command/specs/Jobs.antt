@@ -51,9 +51,9 @@ pub record IsRunOf (s : Setting) (job job' : Job) : Type 0 where
   pub input : job_input job' ≡ job_input job
   pub run : HasRun s job'
 
--- a machine that runs inputs, if there is one, goes back to the boot of a setting
+-- a machine that runs inputs, if there is one, goes back to where a setting's is ready
 abbrev pub IsReusable : Setting → Option Resettable → Type 0
-IsReusable s used = IfSome used (λ m. m.boot ≡ s.boot)
+IsReusable s used = IfSome used (λ m. m.home ≡ s.home)
 
 -- the items of a log that are bytes of input by the runner's seat
 abbrev pub input_items : List ℕ → List Item

@@ -2,5 +2,6 @@ pub mod Faults
 pub mod Inputs
 pub mod Jobs
 pub mod Lines
+pub mod Logs
 pub mod Settings
 pub mod Writing

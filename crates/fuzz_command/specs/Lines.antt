@@ -20,15 +20,15 @@ pub record Trial : Type 0 where
   pub input : List ℕ
   pub ran : Ran
 
--- its run was one of the machine that the image boots, after this input alone: so far it went, and no farther than to the first state that it
--- was to end at
+-- its run was one of the machine where it is ready, after this input alone: so far it went, and no farther than to the first state that it was
+-- to end at
 pub record IsTrial (s : Setting) (t : Trial) : Type 0 where
   pub count : IsCount t.input s.steps t.ran
-  pub first : IsFirst s.until (fed (take t.ran.taken t.input) s.boot) t.ran
+  pub first : IsFirst s.until (fed (take t.ran.taken t.input) s.home) t.ran
 
 -- what the console had put out when the run was over
 abbrev pub output_after : Setting → Trial → List ℕ
-output_after s t = (after_run t.ran t.input s.boot).board.devices.console.output
+output_after s t = (after_run t.ran t.input s.home).board.devices.console.output
 
 -- the guest stopped before its last step
 abbrev pub has_stopped : Trial → Bool

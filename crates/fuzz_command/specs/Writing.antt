@@ -8,7 +8,7 @@ use Rattle.commands.specs.Raw.{IsPageCount}
 use Rattle.commands.specs.Runs.{IsImageOf}
 use Rattle.runs.specs.declared.running.Ran.{Ran}
 use Rattle.fuzz_command.specs.declared.order.FuzzOrder.{FuzzOrder}
-use Rattle.fuzz_command.specs.Settings.{Setting, setting_in}
+use Rattle.fuzz_command.specs.Settings.{IsSettingOf, Setting}
 use Rattle.fuzz_command.specs.Lines.{IsTrial, Trial, has_stopped, line_text}
 use Rattle.fuzz_command.specs.Inputs.{AreBefore, AreInputs, BeginInputs, input_of}
 
@@ -48,20 +48,24 @@ pub record Begins (s : Setting) (AreTheirs : List Trial → Type 0) (known known
 -- the image that is run is one that a file of known bytes stands for, by the order's format, and its pages hold it
 pub record IsImage (order : FuzzOrder) (file : Option (List ℕ)) (image : Image) : Type 0 where
   pub stands : IfSome file (λ all. IsImageOf order.run.format order.run.pages all image)
-  pub legal : IsPageCount order.run.pages
+  pub legal : IsPageCount order.run.profile order.run.pages
   pub fits : FitsPages image order.run.pages
 
--- the lines of all inputs are written: each is of the machine that the image boots, after its own input alone
+-- the lines of all inputs are written: each is of the machine that the image boots, after the steps that make it ready and its own input alone
 pub record IsFuzzed (order : FuzzOrder) (file had known known' : Option (List ℕ)) (stopped : Bool) : Type 0 where
   pub image : Image
   pub is : IsImage order file image
-  pub writes : Writes (setting_in order image) (AreInputs order.inputs.items had) known known' stopped
+  pub setting : Setting
+  pub asked : IsSettingOf order image setting
+  pub writes : Writes setting (AreInputs order.inputs.items had) known known' stopped
 
 -- the lines of the first of them are
 pub record HasBegun (order : FuzzOrder) (file had known known' : Option (List ℕ)) : Type 0 where
   pub image : Image
   pub is : IsImage order file image
-  pub begins : Begins (setting_in order image) (BeginInputs order.inputs.items had) known known'
+  pub setting : Setting
+  pub asked : IsSettingOf order image setting
+  pub begins : Begins setting (BeginInputs order.inputs.items had) known known'
 
 -- nothing is written, or the lines of the first inputs are
 abbrev pub IsLeft : FuzzOrder → Option (List ℕ) → Option (List ℕ) → Option (List ℕ) → Option (List ℕ) → Type 0
@@ -71,4 +75,6 @@ IsLeft order file had known known' = (known' ≡ known) ⊎ HasBegun order file 
 pub record IsBroken (order : FuzzOrder) (file had known known' : Option (List ℕ)) (number : ℕ) : Type 0 where
   pub image : Image
   pub is : IsImage order file image
-  pub begins : Begins (setting_in order image) (AreBefore number had) known known'
+  pub setting : Setting
+  pub asked : IsSettingOf order image setting
+  pub begins : Begins setting (AreBefore number had) known known'

@@ -13,6 +13,9 @@ pub enum FuzzFault<'a> {
     /// A file, an image, a boot or memory, as of other commands. Of an input's file also that it has more than 256 bytes.
     #[error("{0}")]
     Command(Fault<'a>),
+    /// The machine does not come to the address where it is ready.
+    #[error("ready")]
+    Unready,
     /// The line of this number, counted from 1, is no input: no even number of hexadecimal digits, or more than 512.
     #[error("input line {0}")]
     Line(usize),

@@ -3,7 +3,7 @@ ghost use Rattle.std.specs.Prelude.{◌≡◌, ◌≢◌, ◌<◌, ◌≤◌, If
 ghost use Rattle.fuzz_command.specs.Faults.{IsFileFault, IsFilesFault};
 ghost use Rattle.fuzz_command.specs.Inputs.{AreFiles, BeginFiles};
 ghost use Rattle.fuzz_command.specs.Jobs.{TakesFiles, job_name};
-ghost use Rattle.fuzz_command.specs.Settings.{CanBoot, setting_of};
+ghost use Rattle.fuzz_command.specs.Settings.{CanRun, setting_of};
 ghost use Rattle.fuzz_command.specs.Writing.{Begins, Writes};
 
 use crate::fault::FuzzFault;
@@ -131,7 +131,7 @@ pub(crate) fn fuzz_files<'a, R: Files + AllocGlobal + Threads + Sync, K: CrashKe
     keeper: &mut K,
     out: &mut O,
 ) -> Result<bool, FuzzFault<'a>>
-    requires boots { CanBoot setting.now }
+    requires can { CanRun setting.now }
     ensures lines { IfOk result (λ stopped. Writes (setting_of setting.now) (AreFiles files.now) (O.contents out.old) (O.contents out.new) stopped) }
     ensures begun { IfErr result (λ fault. fault ≢ FuzzFault.Output → Begins (setting_of setting.now) (BeginFiles files.now) (O.contents out.old) (O.contents out.new)) }
     ensures faults { IfErr result (IsFilesFault files.now) }

@@ -2,9 +2,9 @@
 ghost use Rattle.std.specs.Prelude.{◌≡◌, ◌≢◌, ℕ, None, IfErr, IfOk, IsErrOf};
 ghost use Rattle.commands.specs.Raw.{IsPageCount};
 ghost use Rattle.elf32.specs.Images.{FitsPages};
-ghost use Rattle.fuzz_command.specs.Faults.{IsCommandFault, IsFuzzFault};
+ghost use Rattle.fuzz_command.specs.Faults.{IsCommandFault, IsFuzzFault, IsSettingFault};
 ghost use Rattle.fuzz_command.specs.Inputs.{AreBefore, AreInputs, BeginInputs};
-ghost use Rattle.fuzz_command.specs.Settings.{CanBoot, setting_in, setting_of};
+ghost use Rattle.fuzz_command.specs.Settings.{CanRun, IsSettingOf, setting_of};
 ghost use Rattle.fuzz_command.specs.Writing.{Begins, IsBroken, IsFuzzed, IsImage, IsLeft, Writes};
 
 use crate::fault::FuzzFault;
@@ -12,17 +12,17 @@ use crate::files::fuzz_files;
 use crate::lines::{MOST_LINE, fuzz_lines};
 use crate::logs::{CrashKeeper, CrashLogs, logs_are_apart};
 use crate::order::FuzzOrder;
+use crate::ready::make_ready;
 use crate::setting::Setting;
 use commands::Fault;
 use commands::exec::load;
 use commands::fault::of_file;
 use commands::image_file::Loaded;
 use elf32::Image;
-use std::alloc::{AllocError, Global};
+use std::alloc::Global;
 use std::fs::File;
 use std::io::{BufRead, BufReader, Read, Write};
 use std::rt::Files;
-use std::sync::Arc;
 use std::thread::Threads;
 
 /// How the runs of all inputs went.
@@ -46,7 +46,7 @@ fn run_inputs<'a, R: Files + AllocGlobal + Threads + Sync, I: BufRead, K: CrashK
     keeper: &mut K,
     out: &mut O,
 ) -> Result<bool, FuzzFault<'a>>
-    requires boots { CanBoot setting.now }
+    requires can { CanRun setting.now }
     ensures lines { IfOk result (λ stopped. Writes (setting_of setting.now) (AreInputs order.now.inputs.items (I.remaining input.old)) (O.contents out.old) (O.contents out.new) stopped) }
     ensures broken { (n : ℕ) → IsErrOf result (FuzzFault.Line n) → Begins (setting_of setting.now) (AreBefore n (I.remaining input.old)) (O.contents out.old) (O.contents out.new) }
     ensures begun { IfErr result (λ fault. fault ≢ FuzzFault.Output → Begins (setting_of setting.now) (BeginInputs order.now.inputs.items (I.remaining input.old)) (O.contents out.old) (O.contents out.new)) }
@@ -67,6 +67,7 @@ fn run_inputs<'a, R: Files + AllocGlobal + Threads + Sync, I: BufRead, K: CrashK
 /// Runs the image in a file on each of the inputs of an order, as `fuzz_order` does.
 ///
 /// An error is one of `fuzz_order`, but that the file is open and no log is in its way.
+#[tactic(auto, using(crate::proofs::Faults::of_setting))]
 pub fn fuzz_file<'a, R: Files + AllocGlobal + Threads + Sync, F: Read + Drop, I: BufRead, O: Write>(
     rt: &R,
     file: F,
@@ -81,7 +82,7 @@ pub fn fuzz_file<'a, R: Files + AllocGlobal + Threads + Sync, F: Read + Drop, I:
 {
     let Loaded { image, digest } = load_image(rt.alloc(), file, order)?;
     let mut logs = CrashLogs::new(rt, order)?;
-    let setting = shared(rt.alloc(), order, image, digest)?;
+    let setting = settled(rt.alloc(), order, &image, digest)?;
     let stopped = run_inputs(rt, order, &setting, input, &mut logs, out)?;
     Ok(FuzzEnd {
         stopped,
@@ -101,21 +102,24 @@ fn load_image<'a, F: Read + Drop>(
     load(alloc, file, order.run)
 }
 
-// How an order runs an image, which all guests are to boot from.
-fn shared<'o, 'a>(
+// How an order runs an image, whose machine is made ready.
+fn settled<'o, 'a>(
     alloc: Global,
     order: &'o FuzzOrder<'a>,
-    image: Image,
+    image: &Image,
     digest: [u8; 32],
-) -> Result<Setting<'o>, AllocError>
-    requires legal { IsPageCount order.now.run.pages }
-    requires fits { FitsPages image order.now.run.pages }
-    ensures boots { IfOk result CanBoot }
-    ensures setting { IfOk result (λ setting. setting_of setting ≡ setting_in order.now image) }
+) -> Result<Setting<'o>, FuzzFault<'a>>
+    requires legal { IsPageCount order.now.run.profile order.now.run.pages }
+    requires fits { FitsPages image.now order.now.run.pages }
+    ensures can { IfOk result CanRun }
+    ensures setting { IfOk result (λ setting. IsSettingOf order.now image.now (setting_of setting)) }
+    ensures faults { IfErr result (IsSettingFault order.now) }
 {
-    let image = Arc::new(alloc, image)?;
+    let (home, made) = make_ready(alloc, order, image)?;
     Ok(Setting {
-        image,
+        home,
+        made,
+        profile: order.run.profile,
         pages: order.run.pages,
         steps: order.run.steps,
         until: &order.until,
@@ -125,12 +129,13 @@ fn shared<'o, 'a>(
 }
 
 /// Runs the image of an order on each of its inputs, or, where it has none, on each line that is read from `input`, of hexadecimal digits: each
-/// on a machine that is as the image boots. The line of each is written as soon as its run is over: it says how far the run went, why it ended,
+/// on a machine that is as the order makes it ready. The line of each is written as soon as its run is over: it says how far the run went, why it ended,
 /// and what the console had put out. The logs of runs that end in an exception are written into the directory of the order, if it names one.
 ///
 /// An error is `Command`: `File` where a log would be written over the image or an input's file, and then where the image's file can't be read;
 /// of the image `Elf`, `Raw` and `Boot` as `run_image` has them; `File` where the directory of the logs can't be made, and then where an input's
-/// file can't be read or has more than 256 bytes; `Boot` and `Memory` where a request for memory was refused. `Line` with the number of the first
+/// file can't be read or has more than 256 bytes; `Boot` and `Memory` where a request for memory was refused. `Unready`, before any input is read, where the machine does not come to the address where it
+/// is ready: it stays in a loop for ever, or has made 2^30 steps. `Line` with the number of the first
 /// line that is no input; `Unread` where the lines can't be read; `Output` where a line could not be written. But for the last the lines of the
 /// inputs before stand, and nothing else.
 pub fn fuzz_order<'a, R: Files + AllocGlobal + Threads + Sync, I: BufRead, O: Write>(

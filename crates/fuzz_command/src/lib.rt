@@ -1,9 +1,10 @@
-//! The command `fuzz`: one image on many inputs, each on a machine that is as the image boots, in one process.
+//! The command `fuzz`: one image on many inputs, each on a machine that is ready for it, in one process.
 //!
 //! The crates above use `fuzz_order`, which opens a file and has `fuzz_file` do what a `FuzzOrder` says: it loads the image once (`commands::exec::load`), makes the directory for logs,
+//! makes a machine ready by the steps that the order asks for (`ready`),
 //! and then takes a batch of inputs after another (`lines`, `files`). Each thread runs its share of a batch on one machine,
-//! which goes back to its boot before each input (`ResetMachine::reset`), and makes the line of each (`running`); then the lines are written in order (`writing`).
-//! So each line is a function of the image, the input and the order: `IsFuzzed` says that it is the line of the machine that the image boots, after its own
+//! which goes back to where it was ready before each input (`ResetMachine::reset`), and makes the line of each (`running`); then the lines are written in order (`writing`).
+//! So each line is a function of the image, the input and the order: `IsFuzzed` says that it is the line of the machine that the image boots, after the steps that make it ready and its own
 //! input alone, and that the lines stand in the order of the inputs, however many are run at once (`specs/Writing.antt`).
 //!
 //! Definitions: `specs/Lines.antt` has the line of a run, `specs/Inputs.antt` which inputs the lines of a reader are, `specs/Jobs.antt` what a batch
@@ -19,6 +20,7 @@ mod line;
 mod lines;
 mod logs;
 pub mod order;
+mod ready;
 mod run_log;
 mod running;
 mod setting;
@@ -27,4 +29,4 @@ mod writing;
 pub use fault::FuzzFault;
 pub use fuzz::{FuzzEnd, fuzz_file, fuzz_order};
 pub use jobs::Jobs;
-pub use order::{FuzzOrder, InputFile, Shown};
+pub use order::{FuzzOrder, InputFile, Ready, Shown};

@@ -9,7 +9,7 @@ ghost use Rattle.fuzz_command.specs.Faults.{IsLinesFault, IsReadFault};
 ghost use Rattle.fuzz_command.specs.Inputs as spec;
 ghost use Rattle.fuzz_command.specs.Inputs.{AreBefore, AreInputs, BeginInputs, IsNext, IsNoLine};
 ghost use Rattle.fuzz_command.specs.Jobs.{IfFault, IsNextJob, IsNumbered, TakesLine, TakesLines};
-ghost use Rattle.fuzz_command.specs.Settings.{CanBoot, setting_of};
+ghost use Rattle.fuzz_command.specs.Settings.{CanRun, setting_of};
 ghost use Rattle.fuzz_command.specs.Writing.{Begins, Writes};
 
 use crate::fault::FuzzFault;
@@ -196,7 +196,7 @@ pub(crate) fn fuzz_lines<
     keeper: &mut K,
     out: &mut O,
 ) -> Result<bool, FuzzFault<'a>>
-    requires boots { CanBoot setting.now }
+    requires can { CanRun setting.now }
     ensures lines { IfOk result (λ stopped. Writes (setting_of setting.now) (AreInputs [] (B.remaining input.old)) (O.contents out.old) (O.contents out.new) stopped) }
     ensures broken { (n : ℕ) → IsErrOf result (FuzzFault.Line n) → Begins (setting_of setting.now) (AreBefore n (B.remaining input.old)) (O.contents out.old) (O.contents out.new) }
     ensures begun { IfErr result (λ fault. fault ≢ FuzzFault.Output → Begins (setting_of setting.now) (BeginInputs [] (B.remaining input.old)) (O.contents out.old) (O.contents out.new)) }

@@ -8,6 +8,8 @@ use runs::Until;
 pub struct FuzzOrder<'a> {
     /// The image, and how a run of it is made: `exec` would do the same with each input. Its log and its machine are not looked at.
     pub run: Exec<'a>,
+    /// Where each input is taken: the machine has come there once, from its boot and without input.
+    pub ready: Ready,
     /// The states that a run is to end at.
     pub until: Until,
     /// How the output is shown.
@@ -19,6 +21,17 @@ pub struct FuzzOrder<'a> {
     pub inputs: Vec<InputFile<'a>>,
     /// How many inputs are run at once. What is printed is the same with any number.
     pub jobs: Jobs,
+}
+
+/// Where a machine is ready for input.
+#[derive(Clone, Copy, Debug, PartialEq, Eq)]
+pub enum Ready {
+    /// As its image boots.
+    Boot,
+    /// After so many steps from there.
+    Steps(u32),
+    /// When PC is this address for the first time.
+    Address(u32),
 }
 
 /// A file with the console input of a run.

@@ -1,8 +1,9 @@
 //! The log of a run.
-ghost use Rattle.std.specs.Prelude.{◌≡◌, ◌≤◌, IfOk, length};
+ghost use Rattle.std.specs.Prelude.{◌≡◌, ◌≤◌, ◌++◌, IfOk, OnOk, length};
+ghost use Rattle.items.specs.Entries.{steps_of};
 ghost use Rattle.machine.specs.Step.{Machine};
 ghost use Rattle.machine.specs.Items.{run as after_items};
-ghost use Rattle.runs.specs.Runs.{after_run};
+ghost use Rattle.runs.specs.Runs.{after_run, after_steps};
 ghost use Rattle.fuzz_command.specs.Jobs.{input_items};
 
 use guest_log::{Log, Stop};
@@ -13,11 +14,26 @@ use std::alloc::Global;
 /// The greatest number of runs of the log: a byte of input is one, and so are the steps.
 const LOG_RUNS: u32 = 1 << 20;
 
-// The log of input: each byte an item of the runner's seat, in order.
-fn input_log(alloc: Global, bytes: &[u8]) -> Result<Log, Stop>
-    ensures { IfOk result (λ log. log.items ≡ input_items bytes.now) }
+// Adds so many steps of the runner's seat to a log.
+#[tactic(auto, using(crate::proofs::RunLogs::no_steps))]
+fn add_steps(log: &mut Log, count: u32) -> Result<(), Stop>
+    ensures { OnOk result (log.new.items ≡ log.old.items ++ steps_of 0 count) }
 {
-    let mut log = Log::new(alloc, LOG_RUNS);
+    if count == 0 {
+        return Ok(());
+    }
+    log.make_room()?;
+    if log.steps_with_room(SeatNo::runner(), count) < count {
+        return Err(Stop::LogFull);
+    }
+    log.steps(SeatNo::runner(), count);
+    Ok(())
+}
+
+// Adds input to a log: each byte an item of the runner's seat, in order.
+fn add_input(log: &mut Log, bytes: &[u8]) -> Result<(), Stop>
+    ensures { OnOk result (log.new.items ≡ log.old.items ++ input_items bytes.now) }
+{
     for byte in bytes {
         log.make_item_room()?;
         log.add(Item {
@@ -25,25 +41,21 @@ fn input_log(alloc: Global, bytes: &[u8]) -> Result<Log, Stop>
             what: What::In(*byte),
         });
     }
-    Ok(log)
+    Ok(())
 }
 
-/// The log of a run of an input: the bytes that were taken, and then the steps, as items of the runner's seat. On any machine it leads to where
-/// the run has led to.
+/// The log of a run of an input: the steps that make the machine ready, the bytes that were taken, and then the steps, as items of the runner's
+/// seat. From where a machine boots it leads to where the run has led to.
 ///
 /// An error says that there was no memory for it, or that it would have too many items.
-pub(crate) fn log_of(alloc: Global, input: &[u8], ran: Ran) -> Result<Log, Stop>
+#[tactic(auto, using(crate::proofs::RunLogs::leads))]
+pub(crate) fn log_of(alloc: Global, made: u32, input: &[u8], ran: Ran) -> Result<Log, Stop>
     requires { ran.taken ≤ length input.now }
-    ensures { IfOk result (λ log. (m : Machine) → after_items log.items m ≡ after_run ran input.now m) }
+    ensures { IfOk result (λ log. (m : Machine) → after_items log.items m ≡ after_run ran input.now (after_steps made m)) }
 {
-    let mut log = input_log(alloc, &input[..ran.taken])?;
-    if ran.steps == 0 {
-        return Ok(log);
-    }
-    log.make_room()?;
-    if log.steps_with_room(SeatNo::runner(), ran.steps) < ran.steps {
-        return Err(Stop::LogFull);
-    }
-    log.steps(SeatNo::runner(), ran.steps);
+    let mut log = Log::new(alloc, LOG_RUNS);
+    add_steps(&mut log, made)?;
+    add_input(&mut log, &input[..ran.taken])?;
+    add_steps(&mut log, ran.steps)?;
     Ok(log)
 }

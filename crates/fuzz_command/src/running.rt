@@ -2,7 +2,8 @@
 ghost use Rattle.std.specs.Prelude.{◌≡◌, ◌≤◌, ◌<◌, ℕ, IfOk, IfSome, length, slice_index_or, string_bytes};
 ghost use Rattle.fuzz_command.specs.Jobs.{IsOutcome, IsReusable, IsRunOf};
 ghost use Rattle.fuzz_command.specs.Lines.{IsTrial, line_text};
-ghost use Rattle.fuzz_command.specs.Settings.{CanBoot, setting_of};
+ghost use Rattle.fuzz_command.specs.Logs.{IsCrashLog, IsRunLog, is_exception};
+ghost use Rattle.fuzz_command.specs.Settings.{CanRun, setting_of};
 
 use crate::job::{CrashLog, Job, Outcome, RunResult, Want};
 use crate::jobs::Jobs;
@@ -16,47 +17,64 @@ use std::alloc::{AllocError, Global};
 use std::thread::{Threads, for_each_chunk_mut};
 
 // Whether a run ended in an exception.
-fn is_exception(ran: Ran) -> bool {
+fn ends_in_exception(ran: Ran) -> bool
+    ensures { result ≡ is_exception ran.ending }
+{
     matches!(ran.ending, Some(Ending::Exception(_, _)))
+}
+
+// The bytes of the file of the log of a run of an input, of an image of this digest; none where there is no memory for them.
+fn file_of(
+    alloc: Global,
+    setting: &Setting<'_>,
+    digest: &[u8; 32],
+    input: &[u8],
+    ran: Ran,
+) -> Option<Vec<u8>>
+    requires { ran.taken ≤ length input.now }
+    ensures { IfSome result (λ bytes. IsRunLog setting.now digest.now input.now ran bytes.items) }
+{
+    let log = log_of(alloc, setting.made, input, ran).ok()?;
+    log_bytes(alloc, &log, setting.profile, setting.pages, digest).ok()
 }
 
 // The log of a run of an input, where such logs are kept: of one that ended in an exception.
 fn crash_log(alloc: Global, setting: &Setting<'_>, input: &[u8], ran: Ran) -> CrashLog
     requires { ran.taken ≤ length input.now }
+    ensures { IsCrashLog setting.now input.now ran result }
 {
-    match setting.logs {
-        Some(digest) if is_exception(ran) => match log_of(alloc, input, ran) {
-            Ok(log) => match log_bytes(alloc, &log, setting.pages, &digest) {
-                Ok(bytes) => CrashLog::File(bytes),
-                Err(_) => CrashLog::Lost,
-            },
-            Err(_) => CrashLog::Lost,
-        },
-        _ => CrashLog::Unwanted,
+    let Some(digest) = &setting.logs else {
+        return CrashLog::Unwanted;
+    };
+    if !ends_in_exception(ran) {
+        return CrashLog::Unwanted;
+    }
+    match file_of(alloc, setting, digest, input, ran) {
+        Some(bytes) => CrashLog::File(bytes),
+        None => CrashLog::Lost,
     }
 }
 
-// A machine as the image boots: where there is one that has run inputs before, it goes back to its boot.
-fn machine_at_boot(
+// A machine that is ready: where there is one that has run inputs before, it goes back.
+fn ready_machine(
     alloc: Global,
     setting: &Setting<'_>,
     used: Option<ResetMachine>,
 ) -> Result<ResetMachine, AllocError>
-    requires boots { CanBoot setting.now }
     requires reusable { IsReusable (setting_of setting.now) used }
-    ensures machine { IfOk result (λ m. m.machine ≡ (setting_of setting.now).boot) }
-    ensures boot { IfOk result (λ m. m.boot ≡ (setting_of setting.now).boot) }
+    ensures machine { IfOk result (λ m. m.machine ≡ (setting_of setting.now).home) }
+    ensures home { IfOk result (λ m. m.home ≡ (setting_of setting.now).home) }
 {
     match used {
         Some(mut machine) => {
-            machine.reset(alloc)?;
+            machine.reset()?;
             Ok(machine)
         }
-        None => ResetMachine::boot(alloc, setting.image.clone()?, setting.pages),
+        None => ResetMachine::new(alloc, setting.home.clone()?),
     }
 }
 
-// Runs an input on a machine that is as the image boots.
+// Runs an input on a machine that is ready.
 fn run_input(
     alloc: Global,
     setting: &Setting<'_>,
@@ -64,11 +82,13 @@ fn run_input(
     input: &[u8],
     machine: &mut ResetMachine,
 ) -> Result<RunResult, AllocError>
+    requires can { CanRun setting.now }
     requires few { length input.now ≤ 256 }
-    requires machine { machine.old.machine ≡ (setting_of setting.now).boot }
+    requires machine { machine.old.machine ≡ (setting_of setting.now).home }
     ensures trial { IfOk result (λ done. IsTrial (setting_of setting.now) (record { name = name.now; input = input.now; ran = done.ran })) }
     ensures text { IfOk result (λ done. string_bytes done.text ≡ line_text (setting_of setting.now) (record { name = name.now; input = input.now; ran = done.ran })) }
-    ensures boot { machine.new.boot ≡ machine.old.boot }
+    ensures log { IfOk result (λ done. IsCrashLog setting.now input.now done.ran done.log) }
+    ensures home { machine.new.home ≡ machine.old.home }
 {
     let ran = run(machine, input, setting.steps, setting.until, &mut Nobody);
     let log = crash_log(alloc, setting, input, ran);
@@ -76,7 +96,7 @@ fn run_input(
     Ok(RunResult { text, ran, log })
 }
 
-// What becomes of the run of an input on a machine that is as the image boots.
+// What becomes of the run of an input on a machine that is ready.
 fn outcome_on(
     alloc: Global,
     setting: &Setting<'_>,
@@ -84,10 +104,11 @@ fn outcome_on(
     input: &[u8],
     machine: &mut ResetMachine,
 ) -> Outcome
+    requires can { CanRun setting.now }
     requires few { length input.now ≤ 256 }
-    requires machine { machine.old.machine ≡ (setting_of setting.now).boot }
+    requires machine { machine.old.machine ≡ (setting_of setting.now).home }
     ensures outcome { IsOutcome (setting_of setting.now) name.now input.now result }
-    ensures boot { machine.new.boot ≡ machine.old.boot }
+    ensures home { machine.new.home ≡ machine.old.home }
 {
     match run_input(alloc, setting, name, input, machine) {
         Ok(done) => Outcome::Done(done),
@@ -102,12 +123,12 @@ fn run_job(
     used: Option<ResetMachine>,
     job: &mut Job,
 ) -> Option<ResetMachine>
-    requires boots { CanBoot setting.now }
+    requires can { CanRun setting.now }
     requires reusable { IsReusable (setting_of setting.now) used }
     ensures run { IsRunOf (setting_of setting.now) job.old job.new }
     ensures reusable { IsReusable (setting_of setting.now) result }
 {
-    match machine_at_boot(alloc, setting, used) {
+    match ready_machine(alloc, setting, used) {
         Ok(mut machine) => {
             job.outcome = outcome_on(
                 alloc,
@@ -132,7 +153,7 @@ fn run_share(
     used: Option<ResetMachine>,
     share: &mut [Job],
 ) -> Option<ResetMachine>
-    requires boots { CanBoot setting.now }
+    requires can { CanRun setting.now }
     requires reusable { IsReusable (setting_of setting.now) used }
     ensures count { length share.new ≡ length share.old }
     ensures run { (index : ℕ) (d : _) → index < length share.old → IsRunOf (setting_of setting.now) (slice_index_or share.old index d) (slice_index_or share.new index d) }
@@ -155,7 +176,7 @@ pub(crate) fn run_jobs<R: Threads + Sync>(
     used: Option<ResetMachine>,
     jobs: &mut [Job],
 ) -> Option<ResetMachine>
-    requires boots { CanBoot setting.now }
+    requires can { CanRun setting.now }
     requires reusable { IsReusable (setting_of setting.now) used }
     ensures count { length jobs.new ≡ length jobs.old }
     ensures run { (index : ℕ) (d : _) → index < length jobs.old → IsRunOf (setting_of setting.now) (slice_index_or jobs.old index d) (slice_index_or jobs.new index d) }
@@ -166,7 +187,7 @@ pub(crate) fn run_jobs<R: Threads + Sync>(
         return run_share(alloc, setting, used, jobs);
     }
     let run = |_start: usize, share: &mut [Job]|
-        requires { CanBoot setting.now }
+        requires { CanRun setting.now }
         ensures { (index : ℕ) (d : _) → index < length share.entry.now → IsRunOf (setting_of setting.entry.now) (slice_index_or share.entry.now index d) (slice_index_or share.exit.now index d) }
     { run_alone(alloc, setting, share) };
     for_each_chunk_mut(rt, jobs, share_of(jobs.len(), threads), &run);
@@ -175,7 +196,7 @@ pub(crate) fn run_jobs<R: Threads + Sync>(
 
 // Runs inputs, one after another, on a machine of their own.
 fn run_alone(alloc: Global, setting: &Setting<'_>, share: &mut [Job])
-    requires boots { CanBoot setting.now }
+    requires can { CanRun setting.now }
     ensures count { length share.new ≡ length share.old }
     ensures run { (index : ℕ) (d : _) → index < length share.old → IsRunOf (setting_of setting.now) (slice_index_or share.old index d) (slice_index_or share.new index d) }
 {

@@ -1,6 +1,7 @@
 //! What an input is run on, and how.
 use crate::order::Shown;
-use elf32::Image;
+use mips_cp0::Profile;
+use reset_machine::Home;
 use runs::Until;
 use std::alloc::Global;
 use std::sync::Arc;
@@ -8,11 +9,15 @@ use std::sync::Arc;
 /// What each input is run on, and how.
 #[derive(Drop)]
 pub struct Setting<'a> {
-    /// The image, of which each guest boots.
-    pub image: Arc<Image, Global>,
-    /// How many pages a guest's memory has.
+    /// The machine where it is ready for input: each machine that runs inputs begins there, and goes back to it.
+    pub home: Arc<Home, Global>,
+    /// How many steps it had made since its boot.
+    pub made: u32,
+    /// The profile of its processor.
+    pub profile: Profile,
+    /// How many pages its memory has.
     pub pages: u32,
-    /// How many steps are to be made.
+    /// How many steps are to be made behind each input.
     pub steps: u32,
     /// The states that a run is to end at.
     pub until: &'a Until,

@@ -4,7 +4,7 @@ ghost use Rattle.std.specs.Io.KnownBytes.{Appends};
 ghost use Rattle.fuzz_command.specs.Faults.{IsTrialFault};
 ghost use Rattle.fuzz_command.specs.Jobs.{AreJobs, BeginJobs, HasRun, IsOver, IsReusable, job_input, job_name};
 ghost use Rattle.fuzz_command.specs.Settings as settings;
-ghost use Rattle.fuzz_command.specs.Settings.{CanBoot, setting_of};
+ghost use Rattle.fuzz_command.specs.Settings.{CanRun, setting_of};
 ghost use Rattle.fuzz_command.specs.Writing.{Begins, Writes, WritesLine};
 
 use crate::fault::FuzzFault;
@@ -86,7 +86,7 @@ fn run_and_write<'a, R: Threads + Sync, K: CrashKeeper, O: Write>(
     keeper: &mut K,
     out: &mut O,
 ) -> Result<bool, FuzzFault<'a>>
-    requires boots { CanBoot setting.now }
+    requires can { CanRun setting.now }
     requires reusable { IsReusable (setting_of setting.now) machine.old }
     ensures lines { IfOk result (λ stopped. Writes (setting_of setting.now) (AreJobs jobs.old) (O.contents out.old) (O.contents out.new) stopped) }
     ensures begun { IfErr result (λ fault. fault ≢ FuzzFault.Output → Begins (setting_of setting.now) (BeginJobs jobs.old) (O.contents out.old) (O.contents out.new)) }
@@ -113,7 +113,7 @@ pub(crate) fn try_jobs<'a, R: Threads + Sync, K: CrashKeeper, O: Write>(
     keeper: &mut K,
     out: &mut O,
 ) -> Result<bool, FuzzFault<'a>>
-    requires boots { CanBoot setting.now }
+    requires can { CanRun setting.now }
     requires reusable { IsReusable (setting_of setting.now) machine.old }
     ensures lines { IfOk result (λ stopped. Writes (setting_of setting.now) (AreJobs jobs.items) (O.contents out.old) (O.contents out.new) stopped) }
     ensures begun { IfErr result (λ fault. fault ≢ FuzzFault.Output → Begins (setting_of setting.now) (BeginJobs jobs.items) (O.contents out.old) (O.contents out.new)) }

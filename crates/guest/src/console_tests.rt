@@ -4,6 +4,7 @@ ghost use Rattle.std.specs.Prelude.{◌≡◌};
 use crate::{Guest, Seat};
 use elf32::Image;
 use items::{Entry, What};
+use mips_cp0::Profile;
 use std::alloc::Global;
 use std::process::Abort;
 use std::sync::Arc;
@@ -28,7 +29,7 @@ fn booted(rt: &impl Abort, alloc: Global) -> Guest
     if !image.fits(1) {
         panic!(rt; "the image has no room");
     }
-    match Guest::boot(alloc, image, 1, 8) {
+    match Guest::boot(alloc, Profile::One, image, 1, 8) {
         Ok(guest) => guest,
         Err(_) => panic!(rt; "no memory for the guest"),
     }

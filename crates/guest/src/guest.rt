@@ -9,6 +9,7 @@ use elf32::Image;
 use guest_bus::{GuestBus, InputError};
 use items::Item;
 use machine::{Ppn, Reply, Why};
+use mips_cp0::Profile;
 use mips_fast::RunCache;
 use mips_step::{Cpu, Unreached, View};
 use owned_log::OwnedLog;
@@ -28,20 +29,21 @@ pub struct Guest {
     pub(crate) bus: GuestBus,
     /// What a run of many steps keeps, for `mips_fast`. No clause speaks of it: it holds nothing between runs.
     pub(crate) cache: RunCache,
-    /// What the guest has booted, with as many pages: the view begins there.
+    /// What the guest has booted, by which profile of the processor and with how many pages: the view begins there.
+    pub(crate) profile: Profile,
     pub(crate) image: Arc<Image, Global>,
     pub(crate) pages: u32,
     pub(crate) owned_log: OwnedLog,
 }
 
 impl Model for Guest {
-    ghost use Rattle.machine.specs.Boot.{boot_machine};
+    ghost use Rattle.machine.specs.Boot.{boot_machine_as};
     ghost use Rattle.guest_bus.specs.Buses.{IsSettled};
     ghost use Rattle.guest.specs.Guests.{GuestIs, guest_of};
 
     ghost Value = { GuestIs };
 
-    ghost view = { λ g. guest_of g.cpu g.bus (boot_machine g.image.value g.pages) g.owned_log };
+    ghost view = { λ g. guest_of g.cpu g.bus (boot_machine_as g.profile g.image.value g.pages) g.owned_log };
 
     ghost invariant = { λ g. IsSettled g.bus };
 }
@@ -60,7 +62,7 @@ impl Guest {
     ghost use Rattle.machine.specs.Given.{step_given};
     ghost use Rattle.machine.specs.Accesses.{accesses, first_lack};
     ghost use Rattle.machine.specs.Answers.{replied};
-    ghost use Rattle.machine.specs.Boot.{boot_machine, boot_memory};
+    ghost use Rattle.machine.specs.Boot.{boot_machine_as, boot_memory};
     ghost use Rattle.machine.specs.Items.{accepts, after, reply, run};
     ghost use Rattle.machine.specs.Replies.{bytes_at, SomePlaceIn};
     ghost use Rattle.guest_log.specs.Logs.{HasRoom, IsFull, TakesRoom};
@@ -81,11 +83,12 @@ impl Guest {
     ghost use Rattle.guest.specs.declared.progress.Pause.{Pause};
     ghost use Rattle.guest.specs.Views.{pages_seen};
 
-    /// A guest with a memory of `pages` pages, at most 2^20, which hold the image, and a log of at most `log_runs` runs. No page
+    /// A guest of a profile, with a memory of `pages` pages, at most 2^20, which hold the image, and a log of at most `log_runs` runs. No page
     /// was ever touched: before the first step each page that the image reaches (`reaches`) is to be supplied and loaded
     /// (`load_page`), and then the guest is intact. Guests of one image may share it.
     pub fn boot(
         alloc: Global,
+        profile: Profile,
         image: Arc<Image, Global>,
         pages: u32,
         log_runs: u32,
@@ -94,7 +97,7 @@ impl Guest {
         requires few { pages ≤ 2 ^ 20 }
         ensures cpu { IfOk result (λ g. g.cpu ≡ g.boot.cpu) }
         ensures bus { IfOk result (λ g. g.bus ≡ record { pages = replicate pages Page.Zero; devices = fresh_devices pages; waiting = None }) }
-        ensures boot { IfOk result (λ g. g.boot ≡ boot_machine image.value pages) }
+        ensures boot { IfOk result (λ g. g.boot ≡ boot_machine_as profile image.value pages) }
         ensures log { IfOk result (λ g. g.log.items ≡ []) }
         ensures limit { IfOk result (λ g. g.log.limit ≡ log_runs) }
         ensures seats { IfOk result (λ g. g.seats ≡ 0) }
@@ -102,9 +105,10 @@ impl Guest {
         let owned_log = OwnedLog::new(alloc, log_runs)?;
         let cache = RunCache::new(alloc)?;
         Ok(Guest {
-            cpu: Cpu::boot(image.entry),
+            cpu: Cpu::boot_as(profile, image.entry),
             bus: GuestBus::new(alloc, pages)?,
             cache,
+            profile,
             image,
             pages,
             owned_log,
@@ -460,6 +464,7 @@ impl Guest {
             cpu,
             bus,
             cache,
+            profile: _,
             image,
             pages: _,
             owned_log,

@@ -13,6 +13,7 @@ use frames::{Frame, FrameNo};
 use guest_pages::{PageKind, Returned};
 use items::{Item, What, WriteBytes};
 use machine::{Ppn, Why};
+use mips_cp0::Profile;
 use mips_instr::Reg;
 use page_moves::{Pages, evict_in, supply_first, supply_swapped};
 use sharetab::Shares;
@@ -350,7 +351,7 @@ fn booted(rt: &impl Abort, alloc: Global, image: Arc<Image, Global>) -> Guest
     if !image.fits(4) {
         panic!(rt; "the image has no room");
     }
-    match Guest::boot(alloc, image, 4, 8) {
+    match Guest::boot(alloc, Profile::One, image, 4, 8) {
         Ok(guest) => guest,
         Err(_) => panic!(rt; "no memory for the guest"),
     }

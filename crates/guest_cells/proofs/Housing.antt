@@ -123,7 +123,7 @@ housed_count log_runs asked cells all are = (zip3_count (λ (it : NewGuest) (c :
 
 -- guests that are at the boot of what was asked for, and intact, are ready
 pub ready_each : (log_runs : ℕ) (asked : List NewGuest) (guests : List GuestIs) → length guests ≡ length asked
-    → ((g : ℕ) (it : NewGuest) (guest : GuestIs) → g < length asked → IsAtBoot (get_or asked g it).image.value (get_or asked g it).pages log_runs (get_or guests g guest))
+    → ((g : ℕ) (it : NewGuest) (guest : GuestIs) → g < length asked → IsAtBoot (get_or asked g it).profile (get_or asked g it).image.value (get_or asked g it).pages log_runs (get_or guests g guest))
     → All Intact guests → AreReady log_runs asked guests
 ready_each log_runs [] [] same each intact = tt
 ready_each log_runs [] (guest ∷ guests) same each intact = absurd (omega (arith, same))

@@ -15,6 +15,7 @@ use Rattle.guest_cells.specs.declared.handles.Handles.{Handles}
 -- A guest is behind its lock as it was asked for, with a log of at most so many runs; what is handed out of it is its four seats, which have
 -- seen and made nothing and know that its truth holds, and the right to put bytes for its console, of which none was put.
 pub record IsAsAsked {Store : Type 0} (log_runs : ℕ) (asked : NewGuest) (front : Front Store) (handles : Handles) : Type 0 where
+  pub profile : front.profile ≡ asked.profile
   pub image : front.image ≡ asked.image
   pub pages : front.pages ≡ asked.pages
   pub shares : front.shares ≡ asked.shares
@@ -31,7 +32,7 @@ AreAsAsked log_runs asked cells all =
 
 -- A guest is at the boot of what was asked for, and is its run.
 pub record IsReady (log_runs : ℕ) (asked : NewGuest) (guest : GuestIs) : Type 0 where
-  pub at_boot : IsAtBoot asked.image.value asked.pages log_runs guest
+  pub at_boot : IsAtBoot asked.profile asked.image.value asked.pages log_runs guest
   pub intact : Intact guest
 
 -- all guests are, each at its place

@@ -52,6 +52,7 @@ fn parts_of(guest: Guest, asked: NewGuest, stake: Stake, log_runs: u32) -> Parts
     ensures policy { IsFresh guest.head 2 result.policy }
     ensures debugger { IsFresh guest.head 3 result.debugger }
     ensures stake { result.stake ≡ stake }
+    ensures profile { result.profile ≡ asked.profile }
     ensures image { result.image ≡ asked.image }
     ensures pages { result.pages ≡ asked.pages }
     ensures limit { result.limit ≡ log_runs }
@@ -64,6 +65,7 @@ fn parts_of(guest: Guest, asked: NewGuest, stake: Stake, log_runs: u32) -> Parts
     let policy = guest.seat();
     let debugger = guest.seat();
     let NewGuest {
+        profile,
         image,
         pages,
         shares,
@@ -76,6 +78,7 @@ fn parts_of(guest: Guest, asked: NewGuest, stake: Stake, log_runs: u32) -> Parts
         policy,
         debugger,
         stake,
+        profile,
         image,
         pages,
         limit: log_runs,
@@ -117,6 +120,7 @@ fn without_seats(parts: Parts) -> (Guest, Stake)
         policy,
         debugger,
         stake,
+        profile: _,
         image,
         pages: _,
         limit: _,

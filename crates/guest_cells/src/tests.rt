@@ -6,6 +6,7 @@ use crate::{Booted, GuestCells};
 use booting::{Config, NewGuest};
 use elf32::Image;
 use machine_memory::BookCounts;
+use mips_cp0::Profile;
 use std::alloc::{AllocError, Global};
 use std::fmt::Debug;
 use std::process::Abort;
@@ -88,6 +89,7 @@ fn guests_of(alloc: Global, numbers: &Numbers) -> Result<Vec<NewGuest>, AllocErr
     let mut guests = Vec::new(alloc);
     for g in 0..numbers.guests {
         let guest = NewGuest {
+            profile: Profile::One,
             image: image_of(alloc, numbers.size, g)?,
             pages: numbers.pages,
             shares: 1,

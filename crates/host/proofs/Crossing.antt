@@ -28,6 +28,7 @@ use Rattle.log_seats.proofs.head.Head.TheSendSync as head
 use Rattle.guest_log.proofs.log.Log.TheSendSync as log
 use Rattle.owned_log.specs.contracts.owned_log.OwnedLog as OwnedLog
 use Rattle.owned_log.specs.contracts.owned_log.OwnedLog.TheInside as inside_owned_log
+use Rattle.mips_cp0.proofs.profile.Profile.TheSendSync as profile
 use Rattle.mips_step.proofs.cpu.Cpu.TheSendSync as cpu
 use Rattle.mips_fast.proofs.caches.RunCache.TheSendSync as cache
 use Rattle.guest_bus.proofs.bus.GuestBus.TheSendSync as bus
@@ -85,7 +86,7 @@ owned_log_sync = view_sync inside_owned_log.the_row _ _ _ _ (recorded_sync (insi
 
 guest_sync : IsSync Guest.the_row
 guest_sync = view_sync inside_guest.the_row _ _ _ _ (recorded_sync (inside_guest.the_field).row _ _ (inside_guest.the_type).to_one
-    (struct_sync (shape inside_guest.the_type) (cpu.the_sync, (bus.the_sync, (cache.the_field_sync, (search (sendable, crosses, image.the_send, image.the_sync) depth 40, (search sendable, (owned_log_sync, tt))))))))
+    (struct_sync (shape inside_guest.the_type) (cpu.the_sync, (bus.the_sync, (cache.the_field_sync, (profile.the_field_sync, (search (sendable, crosses, image.the_send, image.the_sync) depth 40, (search sendable, (owned_log_sync, tt)))))))))
 
 ended_sync : IsSync Ended.the_row
 ended_sync = recorded_sync (Ended.the_field).row _ _ (Ended.the_type).to_one
@@ -97,7 +98,7 @@ room_sync = struct_sync (shape EndedRoom.the_type) (search (sendable, crosses, e
 -- ---- guests behind locks
 front_sync : (S : RattleType) (g : SwapStore.Ghosts S.Denot) → IsSync (Front.the_field S g).row
 front_sync S g = struct_sync (shape (Front.the_type S g))
-    (search (sendable, crosses, head.the_send, head.the_sync) depth 40, (search (sendable, crosses, image.the_send, image.the_sync) depth 40, (search sendable, (search sendable, (queue.the_sync, (truth.the_sync, (search (sendable, crosses) depth 40, (search sendable, (search sendable, tt)))))))))
+    (search (sendable, crosses, head.the_send, head.the_sync) depth 40, (profile.the_field_sync, (search (sendable, crosses, image.the_send, image.the_sync) depth 40, (search sendable, (search sendable, (queue.the_sync, (truth.the_sync, (search (sendable, crosses) depth 40, (search sendable, (search sendable, tt))))))))))
 
 pub cell_sync : (S : RattleType) (g : SwapStore.Ghosts S.Denot) → IsSend S → IsSync (Cell.the_row S g)
 cell_sync S g s = recorded_sync (Cell.the_field S g).row _ _ (Cell.the_type S g).to_one

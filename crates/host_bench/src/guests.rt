@@ -3,6 +3,7 @@ ghost use Rattle.std.specs.Prelude.{◌≡◌, ◌*◌, length, IfOk};
 
 use booting::{Config, NewGuest};
 use elf32::Image;
+use mips_cp0::Profile;
 use std::alloc::{AllocError, Global};
 use std::sync::Arc;
 
@@ -72,6 +73,7 @@ pub fn one_guest(alloc: Global) -> Result<Vec<NewGuest>, AllocError>
 {
     let bytes = image_bytes(alloc)?;
     let guest = NewGuest {
+        profile: Profile::One,
         image: Arc::new(alloc, Image::raw(alloc, bytes)?)?,
         pages: PAGES,
         shares: 100,

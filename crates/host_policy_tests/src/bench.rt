@@ -16,6 +16,7 @@ use guest::Stop;
 use guest_cells::{Booted, GuestCells, Handles};
 use host_policy::{Evicted, Policy, Turn, evict_one, turn};
 use items::SeatNo;
+use mips_cp0::Profile;
 use shared_pool::PoolPass;
 use std::alloc::Global;
 use std::fmt::Debug;
@@ -99,6 +100,7 @@ fn two_guests(rt: &impl Abort, alloc: Global, wanted: &Wanted) -> Vec<NewGuest> 
     let mut guests = Vec::new(alloc);
     for pages in &wanted.resident {
         let guest = NewGuest {
+            profile: Profile::One,
             image: new_image(rt, alloc, *pages),
             pages: PAGES,
             shares: 100,

@@ -10,6 +10,7 @@ use booting::{Config, NewGuest};
 use cell::Gate;
 use guest_cells::Handles;
 use host::{Booted, DebugError, Host, PolicyConfig, Ran, Reply, Request};
+use mips_cp0::Profile;
 use std::alloc::Global;
 use std::fmt::Debug;
 use std::process::Abort;
@@ -42,6 +43,7 @@ pub(crate) fn expect<T: PartialEq + Debug + Drop>(
 
 fn new_guest(rt: &impl Abort, alloc: Global, words: &[u32], wanted: &Wanted) -> NewGuest {
     NewGuest {
+        profile: Profile::One,
         image: shared_image(rt, alloc, words),
         pages: wanted.pages,
         shares: 100,

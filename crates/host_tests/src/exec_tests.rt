@@ -14,6 +14,7 @@ use guest::Guest;
 use guest_cells::{Finished, Handles};
 use host::{Booted, Host, PolicyConfig, Ran};
 use items::What;
+use mips_cp0::Profile;
 use std::alloc::Global;
 use std::process::Abort;
 use std::sync::Wait;
@@ -43,6 +44,7 @@ fn input_bytes() -> [u8; 200] {
 
 fn only_guest(rt: &impl Abort, alloc: Global, words: &[u32]) -> Vec<NewGuest> {
     let guest = NewGuest {
+        profile: Profile::One,
         image: shared_image(rt, alloc, words),
         pages: PAGES,
         shares: 100,

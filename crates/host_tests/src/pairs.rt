@@ -16,6 +16,7 @@ use host::{Booted, DebugError, Host, PolicyConfig, Ran, Reply, Request};
 use host_policy::Turn;
 use items::{DebugRegister, WriteBytes};
 use machine_memory::BookCounts;
+use mips_cp0::Profile;
 use reclaim::Level;
 use std::alloc::Global;
 use std::process::Abort;
@@ -79,6 +80,7 @@ fn new_guest(rt: &impl Abort, alloc: Global, asked: &Asked) -> NewGuest {
         panic!(rt; "no memory for the image");
     };
     NewGuest {
+        profile: Profile::One,
         image,
         pages: asked.pages,
         shares: 100,

@@ -16,6 +16,7 @@ use cell::{Ended, Open, Seat, Seats};
 use guest_cells::{Finished, Handles};
 use host::{Booted, Host, PolicyConfig, Reply, Request};
 use machine_memory::BookCounts;
+use mips_cp0::Profile;
 use std::alloc::Global;
 use std::process::Abort;
 use std::sync::Wait;
@@ -68,6 +69,7 @@ fn new_guests(rt: &impl Abort, alloc: Global) -> Vec<NewGuest> {
     let mut guests = Vec::new(alloc);
     for g in 0..GUESTS {
         let guest = NewGuest {
+            profile: Profile::One,
             image: shared_image(rt, alloc, words_of(g)),
             pages: PAGES,
             shares: 100 + g,

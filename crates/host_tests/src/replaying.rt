@@ -9,7 +9,6 @@ use guest_log::Log;
 use items::{Entry, What};
 use mips_step::debug::read;
 use mips_step::{Cpu, View};
-use mips_tlb::ENTRIES;
 use std::alloc::Global;
 use std::process::Abort;
 
@@ -91,7 +90,7 @@ fn has_memory(table: &Table, memory: &[u8]) -> bool {
 
 // Whether two processors have the same TLB.
 fn same_tlb(a: &Cpu, b: &Cpu) -> bool {
-    (0..ENTRIES).all(|index| a.tlb().read(index) == b.tlb().read(index))
+    a.tlb().entries() == b.tlb().entries()
 }
 
 /// The guest, of which these are the bytes of memory, is in the state that its log makes of the reference machine.

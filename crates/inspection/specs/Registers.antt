@@ -1,5 +1,5 @@
 -- The text of the registers that a dump leaves out, a line each.
-use Rattle.std.specs.Prelude.{ℕ, zero, suc, Bool, true, false, List, [], ◌++◌, codes, decimal, slice_get, Option, Some, None}
+use Rattle.std.specs.Prelude.{ℕ, zero, suc, Bool, true, false, List, [], ◌++◌, codes, decimal, length, slice_get, Option, Some, None}
 use Rattle.mips_cp0.specs.Access.{register_value}
 use Rattle.mips_cp0.specs.Registers.{SystemRegisters}
 use Rattle.mips_cp0.specs.declared.register.SystemRegister.TheVariants.{Index, Random, EntryLo0, EntryLo1, Context, PageMask, Wired, Count, EntryHi, Compare, PrId, Config, Config1, ErrorEpc}
@@ -79,4 +79,4 @@ state_text cpu = product_text cpu ++ link_text cpu.ll_bit ++ slot_text cpu.slot
 -- all that a dump leaves out of a processor, while these interrupt lines are raised
 abbrev pub processor_text : ℕ → Processor → List ℕ
 processor_text lines cpu =
-    system_text lines cpu.cp0 ++ state_text cpu ++ entries_text 16 cpu.tlb
+    system_text lines cpu.cp0 ++ state_text cpu ++ entries_text (length cpu.tlb) cpu.tlb

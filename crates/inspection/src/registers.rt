@@ -1,10 +1,10 @@
 //! The text of the registers that a dump leaves out.
-ghost use Rattle.std.specs.Prelude.{◌≡◌, ◌++◌, ◌<◌, OnOk, string_bytes};
+ghost use Rattle.std.specs.Prelude.{◌≡◌, ◌++◌, ◌<◌, OnOk, length, string_bytes};
 ghost use Rattle.dump.specs.Dumps.{field_text};
 ghost use Rattle.inspection.specs.Registers as spec;
 
 use masm::HexWord;
-use mips_cp0::{Cp0, SystemRegister, TLB_ENTRIES};
+use mips_cp0::{Cp0, SystemRegister};
 use mips_step::Cpu;
 use mips_tlb::{Entry, Tlb};
 use std::alloc::AllocError;
@@ -156,10 +156,10 @@ fn push_slot(out: &mut String, slot: Option<u32>) -> Result<(), AllocError>
 }
 
 fn push_entries(out: &mut String, tlb: &Tlb) -> Result<(), AllocError>
-    ensures { OnOk result (string_bytes out.new ≡ string_bytes out.old ++ spec.entries_text 16 tlb.now) }
+    ensures { OnOk result (string_bytes out.new ≡ string_bytes out.old ++ spec.entries_text (length tlb.now) tlb.now) }
 {
-    for number in 0..TLB_ENTRIES {
-        push_entry(out, number, tlb.read(number as usize))?;
+    for number in 0..tlb.len() {
+        push_entry(out, number as u32, tlb.read(number))?;
     }
     Ok(())
 }

@@ -1,30 +1,28 @@
 -- A world of one guest.
-use Rattle.std.proofs.Common.{◌≡◌, ℕ, List, [], ◌∷◌, All, slice_index_or, sym, ap, subst, ◌∙◌, arith}
-use Rattle.std.proofs.lemmas.List.Elements.{All-nil, All-cons}
+use Rattle.std.proofs.Common.{◌≡◌, ℕ, List, [], ◌∷◌, slice_index_or, sym, ap, subst, ◌∙◌, arith}
 use Rattle.items.specs.declared.item.Item.{Item}
 use Rattle.masm.specs.Listings.{Listing}
 use Rattle.masm.specs.Assembly.{Means}
 use Rattle.machine.specs.Step.{Machine}
-use Rattle.machine.specs.Boot.{boot_machine}
+use Rattle.machine.specs.Boot.{boot_machine_as}
 use Rattle.machine.specs.Items.{run}
 use Rattle.guest.specs.Guests.{view_of}
 use Rattle.booting.specs.declared.asked.Config.{Config}
 use Rattle.booting.specs.declared.asked.NewGuest.{NewGuest}
 use Rattle.tenant.specs.declared.loading.BootError.{BootError}
-use Rattle.tenant.specs.declared.loading.BootError.TheVariants as error
-use Rattle.world.specs.Boots.{HoldsImage, AreBooted, WhyNotBooted}
+use Rattle.world.specs.Boots.{AreBooted, WhyNotBooted}
 use Rattle.tenant.specs.Tenants.{TenantIs}
 use Rattle.load_and_go.specs.Holds.{Holds}
 
 -- the view of a guest that is booted alone is the machine that it boots
-view_booted : (runs : ℕ) (guest : NewGuest) (ts : List TenantIs) → AreBooted runs (guest ∷ []) ts → (t : TenantIs) → view_of (slice_index_or ts 0 t).guest ≡ boot_machine guest.image.value guest.pages
+view_booted : (runs : ℕ) (guest : NewGuest) (ts : List TenantIs) → AreBooted runs (guest ∷ []) ts → (t : TenantIs) → view_of (slice_index_or ts 0 t).guest ≡ boot_machine_as guest.profile guest.image.value guest.pages
 view_booted runs guest ts booted t =
     let is = booted.each 0 guest t (omega arith) in
     ap (λ (items : List Item). run items (slice_index_or ts 0 t).guest.boot) is.items ∙ is.boot
 
 -- so it holds the listing that this one holds
 pub view_holds : (text : List ℕ) (runs : ℕ) (guest : NewGuest) (ts : List TenantIs) → AreBooted runs (guest ∷ []) ts
-    → (listing : Listing) × Means text listing × Holds (boot_machine guest.image.value guest.pages) listing
+    → (listing : Listing) × Means text listing × Holds (boot_machine_as guest.profile guest.image.value guest.pages) listing
     → (listing : Listing) × Means text listing × ((t : TenantIs) → Holds (view_of (slice_index_or ts 0 t).guest) listing)
 view_holds text runs guest ts booted h =
     (h.0, h.1, λ t. subst (λ (m : Machine). Holds m h.0) (sym (view_booted runs guest ts booted t)) h.2)

@@ -4,7 +4,8 @@ ghost use Rattle.elf32.specs.declared.image.Image as elf;
 ghost use Rattle.elf32.specs.Images.{FitsPages};
 ghost use Rattle.masm.specs.Listings.{Listing};
 ghost use Rattle.masm.specs.Assembly.{Means};
-ghost use Rattle.machine.specs.Boot.{boot_machine};
+ghost use Rattle.mips_cp0.specs.declared.profile.Profile.{Profile};
+ghost use Rattle.machine.specs.Boot.{boot_machine_as};
 ghost use Rattle.sharetab.specs.Maps.{at_page};
 ghost use Rattle.sharetab.specs.declared.guest_page.GuestPage.{GuestPage};
 ghost use Rattle.guest.specs.Guests.{view_of};
@@ -22,13 +23,14 @@ use crate::{BootError, TextError};
 use elf32::{Image, read};
 use flatvm::Flat;
 use masm::assemble;
+use mips_cp0::Profile;
 use std::alloc::{AllocError, Global};
 use std::sync::Arc;
 use swapstore::SwapStore;
 use taxpolicy::DEFAULT_MINIMUM;
 use world::{Config, NewGuest, World};
 
-/// A world whose one guest has booted the program of a text in assembly language: the guest of `guest_of_text`, booted as
+/// A world whose one guest, of a profile, has booted the program of a text in assembly language: the guest of `guest_of_text`, booted as
 /// `World::boot` has it. Its view holds the listing that the text means: memory at each listed address holds the listing's instruction
 /// or data, and PC is its entry; the rest is as a machine boots. Its log, of at most as many runs as the world's limit, is empty.
 ///
@@ -40,6 +42,7 @@ use world::{Config, NewGuest, World};
 /// the world is not booted (`World::boot`), which is never that the pages don't hold the image; and the store comes back.
 pub fn boot_text<S: SwapStore>(
     alloc: Global,
+    profile: Profile,
     text: &str,
     config: Config,
     pages: u32,
@@ -49,19 +52,19 @@ pub fn boot_text<S: SwapStore>(
     // The view of the guest holds the listing that the text means.
     ensures view { IfOk result (λ w. (listing : Listing) × Means text.now listing
         × ((t : TenantIs) → Holds (view_of (slice_index_or w.tenants 0 t).guest) listing)) }
-    // It is the one guest, at the boot of an image that the text's executable stands for.
-    ensures booted { IfOk result (λ w. (guest : boot.NewGuest) × IsGuestOf text.now pages shares guest
+    // It is the one guest, of this profile, at the boot of an image that the text's executable stands for.
+    ensures booted { IfOk result (λ w. (guest : boot.NewGuest) × IsGuestOf profile text.now pages shares guest
         × AreBooted config.log_runs (guest ∷ []) w.tenants × AreWithinLimits config (S.slots store) (guest ∷ [])) }
     ensures hints { IfOk result (λ w. (page : GuestPage) → at_page w.shares.hints page ≡ None) }
     ensures frames { IfOk result (λ w. w.frames ≡ config.frames) }
     ensures slots { IfOk result (λ w. S.slots w.store ≡ S.slots store) }
     ensures honest { IfOk result (λ w. S.honest w.store ↔ S.honest store) }
     ensures true_to_digests { IfOk result (λ w. S.true_to_digests w.store ↔ S.true_to_digests store) }
-    ensures refused { IfErr result (λ refused. WhyNotBooted text.now pages shares config (S.slots store) refused.0) }
+    ensures refused { IfErr result (λ refused. WhyNotBooted profile text.now pages shares config (S.slots store) refused.0) }
     ensures back { IfErr result (λ refused. (S.slots refused.1 ≡ S.slots store) × (S.honest refused.1 ↔ S.honest store)) }
     ensures untouched { IfErr result (λ refused. (error : text_error.TextError) → refused.0 ≡ BootError.Text error → refused.1 ≡ store) }
 {
-    let guests = match guests_of_text(alloc, text, pages, shares) {
+    let guests = match guests_of_text(alloc, profile, text, pages, shares) {
         Ok(guests) => guests,
         Err(error) => return Err((BootError::Text { error }, store)),
     };
@@ -74,16 +77,17 @@ pub fn boot_text<S: SwapStore>(
 // The guest of a text by itself.
 fn guests_of_text(
     alloc: Global,
+    profile: Profile,
     text: &str,
     pages: u32,
     shares: u32,
 ) -> Result<Vec<NewGuest>, TextError>
     ensures one { IfOk result (λ guests. (guest : boot.NewGuest) × (guests.items ≡ guest ∷ [])
-        × IsGuestOf text.now pages shares guest × HoldsImage guest
-        × ((listing : Listing) × Means text.now listing × Holds (boot_machine guest.image.value guest.pages) listing)) }
+        × IsGuestOf profile text.now pages shares guest × HoldsImage guest
+        × ((listing : Listing) × Means text.now listing × Holds (boot_machine_as guest.profile guest.image.value guest.pages) listing)) }
     ensures refused { IfErr result (IsErrorOf text.now pages) }
 {
-    let guest = guest_of_text(alloc, text, pages, shares)?;
+    let guest = guest_of_text(alloc, profile, text, pages, shares)?;
     Ok(alone(alloc, guest)?)
 }
 
@@ -94,26 +98,29 @@ fn alone(alloc: Global, guest: NewGuest) -> Result<Vec<NewGuest>, AllocError>
     Ok(Vec::from_array(alloc, [guest])?)
 }
 
-/// A guest of a world that boots the program of a text in assembly language, with this many shares and the least minimum. The text is assembled, and its
-/// executable is read for a machine with `pages` pages of 4096 bytes from 80000000 on, which hold the image.
+/// A guest of a world, of a profile, that boots the program of a text in assembly language, with this many shares and the least minimum. The
+/// text is assembled, and its executable is read for a machine with `pages` pages of 4096 bytes from 80000000 on, which hold the image. How
+/// many pages a guest of the profile may have is said at the boot of its world.
 ///
 /// The error is `Assembler` with the text's first fault, then `Executable` with the first fault that its executable has for so many
 /// pages, which is `Place`: a part of the listing passes their end. It is `Memory` where a request for memory was refused. An error
 /// leaves nothing behind.
 pub fn guest_of_text(
     alloc: Global,
+    profile: Profile,
     text: &str,
     pages: u32,
     shares: u32,
 ) -> Result<NewGuest, TextError>
-    ensures guest { IfOk result (IsGuestOf text.now pages shares) }
+    ensures guest { IfOk result (IsGuestOf profile text.now pages shares) }
     ensures fits { IfOk result HoldsImage }
     // The machine that it boots holds the listing that the text means.
-    ensures holds { IfOk result (λ guest. (listing : Listing) × Means text.now listing × Holds (boot_machine guest.image.value guest.pages) listing) }
+    ensures holds { IfOk result (λ guest. (listing : Listing) × Means text.now listing × Holds (boot_machine_as guest.profile guest.image.value guest.pages) listing) }
     ensures refused { IfErr result (IsErrorOf text.now pages) }
 {
     let image = image_of_text(alloc, text, pages)?;
     Ok(NewGuest {
+        profile,
         image: shared(alloc, image)?,
         pages,
         shares,
@@ -128,25 +135,26 @@ fn shared(alloc: Global, image: Image) -> Result<Arc<Image, Global>, AllocError>
     Ok(Arc::new(alloc, image)?)
 }
 
-/// The reference machine that has booted the program of a text in assembly language, with `pages` pages, at most 2^20. The errors are
-/// those of `guest_of_text`.
-pub fn flat_text(alloc: Global, text: &str, pages: u32) -> Result<Flat, TextError>
+/// The reference machine of a profile that has booted the program of a text in assembly language, with `pages` pages, at most 2^20. The
+/// errors are those of `guest_of_text`.
+pub fn flat_text(alloc: Global, profile: Profile, text: &str, pages: u32) -> Result<Flat, TextError>
     requires { pages ≤ 2 ^ 20 }
     // The machine holds the listing that the text means.
     ensures machine { IfOk result (λ m. (listing : Listing) × Means text.now listing × Holds m listing) }
     // It is the boot of an image that the text's executable stands for.
-    ensures image { IfOk result (λ m. (image : elf.Image) × IsReadFrom text.now pages image × (m ≡ boot_machine image pages)) }
+    ensures image { IfOk result (λ m. (image : elf.Image) × IsReadFrom text.now pages image × (m ≡ boot_machine_as profile image pages)) }
     ensures refused { IfErr result (IsErrorOf text.now pages) }
 {
     let image = image_of_text(alloc, text, pages)?;
-    Ok(Flat::boot(alloc, &image, pages)?)
+    Ok(Flat::boot_as(alloc, profile, &image, pages)?)
 }
 
 /// The image that a text's executable stands for, for a machine with `pages` pages, which hold it.
 fn image_of_text(alloc: Global, text: &str, pages: u32) -> Result<Image, TextError>
     ensures read { IfOk result (IsReadFrom text.now pages) }
     ensures fits { IfOk result (λ image. FitsPages image pages) }
-    ensures holds { IfOk result (λ image. (listing : Listing) × Means text.now listing × Holds (boot_machine image pages) listing) }
+    ensures holds { IfOk result (λ image. (listing : Listing) × Means text.now listing
+        × ((profile : Profile) → Holds (boot_machine_as profile image pages) listing)) }
     ensures refused { IfErr result (IsErrorOf text.now pages) }
 {
     let file = assemble(alloc, text)?;

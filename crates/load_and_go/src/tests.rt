@@ -3,6 +3,7 @@
 use crate::{BootError, TextError, boot_text, flat_text};
 use elf32::Fault;
 use masm::AsmFault;
+use mips_cp0::Profile;
 use mips_instr::Reg;
 use mips_step::Cpu;
 use rand_pcg::Pcg32;
@@ -76,9 +77,10 @@ static BYTES_OF_SIX_PAGES: [(u32, &[u8]); 8] = [
     (0x8000_5004, &[0x66, 0x66, 0x66, 0x66, 0, 0]),
 ];
 
-/// The numbers of a world of one guest, and the write of its store that fails, counted from 1.
+/// The profile and the numbers of a world of one guest, and the write of its store that fails, counted from 1.
 #[derive(Clone, Copy)]
 struct Numbers {
+    profile: Profile,
     frames: u32,
     slots: u32,
     pages: u32,
@@ -88,6 +90,7 @@ struct Numbers {
 
 /// A frame for each page and one more, and no slot.
 const ROOMY: Numbers = Numbers {
+    profile: Profile::Two,
     frames: 17,
     slots: 0,
     pages: 16,
@@ -121,6 +124,7 @@ fn booted<R: AllocGlobal + Abort>(
     };
     match boot_text(
         rt.alloc(),
+        numbers.profile,
         text,
         config,
         numbers.pages,
@@ -175,17 +179,18 @@ fn check_run<R: AllocGlobal + Abort>(
     make_steps(rt, &mut world, steps);
     check_cpu(rt, guest_of(rt, &world).guest().view().cpu, pc, regs);
     let _store = world.close();
-    check_flat_run(rt, text, steps, pc, regs)
+    check_flat_run(rt, numbers.profile, text, steps, pc, regs)
 }
 
 fn check_flat_run<R: AllocGlobal + Abort>(
     rt: &R,
+    profile: Profile,
     text: &str,
     steps: u32,
     pc: u32,
     regs: &[(Reg, u32)],
 ) -> Result<(), Fail> {
-    let mut flat = flat_text(rt.alloc(), text, 16)?;
+    let mut flat = flat_text(rt.alloc(), profile, text, 16)?;
     for _ in 0..steps {
         flat.step();
     }
@@ -211,6 +216,30 @@ fn booted_programs_run(rt: HostRuntime) -> Result<(), Fail> {
         0x8000_0100,
         &[(Reg::new(2), 0x8000_0000), (Reg::new(3), 0x8000_0100)],
     )
+}
+
+/// A profile, and Random and Config1 as its first two instructions read them.
+static PROFILES: [(Profile, u32, u32); 2] = [
+    (Profile::One, 0x0e, 0x1e00_0000),
+    (Profile::Two, 0x1e, 0x3e00_0000),
+];
+
+#[test]
+fn booted_programs_read_their_profile(rt: HostRuntime) -> Result<(), Fail> {
+    for (profile, random, config1) in &PROFILES {
+        check_run(
+            &rt,
+            "mfc0 $1,$1,0\nmfc0 $2,$16,1\n",
+            &Numbers {
+                profile: *profile,
+                ..ROOMY
+            },
+            2,
+            0x8000_0008,
+            &[(Reg::new(1), *random), (Reg::new(2), *config1)],
+        )?;
+    }
+    Ok(())
 }
 
 #[test]
@@ -343,7 +372,7 @@ fn refusal<R: AllocGlobal + Abort>(rt: &R, text: &str, numbers: &Numbers) -> Opt
 /// Why a text isn't booted on the reference machine.
 fn flat_refusal<R: AllocGlobal + Abort>(rt: &R, text: &str, pages: u32) -> Option<TextError> {
     assert!(rt; pages <= 1 << 20);
-    flat_text(rt.alloc(), text, pages).err()
+    flat_text(rt.alloc(), Profile::Two, text, pages).err()
 }
 
 /// Checks the error of booting a text on either machine, `None` where it boots.
@@ -383,10 +412,29 @@ fn the_last_bytes_of_memory_are_listed(rt: HostRuntime) {
 }
 
 /// Texts whose world is refused, why, and the error's text.
-const WORLDS: [(&str, Numbers, tenant::BootError, &str); 6] = [
+const WORLDS: [(&str, Numbers, tenant::BootError, &str); 8] = [
     (
         "eret",
         Numbers { pages: 1, ..ROOMY },
+        tenant::BootError::Limits,
+        "boot 1",
+    ),
+    (
+        "eret",
+        Numbers {
+            profile: Profile::One,
+            pages: 16_385,
+            ..ROOMY
+        },
+        tenant::BootError::Limits,
+        "boot 1",
+    ),
+    (
+        "eret",
+        Numbers {
+            pages: 32_769,
+            ..ROOMY
+        },
         tenant::BootError::Limits,
         "boot 1",
     ),
@@ -439,6 +487,18 @@ fn worlds_are_refused(rt: HostRuntime) -> Result<(), Fail> {
         check_says(&rt, want, *says)?;
     }
     Ok(())
+}
+
+#[test]
+fn the_most_pages_of_a_profile_are_booted(rt: HostRuntime) {
+    for (profile, pages) in [(Profile::One, 16_384), (Profile::Two, 32_768)] {
+        let most = Numbers {
+            profile,
+            pages,
+            ..ROOMY
+        };
+        assert_eq!(&rt; refusal(&rt, "eret", &most), None);
+    }
 }
 
 #[test]
@@ -497,7 +557,7 @@ fn the_guest_or_want_of_memory(rt: HostRuntime) {
 
 #[test]
 fn the_table_machine_or_want_of_memory(rt: HostRuntime) {
-    match flat_text(rt.alloc(), TWO_SEGMENTS, 16) {
+    match flat_text(rt.alloc(), Profile::Two, TWO_SEGMENTS, 16) {
         Ok(flat) => assert_eq!(rt; flat.view().cpu.pc(), 0x8000_0100),
         Err(found) => assert!(rt; found == TextError::Memory),
     }

@@ -20,7 +20,7 @@ take_parts m n bytes =
     sym (take-append-drop m (take (m + n) bytes)) ∙ cc
 
 -- the fields one after the other
-fields_of_header : (file : List ℕ) → take 40 file ≡ take 4 file ++ take 4 (drop 4 file) ++ take 32 (drop 8 file)
+pub fields_of_header : (file : List ℕ) → take 40 file ≡ take 4 file ++ take 4 (drop 4 file) ++ take 32 (drop 8 file)
 fields_of_header file =
     take_parts 4 36 file ∙ ap (λ (l : List ℕ). take 4 file ++ l) (take_parts 4 32 (drop 4 file))
     ∙ sym (append_assoc (take 4 file) (take 4 (drop 4 file)) (take 32 (drop 4 (drop 4 file))))
@@ -58,7 +58,7 @@ stands file digest pages entries header has = record {
 }
 
 -- the first bytes of a whole are the part that it begins with, and the others what follows
-front_of : (n : ℕ) (whole front rest : List ℕ) → whole ≡ front ++ rest → length front ≡ n → (take n whole ≡ front) × (drop n whole ≡ rest)
+pub front_of : (n : ℕ) (whole front rest : List ℕ) → whole ≡ front ++ rest → length front ≡ n → (take n whole ≡ front) × (drop n whole ≡ rest)
 front_of n whole front rest is long = (
   ap (take n) is ∙ ap (λ (k : ℕ). take k (front ++ rest)) (sym long) ∙ take-append_seam front rest,
   ap (drop n) is ∙ ap (λ (k : ℕ). drop k (front ++ rest)) (sym long) ∙ drop-append_seam front rest,
@@ -93,3 +93,4 @@ no_header_fault file digest pages fault.Header header early h =
 no_header_fault file digest pages fault.Image header early h =
     h (fields_found file digest pages header.bytes (omega (arith, header.range.most))).2
 no_header_fault file digest pages fault.Body header early h = absurd (omega (arith, early))
+no_header_fault file digest pages fault.Profile header early h = absurd (omega (arith, early))

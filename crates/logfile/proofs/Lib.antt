@@ -6,3 +6,4 @@ pub mod Loops
 pub mod Numbers
 pub mod Splitting
 pub mod Taken
+pub mod SecondVersion

@@ -13,6 +13,7 @@ number_of fault.Short = 1
 number_of fault.Header = 2
 number_of fault.Image = 3
 number_of fault.Body = 4
+number_of fault.Profile = 6
 
 -- the fields of the header
 abbrev pub magic_in : List ℕ → List ℕ
@@ -25,12 +26,13 @@ abbrev pub digest_in : List ℕ → List ℕ
 digest_in file = take 32 (drop 8 file)
 
 -- the file fails a check: it has no whole header; it has another magic number, or pages that no machine has; it has the
--- digest of another image; or behind the header are bytes that no list of entries has
+-- digest of another image; or behind the header are bytes that no list of entries has. A file of version 1 names no profile
 abbrev pub Fails : LogFault → List ℕ → List ℕ → Type 0
 Fails fault.Short file digest = length file < 40
 Fails fault.Header file digest = (magic_in file ≢ magic) ⊎ (pages_in file < 2) ⊎ (16384 < pages_in file)
 Fails fault.Image file digest = digest_in file ≢ digest
 Fails fault.Body file digest = (entries : List Entry) → ¬ HasEntries file entries
+Fails fault.Profile file digest = ⊥
 
 -- the first check that it fails
 pub record IsFault (file digest : List ℕ) (fault : LogFault) : Type 0 where

@@ -3,3 +3,4 @@ pub mod Files
 pub mod Faults
 pub mod Runs
 pub mod Reading
+pub mod Versions

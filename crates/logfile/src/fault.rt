@@ -9,11 +9,11 @@ use thiserror::Error;
 /// What is wrong with a file.
 #[derive(Clone, Copy, Debug, PartialEq, Eq, Error)]
 pub enum LogFault {
-    /// It has fewer than 40 bytes.
+    /// It has fewer than 40 bytes, or is one of version 2 of fewer than 44.
     #[error("the file is shorter than the header of a log")]
     Short,
-    /// It doesn't begin with `MVL1`, or its pages aren't 2 to 16384.
-    #[error("the file is no log of version 1, or has a wrong number of pages")]
+    /// It begins with neither `MVL1` nor `MVL2`, or its pages aren't 2 to the most of its profile.
+    #[error("the file is no log, or has a wrong number of pages")]
     Header,
     /// Its digest isn't that of the image.
     #[error("the log is that of another image")]
@@ -21,10 +21,13 @@ pub enum LogFault {
     /// An item is cut off, its tag is unknown, its seat is above 3, its register is above 37, or its steps are none.
     #[error("an item of the log is cut off, or has a wrong tag, seat, register or count")]
     Body,
+    /// It is of version 2, and names a profile that there is not.
+    #[error("the log is that of a machine of an unknown profile")]
+    Profile,
 }
 
 impl LogFault {
-    /// Its number, 1 to 4, which is the order of the variants.
+    /// Its number: 1 to 4 in the order of the variants, and 6 of `Profile`, 5 being that of an item that the machine refuses.
     pub fn number(self) -> u32
         ensures { result ≡ number_of self }
     {
@@ -33,6 +36,7 @@ impl LogFault {
             LogFault::Header => 2,
             LogFault::Image => 3,
             LogFault::Body => 4,
+            LogFault::Profile => 6,
         }
     }
 }

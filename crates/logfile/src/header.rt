@@ -27,7 +27,7 @@ pub fn image_digest(file: &[u8]) -> [u8; 32]
 }
 
 /// The pages that the header of a file names.
-fn pages_in(file: &[u8]) -> u32
+pub(crate) fn pages_in(file: &[u8]) -> u32
     requires { HEADER_SIZE ≤ length file.now }
     ensures { result ≡ pages_in file.now }
 {

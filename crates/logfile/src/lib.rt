@@ -16,11 +16,14 @@ mod item_reader;
 pub mod laws;
 pub mod reader;
 mod tag;
+pub mod version_laws;
+pub mod versions;
 pub mod writer;
 
 pub use fault::{LogFault, ReadError};
 pub use header::{HEADER_SIZE, check_header, image_digest};
 pub use reader::read_entries;
+pub use versions::{LogHeader, append_as, read_entries_as, read_header, write_as};
 pub use writer::{append, write};
 
 #[cfg(test)]

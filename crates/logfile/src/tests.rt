@@ -4,6 +4,8 @@ ghost use Rattle.items.specs.declared.item.What.{What};
 ghost use Rattle.items.specs.declared.entry.Entry.TheVariants.{Steps, One};
 ghost use Rattle.logfile.specs.Runs.{HasItems};
 
+mod versions;
+
 use crate::header::HEADER_SIZE;
 use crate::{ReadError, check_header, image_digest, read_entries, write};
 use items::{DebugRegister, Entry, Item, SeatNo, What, WriteBytes};

@@ -82,7 +82,7 @@ fn write_item(file: &mut Vec<u8>, item: &Item) -> Result<(), AllocError>
 }
 
 /// Writes an entry, which holds at least one item.
-fn write_entry(file: &mut Vec<u8>, entry: &Entry) -> Result<(), AllocError>
+pub(crate) fn write_entry(file: &mut Vec<u8>, entry: &Entry) -> Result<(), AllocError>
     requires { HasItems entry.now }
     ensures bytes { OnOk result (file.new.items ≡ file.old.items ++ body_bytes (written_entries entry.now)) }
     ensures each { OnOk result (All IsFileEntry (written_entries entry.now)) }

@@ -5,7 +5,9 @@ use Rattle.word32.specs.Zeros.{zeros}
 use Rattle.elf32.specs.declared.image.Segment.{Segment}
 use Rattle.elf32.specs.declared.image.Image.{Image}
 use Rattle.devices.specs.Devices.{fresh_devices}
-use Rattle.machine.specs.Processor.{boot_processor}
+use Rattle.mips_cp0.specs.declared.profile.Profile.{Profile}
+use Rattle.mips_cp0.specs.declared.profile.Profile.TheVariants.{One}
+use Rattle.machine.specs.Processor.{boot_processor_as}
 use Rattle.machine.specs.Board.{Board}
 use Rattle.machine.specs.Step.{Machine, machine_with}
 
@@ -21,5 +23,10 @@ boot_memory image pages = fold placed (zeros (pages * 4096)) image.segments.item
 abbrev pub boot_board : Image → ℕ → Board
 boot_board image pages = record { memory = boot_memory image pages; devices = fresh_devices pages }
 
+-- the machine of a profile
+abbrev pub boot_machine_as : Profile → Image → ℕ → Machine
+boot_machine_as profile image pages = machine_with (boot_processor_as profile image.entry) (boot_board image pages)
+
+-- that of the first profile
 abbrev pub boot_machine : Image → ℕ → Machine
-boot_machine image pages = machine_with (boot_processor image.entry) (boot_board image pages)
+boot_machine image pages = boot_machine_as One image pages

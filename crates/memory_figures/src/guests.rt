@@ -2,6 +2,7 @@
 ghost use Rattle.std.specs.Prelude.{◌≤◌, length, IfOk};
 
 use elf32::Image;
+use mips_cp0::Profile;
 use std::alloc::{AllocError, Global};
 use std::sync::Arc;
 use swapstore::MemStore;
@@ -38,6 +39,7 @@ pub fn image_of(alloc: Global, code: &[u32], pages: u32) -> Result<Image, AllocE
 /// A guest of equal shares with the others.
 pub fn guest_of(image: &Arc<Image, Global>) -> Result<NewGuest, AllocError> {
     Ok(NewGuest {
+        profile: Profile::One,
         image: image.clone()?,
         pages: PAGES,
         shares: 1000,

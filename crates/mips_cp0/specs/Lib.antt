@@ -4,6 +4,7 @@ pub mod Cause
 pub mod Entered
 pub mod Exception
 pub mod Interrupts
+pub mod Profiles
 pub mod Registers
 pub mod Status
 pub mod Time

@@ -12,11 +12,13 @@ pub mod cause;
 pub mod cp0;
 pub mod exception;
 pub mod laws;
+pub mod profile;
 pub mod register;
 pub mod status;
 
 pub use cause::Cause;
-pub use cp0::{Cp0, TLB_ENTRIES};
+pub use cp0::Cp0;
 pub use exception::{Coprocessor, Exc};
+pub use profile::{MOST_ENTRIES, Profile, ProfileNumbers};
 pub use register::SystemRegister;
 pub use status::Status;

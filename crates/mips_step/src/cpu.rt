@@ -1,12 +1,12 @@
 //! The state of the processor, and how control moves.
 ghost use Rattle.std.specs.Prelude.{◌≡◌, ◌%◌, IfSome, IfOk, Ok};
-ghost use Rattle.machine.specs.Processor.{Processor, reg, with_reg, boot_processor};
+ghost use Rattle.machine.specs.Processor.{Processor, reg, with_reg, boot_processor, boot_processor_as};
 ghost use Rattle.machine.specs.Places.{alignment, place, data_address};
 
 pub use self::counter::Counter;
 use crate::sign::extended;
 use machine::Size;
-use mips_cp0::{Cp0, Exc};
+use mips_cp0::{Cp0, Exc, Profile};
 use mips_instr::Reg;
 use mips_tlb::{Kind, Tlb, direct_address};
 use std::marker::Model;
@@ -14,6 +14,7 @@ use std::marker::Model;
 mod control;
 pub mod counter;
 mod debug;
+mod snapshot;
 mod system;
 
 /// The processor's registers. In clauses they are a record, `Processor`.
@@ -30,16 +31,27 @@ pub struct Cpu {
 
 impl Model for Cpu {
     ghost use Rattle.machine.specs.Processor.{Processor};
+    ghost use Rattle.mips_tlb.specs.Entries.{BelongTogether};
 
     ghost Value = { Processor };
 
     ghost view = { λ c. record { regs = c.regs; hi = c.hi; lo = c.lo; pc = c.counter.pc; slot = c.counter.slot; ll_bit = c.ll_bit; cp0 = c.cp0; tlb = c.tlb } };
+
+    ghost invariant = { λ c. BelongTogether c.tlb c.cp0 };
 }
 
 impl Cpu {
-    /// A processor as a machine boots, at its entry address.
+    /// A processor as a machine of the first profile boots, at its entry address.
     pub fn boot(entry: u32) -> Cpu
         ensures { result ≡ boot_processor entry }
+    {
+        Cpu::boot_as(Profile::One, entry)
+    }
+
+    /// A processor as a machine of a profile boots, at its entry address.
+    #[tactic(auto, using(mips_tlb::proofs::Used::boot_together))]
+    pub fn boot_as(profile: Profile, entry: u32) -> Cpu
+        ensures { result ≡ boot_processor_as profile entry }
     {
         Cpu {
             regs: [0; 32],
@@ -47,8 +59,8 @@ impl Cpu {
             lo: 0,
             counter: Counter::at(entry),
             ll_bit: false,
-            cp0: Cp0::boot(),
-            tlb: Tlb::boot(),
+            cp0: Cp0::boot_as(profile),
+            tlb: Tlb::boot_as(profile),
         }
     }
 

@@ -4,6 +4,7 @@ mod cp0;
 mod debug;
 mod isa;
 mod many_steps;
+mod profiles;
 mod sparse;
 mod step;
 mod tlb;

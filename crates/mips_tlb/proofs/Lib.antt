@@ -1,3 +1,4 @@
 pub mod Pages
 pub mod Searches
 pub mod Shown
+pub mod Used

@@ -1,5 +1,6 @@
 //! The TLB instructions.
 ghost use Rattle.std.specs.Prelude.{◌≡◌};
+ghost use Rattle.mips_tlb.specs.Entries.{BelongTogether};
 ghost use Rattle.mips_tlb.specs.Instructions.{half_in, entry_in, entry_hi_of, entry_lo_of, after_read, after_write_indexed, after_write_random, after_probe};
 
 use crate::{Coherence, Entry, PageHalf, Tlb, Vpn2};
@@ -9,7 +10,8 @@ use word32::Ppn;
 impl Tlb {
     /// TLBR: the entry that Index numbers goes to EntryHi, EntryLo0 and EntryLo1.
     pub fn read_indexed(&self, cp0: &mut Cp0)
-        ensures { cp0.new ≡ after_read self.now cp0.old }
+        requires { BelongTogether self.now cp0.old }
+        ensures read { cp0.new ≡ after_read self.now cp0.old }
     {
         let entry = self.read(cp0.indexed() as usize);
         cp0.set_entry(
@@ -21,14 +23,18 @@ impl Tlb {
 
     /// TLBWI: the entry in EntryHi, EntryLo0 and EntryLo1 becomes the one that Index numbers.
     pub fn write_indexed(&mut self, cp0: &Cp0)
-        ensures { self.new ≡ after_write_indexed cp0.now self.old }
+        requires { BelongTogether self.old cp0.now }
+        ensures written { self.new ≡ after_write_indexed cp0.now self.old }
+        ensures together { BelongTogether self.new cp0.now }
     {
         self.write(cp0.indexed() as usize, entry_in(cp0));
     }
 
     /// TLBWR: the entry in EntryHi, EntryLo0 and EntryLo1 becomes the one that Random numbers.
     pub fn write_random(&mut self, cp0: &Cp0)
-        ensures { self.new ≡ after_write_random cp0.now self.old }
+        requires { BelongTogether self.old cp0.now }
+        ensures written { self.new ≡ after_write_random cp0.now self.old }
+        ensures together { BelongTogether self.new cp0.now }
     {
         self.write(cp0.random() as usize, entry_in(cp0));
     }

@@ -15,5 +15,5 @@ pub mod translation;
 
 pub use fields::{Coherence, Vpn2};
 pub use kind::Kind;
-pub use tlb::{ENTRIES, Entry, PageHalf, Tlb};
+pub use tlb::{Entry, PageHalf, Tlb};
 pub use translation::direct_address;

@@ -1,14 +1,11 @@
 //! The entries.
-ghost use Rattle.std.specs.Prelude.{◌≡◌, ◌<◌, position, find, IfSome, slice_get, slice_set, Some};
-ghost use Rattle.mips_tlb.specs.Entries.{boot_entries, matches};
+ghost use Rattle.std.specs.Prelude.{◌≡◌, ◌<◌, ◌≤◌, position, find, IfSome, length, slice_get, slice_set, Some};
+ghost use Rattle.mips_tlb.specs.Entries.{boot_entries, boot_entries_as, matches};
 
 use crate::{Coherence, Vpn2};
-use mips_cp0::TLB_ENTRIES;
+use mips_cp0::{MOST_ENTRIES, Profile};
 use std::marker::Model;
 use word32::Ppn;
-
-/// How many entries the TLB has.
-pub const ENTRIES: usize = TLB_ENTRIES as usize;
 
 /// What an entry says of one of its two pages.
 #[derive(Clone, Copy, Debug, PartialEq, Eq)]
@@ -48,25 +45,37 @@ impl Entry {
     }
 }
 
-/// The TLB. In clauses it is the list of its 16 entries.
+/// The TLB. In clauses it is the list of its entries, 16 or 32 by the profile.
 #[derive(Drop)]
 pub struct Tlb {
-    entries: [Entry; ENTRIES],
+    entries: [Entry; MOST_ENTRIES],
+    // How many of them the processor has; the others are nothing.
+    len: usize,
 }
 
 impl Model for Tlb {
-    ghost use Rattle.std.specs.Prelude.{List};
+    ghost use Rattle.std.specs.Prelude.{◌≤◌, List, take};
     ghost use Rattle.mips_tlb.specs.declared.tlb.Entry.{Entry};
 
     ghost Value = { List Entry };
 
-    ghost view = { λ t. t.entries };
+    ghost view = { λ t. take t.len t.entries };
+
+    ghost invariant = { λ t. t.len ≤ 32 };
 }
 
 impl Tlb {
-    /// The TLB as a machine boots: all zeros.
+    /// The TLB as a machine of the first profile boots.
     pub fn boot() -> Tlb
         ensures { result ≡ boot_entries }
+    {
+        Tlb::boot_as(Profile::One)
+    }
+
+    /// The TLB as a machine of a profile boots: all zeros.
+    #[tactic(auto, using(crate::proofs::Used::zeros_used))]
+    pub fn boot_as(profile: Profile) -> Tlb
+        ensures { result ≡ boot_entries_as profile }
     {
         let even = PageHalf {
             pfn: Ppn::new(0),
@@ -83,32 +92,64 @@ impl Tlb {
             odd,
         };
         Tlb {
-            entries: [entry; ENTRIES],
+            entries: [entry; MOST_ENTRIES],
+            len: profile.numbers().entries as usize,
         }
     }
 
-    /// The entry of an index, which is below `ENTRIES`.
-    pub fn read(&self, index: usize) -> Entry
-        requires { index < ENTRIES }
-        ensures { slice_get self.now index ≡ Some result }
+    /// The same TLB once more, for a snapshot.
+    pub fn again(&self) -> Tlb
+        ensures { result ≡ self.now }
     {
-        self.entries[index]
+        let mut entries = [self.entries[0]; MOST_ENTRIES];
+        entries.copy_from_slice(&self.entries);
+        Tlb {
+            entries,
+            len: self.len,
+        }
     }
 
-    /// Writes the entry of an index, which is below `ENTRIES`.
-    pub fn write(&mut self, index: usize, entry: Entry)
-        requires { index < ENTRIES }
-        ensures { self.new ≡ slice_set self.old index entry }
+    /// How many entries it has, 16 or 32 by the profile.
+    pub fn len(&self) -> usize
+        ensures value { result ≡ length self.now }
+        ensures small { result ≤ MOST_ENTRIES }
     {
+        self.entries().len()
+    }
+
+    /// Its entries.
+    pub fn entries(&self) -> &[Entry]
+        ensures entries { result.now ≡ self.now }
+        ensures number { length result.now ≤ MOST_ENTRIES }
+    {
+        &self.entries[..self.len]
+    }
+
+    /// The entry of an index, which is below their number.
+    pub fn read(&self, index: usize) -> Entry
+        requires { index < length self.now }
+        ensures { slice_get self.now index ≡ Some result }
+    {
+        self.entries()[index]
+    }
+
+    /// Writes the entry of an index, which is below their number.
+    #[tactic(auto, using(crate::proofs::Used::write_used, crate::proofs::Used::index_used))]
+    pub fn write(&mut self, index: usize, entry: Entry)
+        requires { index < length self.old }
+        ensures written { self.new ≡ slice_set self.old index entry }
+        ensures number { length self.new ≡ length self.old }
+    {
+        let _ = &self.entries;
         self.entries[index] = entry;
     }
 
     /// The least index of an entry that matches a virtual address in an address space; None where none does.
     pub fn find(&self, address: u32, asid: u8) -> Option<usize>
         ensures value { result ≡ position (matches address asid) self.now }
-        ensures small { IfSome result (λ index. index < ENTRIES) }
+        ensures small { IfSome result (λ index. index < MOST_ENTRIES) }
     {
-        self.entries
+        self.entries()
             .iter()
             .position(|entry| entry.matches(address, asid))
     }
@@ -117,7 +158,7 @@ impl Tlb {
     pub(crate) fn matching(&self, address: u32, asid: u8) -> Option<Entry>
         ensures { result ≡ find (matches address asid) self.now }
     {
-        self.entries
+        self.entries()
             .iter()
             .copied()
             .find(|entry| entry.matches(address, asid))

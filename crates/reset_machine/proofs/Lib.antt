@@ -1,3 +1,4 @@
+mod Homes
 mod Marking
 mod Stepping
 mod Watching

@@ -1,16 +1,12 @@
--- A memory whose changes are watched: what a store changes is marked, and a page that is put back is as at the boot.
+-- A memory whose changes are watched: what a store changes is marked, and a page that is put back is as it was at first.
 use Rattle.std.proofs.Common.{ℕ, ◌≡◌, ◌⊎◌, inl, inr, ◌+◌, ◌-◌, ◌*◌, ◌/◌, ◌%◌, ◌^◌, ◌<◌, ◌≤◌, Bool, true, false, nat_le, if◌then◌else◌, All, fold, List, [], ◌∷◌, length, set, get_or, replicate, Option, Some, None, suc, refl, sym, ap, subst, ◌∙◌, arith, length-set, le-leb}
 use Rattle.std.proofs.lemmas.Bool.{cases_lt, cases_eq, true≢false}
 use Rattle.std.proofs.lemmas.List.{same_lists, length-replicate}
 use Rattle.word32.specs.Pages.{page_number}
 use Rattle.word32.specs.Words.{patched}
-use Rattle.word32.specs.Zeros.{zeros}
 use Rattle.devices.specs.declared.register.DeviceRegister.{DeviceRegister}
 use Rattle.devices.specs.Devices.{DevicesAre}
 use Rattle.devices.specs.Registers.{device_register_at, page_to_give}
-use Rattle.elf32.specs.declared.image.Segment.{Segment}
-use Rattle.elf32.specs.declared.image.Image.{Image}
-use Rattle.elf32.specs.Images.{IsWithin, FitsPages}
 use Rattle.mips_tlb.specs.declared.kind.Kind.{Kind}
 use Rattle.mips_tlb.specs.declared.kind.Kind.TheVariants.{Store}
 use Rattle.machine.specs.declared.access.Size.{Size}
@@ -18,39 +14,26 @@ use Rattle.machine.specs.declared.access.Size.TheVariants.{Byte, Half, Word, Lef
 use Rattle.machine.specs.Bus.{Lacks, IsPlain}
 use Rattle.machine.specs.Board.{Board, Reach, reach, page_bytes, first_byte, bytes_of, bytes_after, is_in_memory, is_register_access, register_reach, given_away, touched, board_loaded, board_stored, memory_stored}
 use Rattle.machine.specs.Board.Reach.{InMemory, AtRegister, Nowhere}
-use Rattle.machine.specs.Boot.{placed, boot_memory}
 use Rattle.machine.specs.Places.{alignment}
 use Rattle.machine.proofs.Boards.{reach_fits, within_memory, given_away_size}
 use Rattle.machine.proofs.Clearing.{length-zeros, other_page_cleared}
 use Rattle.machine.proofs.Pages.{Stored, patched_stored, length-page, page_place, same_page, same_place}
 use Rattle.machine.proofs.Stores.{length-after, other_page}
-use Rattle.guest.proofs.BootPages.{placed_size}
 use Rattle.reset_machine.specs.Marks.{is_marked, Grows}
-use Rattle.reset_machine.specs.Watched.{IsWatched, AreGivenMarked}
+use Rattle.reset_machine.specs.Watched.{HasPages, IsWatched, AreGivenMarked}
 use Rattle.reset_machine.proofs.Marking.{mark_grows, marked_now, other_mark}
 
--- ---- the boot
+-- ---- at first
 
-placed_all_size : (segments : List Segment) (memory : List ℕ) → All (IsWithin (length memory)) segments → length (fold placed memory segments) ≡ length memory
-placed_all_size [] memory within = refl
-placed_all_size (s ∷ segments) memory within =
-    let size = placed_size memory s (within 0 s (omega arith)) in
-    placed_all_size segments (placed memory s) (subst (λ (n : ℕ). All (IsWithin n) segments) (sym size) (λ k d h. within (suc k) d (omega arith))) ∙ size
-
-pub boot_size : (image : Image) (pages : ℕ) → FitsPages image pages → length (boot_memory image pages) ≡ pages * 4096
-boot_size image pages fits =
-    let size = length-zeros (pages * 4096) in
-    placed_all_size image.segments.items (zeros (pages * 4096)) (subst (λ (n : ℕ). All (IsWithin n) image.segments.items) (sym size) fits) ∙ size
-
-pub boot_watched : (image : Image) (pages : ℕ) (memory : List ℕ) (marked : List Bool) → FitsPages image pages → pages ≤ 2 ^ 20 → memory ≡ boot_memory image pages
-    → marked ≡ replicate pages false → IsWatched memory marked image
-boot_watched image pages memory marked fits few is none =
+pub home_watched : (home memory : List ℕ) (pages : ℕ) (marked : List Bool) → HasPages pages home → memory ≡ home → marked ≡ replicate pages false → IsWatched memory marked home
+home_watched home memory pages marked has is none =
     let count : length marked ≡ pages = ap length none ∙ length-replicate pages false in
+    let size : length home ≡ length marked * 4096 = has.size ∙ ap (λ (n : ℕ). n * 4096) (sym count) in
     record {
-      fits = subst (λ (n : ℕ). FitsPages image n) (sym count) fits;
-      few = omega (arith, count, few);
-      size = ap length is ∙ boot_size image pages fits ∙ ap (λ (n : ℕ). n * 4096) (sym count);
-      same = λ page there clear. ap (page_bytes page) (is ∙ ap (boot_memory image) (sym count));
+      few = omega (arith, count, has.few);
+      size = ap length is ∙ size;
+      home_size = size;
+      same = λ page there clear. ap (page_bytes page) is;
     }
 
 -- ---- what leaves the memory
@@ -60,45 +43,44 @@ loaded_memory InMemory at board = refl
 loaded_memory (AtRegister r) at board = refl
 loaded_memory Nowhere at board = refl
 
-still_watched : (old new : List ℕ) (marked : List Bool) (image : Image) → new ≡ old → IsWatched old marked image → IsWatched new marked image
-still_watched old new marked image is w = subst (λ (m : List ℕ). IsWatched m marked image) (sym is) w
+pub still_watched : (old new : List ℕ) (marked : List Bool) (home : List ℕ) → new ≡ old → IsWatched old marked home → IsWatched new marked home
+still_watched old new marked home is w = subst (λ (m : List ℕ). IsWatched m marked home) (sym is) w
 
-pub loaded_watched : (r : Reach) (at : ℕ) (old new : Board) (marked : List Bool) (image : Image) → new ≡ board_loaded r at old → IsWatched old.memory marked image → IsWatched new.memory marked image
-loaded_watched r at old new marked image is w = still_watched old.memory new.memory marked image (ap (λ (b : Board). b.memory) is ∙ loaded_memory r at old) w
+pub loaded_watched : (r : Reach) (at : ℕ) (old new : Board) (marked : List Bool) (home : List ℕ) → new ≡ board_loaded r at old → IsWatched old.memory marked home → IsWatched new.memory marked home
+loaded_watched r at old new marked home is w = still_watched old.memory new.memory marked home (ap (λ (b : Board). b.memory) is ∙ loaded_memory r at old) w
 
-pub touched_watched : (at : ℕ) (old new : Board) (marked : List Bool) (image : Image) → new ≡ touched at old → IsWatched old.memory marked image → IsWatched new.memory marked image
-touched_watched at old new marked image is w = still_watched old.memory new.memory marked image (ap (λ (b : Board). b.memory) is) w
+pub touched_watched : (at : ℕ) (old new : Board) (marked : List Bool) (home : List ℕ) → new ≡ touched at old → IsWatched old.memory marked home → IsWatched new.memory marked home
+touched_watched at old new marked home is w = still_watched old.memory new.memory marked home (ap (λ (b : Board). b.memory) is) w
 
-pub devices_watched : (d : DevicesAre) (old new : Board) (marked : List Bool) (image : Image) → new ≡ record old { devices = d } → IsWatched old.memory marked image → IsWatched new.memory marked image
-devices_watched d old new marked image is w = still_watched old.memory new.memory marked image (ap (λ (b : Board). b.memory) is) w
+pub devices_watched : (d : DevicesAre) (old new : Board) (marked : List Bool) (home : List ℕ) → new ≡ record old { devices = d } → IsWatched old.memory marked home → IsWatched new.memory marked home
+devices_watched d old new marked home is w = still_watched old.memory new.memory marked home (ap (λ (b : Board). b.memory) is) w
 
 -- ---- stores
 
 -- a memory that is as long, and in which each page that is not marked then has stayed, is watched
-pub stays_watched : (old new : List ℕ) (before after : List Bool) (image : Image) → IsWatched old before image → Grows before after → length new ≡ length old
-    → ((page : ℕ) → page < length after → is_marked page after ≡ false → page_bytes page new ≡ page_bytes page old) → IsWatched new after image
-stays_watched old new before after image w grows size stays = record {
-  fits = subst (λ (n : ℕ). FitsPages image n) (sym grows.size) w.fits;
+pub stays_watched : (old new : List ℕ) (before after : List Bool) (home : List ℕ) → IsWatched old before home → Grows before after → length new ≡ length old
+    → ((page : ℕ) → page < length after → is_marked page after ≡ false → page_bytes page new ≡ page_bytes page old) → IsWatched new after home
+stays_watched old new before after home w grows size stays = record {
   few = omega (arith, grows.size, w.few);
   size = size ∙ w.size ∙ ap (λ (n : ℕ). n * 4096) (sym grows.size);
-  same = λ page there clear.
-      stays page there clear ∙ w.same page (omega (arith, there, grows.size)) (grows.kept page clear) ∙ ap (λ (n : ℕ). page_bytes page (boot_memory image n)) (sym grows.size);
+  home_size = w.home_size ∙ ap (λ (n : ℕ). n * 4096) (sym grows.size);
+  same = λ page there clear. stays page there clear ∙ w.same page (omega (arith, there, grows.size)) (grows.kept page clear);
 }
 
 -- a store to memory
-memory_watched : (size : Size) (value at : ℕ) (board : Board) (before after : List Bool) (image : Image) → first_byte size at + bytes_of size ≤ length board.memory
-    → at % alignment size ≡ 0 → IsWatched board.memory before image → Grows before after → is_marked (page_number at) after ≡ true
-    → IsWatched (bytes_after size value at board.memory) after image
-memory_watched size value at board before after image fits aligned w grows marked =
-    stays_watched board.memory (bytes_after size value at board.memory) before after image w grows (length-after size value at board.memory fits)
+memory_watched : (size : Size) (value at : ℕ) (board : Board) (before after : List Bool) (home : List ℕ) → first_byte size at + bytes_of size ≤ length board.memory
+    → at % alignment size ≡ 0 → IsWatched board.memory before home → Grows before after → is_marked (page_number at) after ≡ true
+    → IsWatched (bytes_after size value at board.memory) after home
+memory_watched size value at board before after home fits aligned w grows marked =
+    stays_watched board.memory (bytes_after size value at board.memory) before after home w grows (length-after size value at board.memory fits)
     (λ page there clear. other_page page size value at board.memory aligned fits (λ same. true≢false (sym marked ∙ ap (λ (p : ℕ). is_marked p after) same ∙ clear)))
 
 -- a page that may have been given
-given_watched : (given : Option ℕ) (memory : List ℕ) (before after : List Bool) (image : Image) → IsWatched memory before image → Grows before after
-    → ((page : ℕ) → given ≡ Some page → page < length before → is_marked page after ≡ true) → IsWatched (given_away given memory) after image
-given_watched None memory before after image w grows marked = stays_watched memory memory before after image w grows refl (λ page there clear. refl)
-given_watched (Some given) memory before after image w grows marked =
-    stays_watched memory (given_away (Some given) memory) before after image w grows (given_away_size (Some given) memory) (λ page there clear.
+given_watched : (given : Option ℕ) (memory : List ℕ) (before after : List Bool) (home : List ℕ) → IsWatched memory before home → Grows before after
+    → ((page : ℕ) → given ≡ Some page → page < length before → is_marked page after ≡ true) → IsWatched (given_away given memory) after home
+given_watched None memory before after home w grows marked = stays_watched memory memory before after home w grows refl (λ page there clear. refl)
+given_watched (Some given) memory before after home w grows marked =
+    stays_watched memory (given_away (Some given) memory) before after home w grows (given_away_size (Some given) memory) (λ page there clear.
     other_page_cleared given memory page (λ same. true≢false
     (sym (marked given refl (omega (arith, there, grows.size, same))) ∙ ap (λ (p : ℕ). is_marked p after) (sym same) ∙ clear)))
 
@@ -136,42 +118,42 @@ beside_memory size at pages count aligned is beside = elim (cases_lt (page_numbe
   | inr h ↦ h
 ]
 
-module _ (size : Size) (value at : ℕ) (board : Board) (before after : List Bool) (image : Image) where
-  store_by_reach : (r : Reach) → reach board Store size at ≡ r → at % alignment size ≡ 0 → IsWatched board.memory before image → Grows before after
+module _ (size : Size) (value at : ℕ) (board : Board) (before after : List Bool) (home : List ℕ) where
+  store_by_reach : (r : Reach) → reach board Store size at ≡ r → at % alignment size ≡ 0 → IsWatched board.memory before home → Grows before after
       → (page_number at < length before → is_marked (page_number at) after ≡ true) → (length before ≤ page_number at → AreGivenMarked at value after)
-      → IsWatched (board_stored r size value at board).memory after image
+      → IsWatched (board_stored r size value at board).memory after home
   store_by_reach InMemory is aligned w grows stored given =
       let fits = reach_fits board Store size at is in
-      memory_watched size value at board before after image fits aligned w grows (stored (page_there size at (length before) (length board.memory) fits w.size))
+      memory_watched size value at board before after home fits aligned w grows (stored (page_there size at (length before) (length board.memory) fits w.size))
   store_by_reach (AtRegister d) is aligned w grows stored given =
       let found = at_register (is_in_memory board size at) (is_register_access Store size) (device_register_at at) d is in
       let beside = beside_memory size at (length before) (length board.memory) aligned w.size found.0 in
-      given_watched (page_to_give d value board.devices) board.memory before after image w grows
+      given_watched (page_to_give d value board.devices) board.memory before after home w grows
       (λ page gives there. given beside d board.devices page found.1 gives (omega (arith, there, grows.size)))
-  store_by_reach Nowhere is aligned w grows stored given = stays_watched board.memory board.memory before after image w grows refl (λ page there clear. refl)
+  store_by_reach Nowhere is aligned w grows stored given = stays_watched board.memory board.memory before after home w grows refl (λ page there clear. refl)
 
-  pub store_watched : (new : Board) → new ≡ board_stored (reach board Store size at) size value at board → at % alignment size ≡ 0 → IsWatched board.memory before image
+  pub store_watched : (new : Board) → new ≡ board_stored (reach board Store size at) size value at board → at % alignment size ≡ 0 → IsWatched board.memory before home
       → Grows before after → (page_number at < length before → is_marked (page_number at) after ≡ true) → (length before ≤ page_number at → AreGivenMarked at value after)
-      → IsWatched new.memory after image
+      → IsWatched new.memory after home
   store_watched new is aligned w grows stored given =
-      subst (λ (b : Board). IsWatched b.memory after image) (sym is) (store_by_reach (reach board Store size at) refl aligned w grows stored given)
+      subst (λ (b : Board). IsWatched b.memory after home) (sym is) (store_by_reach (reach board Store size at) refl aligned w grows stored given)
 
 -- a plain store
-pub plain_there : (lacks : Lacks) (kind : Kind) (size : Size) (at : ℕ) (board : Board) (marked : List Bool) (image : Image) → IsPlain board lacks kind size at
-    → IsWatched board.memory marked image → page_number at < length marked
-plain_there lacks kind size at board marked image plain w = page_there size at (length marked) (length board.memory) (within_memory board size at plain.memory) w.size
+pub plain_there : (lacks : Lacks) (kind : Kind) (size : Size) (at : ℕ) (board : Board) (marked : List Bool) (home : List ℕ) → IsPlain board lacks kind size at
+    → IsWatched board.memory marked home → page_number at < length marked
+plain_there lacks kind size at board marked home plain w = page_there size at (length marked) (length board.memory) (within_memory board size at plain.memory) w.size
 
-pub plain_watched : (lacks : Lacks) (size : Size) (value at : ℕ) (board new : Board) (before after : List Bool) (image : Image) → IsPlain board lacks Store size at
-    → at % alignment size ≡ 0 → IsWatched board.memory before image → after ≡ set before (page_number at) true → new ≡ memory_stored size value at board
-    → IsWatched new.memory after image
-plain_watched lacks size value at board new before after image plain aligned w is stored =
-    let there = plain_there lacks Store size at board before image plain w in
-    subst (λ (b : Board). IsWatched b.memory after image) (sym stored)
-    (subst (λ (m : List Bool). IsWatched (memory_stored size value at board).memory m image) (sym is)
-    (memory_watched size value at board before (set before (page_number at) true) image (within_memory board size at plain.memory) aligned w (mark_grows before (page_number at))
+pub plain_watched : (lacks : Lacks) (size : Size) (value at : ℕ) (board new : Board) (before after : List Bool) (home : List ℕ) → IsPlain board lacks Store size at
+    → at % alignment size ≡ 0 → IsWatched board.memory before home → after ≡ set before (page_number at) true → new ≡ memory_stored size value at board
+    → IsWatched new.memory after home
+plain_watched lacks size value at board new before after home plain aligned w is stored =
+    let there = plain_there lacks Store size at board before home plain w in
+    subst (λ (b : Board). IsWatched b.memory after home) (sym stored)
+    (subst (λ (m : List Bool). IsWatched (memory_stored size value at board).memory m home) (sym is)
+    (memory_watched size value at board before (set before (page_number at) true) home (within_memory board size at plain.memory) aligned w (mark_grows before (page_number at))
     (marked_now before (page_number at) there)))
 
--- ---- back to the boot
+-- ---- back to what it was at first
 
 -- the page that was put is there, and each other page stays
 module _ (memory bytes : List ℕ) (page : ℕ) (fits : page * 4096 + 4096 ≤ length memory) (whole : length bytes ≡ 4096) where
@@ -199,48 +181,55 @@ module _ (memory bytes : List ℕ) (page : ℕ) (fits : page * 4096 + 4096 ≤ l
   other_put other apart =
       same_page other memory (patched memory (page * 4096) bytes 4096) put.size (λ k d is. put.beside k d (beside_put other k apart is))
 
-pub put_inside : (memory : List ℕ) (marked : List Bool) (image : Image) (page : ℕ) → IsWatched memory marked image → page < length marked → page * 4096 + 4096 ≤ length memory
-put_inside memory marked image page w there = omega (arith, w.size, there)
+pub home_inside : (memory : List ℕ) (marked : List Bool) (home : List ℕ) (page : ℕ) → IsWatched memory marked home → page < length marked → page * 4096 + 4096 ≤ length home
+home_inside memory marked home page w there = omega (arith, w.home_size, there)
 
-page_put_back : (memory bytes : List ℕ) (before after : List Bool) (image : Image) (page : ℕ) → IsWatched memory before image → page < length before → after ≡ set before page false
-    → length bytes ≡ 4096 → bytes ≡ page_bytes page (boot_memory image (length before)) → IsWatched (patched memory (page * 4096) bytes 4096) after image
-page_put_back memory bytes before after image page w there is whole boot = record {
-  fits = subst (λ (n : ℕ). FitsPages image n) (sym count) w.fits;
+pub put_inside : (memory : List ℕ) (marked : List Bool) (home : List ℕ) (page : ℕ) → IsWatched memory marked home → page < length marked → page * 4096 + 4096 ≤ length memory
+put_inside memory marked home page w there = omega (arith, w.size, there)
+
+page_put_back : (memory bytes : List ℕ) (before after : List Bool) (home : List ℕ) (page : ℕ) → IsWatched memory before home → page < length before → after ≡ set before page false
+    → length bytes ≡ 4096 → bytes ≡ page_bytes page home → IsWatched (patched memory (page * 4096) bytes 4096) after home
+page_put_back memory bytes before after home page w there is whole its = record {
   few = omega (arith, count, w.few);
   size = (put memory bytes page fits whole).size ∙ w.size ∙ ap (λ (n : ℕ). n * 4096) (sym count);
-  same = λ other h clear. same_by other (omega (arith, h, count)) clear (cases_eq other page) ∙ ap (λ (n : ℕ). page_bytes other (boot_memory image n)) (sym count);
+  home_size = w.home_size ∙ ap (λ (n : ℕ). n * 4096) (sym count);
+  same = λ other h clear. same_by other (omega (arith, h, count)) clear (cases_eq other page);
 }
   where
     count : length after ≡ length before
     count = ap length is ∙ length-set before page false
 
     fits : page * 4096 + 4096 ≤ length memory
-    fits = put_inside memory before image page w there
+    fits = put_inside memory before home page w there
 
     same_by : (other : ℕ) → other < length before → is_marked other after ≡ false → (other ≡ page) ⊎ (other ≡ page → ⊥)
-        → page_bytes other (patched memory (page * 4096) bytes 4096) ≡ page_bytes other (boot_memory image (length before))
+        → page_bytes other (patched memory (page * 4096) bytes 4096) ≡ page_bytes other home
     same_by other h clear (inl same) =
-        ap (λ (p : ℕ). page_bytes p (patched memory (page * 4096) bytes 4096)) same ∙ page_put memory bytes page fits whole ∙ boot
-        ∙ ap (λ (p : ℕ). page_bytes p (boot_memory image (length before))) (sym same)
+        ap (λ (p : ℕ). page_bytes p (patched memory (page * 4096) bytes 4096)) same ∙ page_put memory bytes page fits whole ∙ its
+        ∙ ap (λ (p : ℕ). page_bytes p home) (sym same)
     same_by other h clear (inr apart) =
         other_put memory bytes page fits whole other apart
         ∙ w.same other h (sym (other_mark before page other false apart) ∙ ap (λ (m : List Bool). is_marked other m) (sym is) ∙ clear)
 
-pub page_back : (old new : Board) (before after : List Bool) (image : Image) (page : ℕ) → IsWatched old.memory before image → page < length before → after ≡ set before page false
-    → length (page_bytes page (boot_memory image (length before))) ≡ 4096
-    → new ≡ record old { memory = patched old.memory (page * 4096) (page_bytes page (boot_memory image (length before))) 4096 } → IsWatched new.memory after image
-page_back old new before after image page w there now whole is =
-    subst (λ (b : Board). IsWatched b.memory after image) (sym is)
-    (page_put_back old.memory (page_bytes page (boot_memory image (length before))) before after image page w there now whole refl)
+pub page_back : (old new : Board) (before after : List Bool) (home : List ℕ) (page : ℕ) → IsWatched old.memory before home → page < length before → after ≡ set before page false
+    → new ≡ record old { memory = patched old.memory (page * 4096) (page_bytes page home) 4096 } → IsWatched new.memory after home
+page_back old new before after home page w there now is =
+    let inside : page * 4096 + 4096 ≤ length home = omega (arith, w.home_size, there) in
+    let whole : length (page_bytes page home) ≡ 4096 = length-page page home ∙ omega (arith, inside) in
+    subst (λ (b : Board). IsWatched b.memory after home) (sym is)
+    (page_put_back old.memory (page_bytes page home) before after home page w there now whole refl)
 
--- where no page is marked the memory is that of the boot
-pub all_back : (memory : List ℕ) (marked : List Bool) (image : Image) → IsWatched memory marked image → ((page : ℕ) → is_marked page marked ≡ false)
-    → memory ≡ boot_memory image (length marked)
-all_back memory marked image w clear =
-    let boot = boot_memory image (length marked) in
-    same_lists memory boot (w.size ∙ sym (boot_size image (length marked) w.fits)) (λ k d h.
+-- where no page is marked the memory is what it was at first
+pub all_back : (memory : List ℕ) (marked : List Bool) (home : List ℕ) → IsWatched memory marked home → ((page : ℕ) → is_marked page marked ≡ false) → memory ≡ home
+all_back memory marked home w clear =
+    same_lists memory home (w.size ∙ sym w.home_size) (λ k d h.
     let there : k / 4096 < length marked = omega (arith, h, w.size) in
-    same_place (k / 4096) boot memory (w.same (k / 4096) there (clear (k / 4096))) k d refl)
+    same_place (k / 4096) home memory (w.same (k / 4096) there (clear (k / 4096))) k d refl)
 
-pub booted_count : (pages : ℕ) → length (replicate pages false) ≡ pages
-booted_count pages = length-replicate pages false
+-- and as its home has
+pub as_long : (memory : List ℕ) (marked : List Bool) (home : List ℕ) → IsWatched memory marked home → length memory ≡ length home
+as_long memory marked home w = w.size ∙ sym w.home_size
+
+-- a memory that is watched has as many pages as there are marks
+pub watched_pages : (memory : List ℕ) (marked : List Bool) (home : List ℕ) → IsWatched memory marked home → HasPages (length marked) memory
+watched_pages memory marked home w = record { few = w.few; size = w.size }

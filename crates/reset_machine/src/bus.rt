@@ -1,21 +1,15 @@
-//! A memory whose changes since its image booted are watched.
+//! A memory whose changes are watched.
 ghost use Rattle.std.specs.Prelude.{◌≡◌, ℕ, ◌+◌, ◌*◌, ◌<◌, ◌≤◌, ◌^◌, ◌↔◌, true, false, None, Err, IfOk, OnOk, OnErr, IsOk, length, [], slice_set};
 ghost use Rattle.word32.specs.Pages.{page_number};
-ghost use Rattle.word32.specs.Words.{patched};
 ghost use Rattle.dev_console.specs.Console.{input_room};
 ghost use Rattle.devices.specs.Devices.{device_input_fed};
-ghost use Rattle.elf32.specs.Images.{FitsPages};
 ghost use Rattle.machine.specs.Answers.{replied};
-ghost use Rattle.machine.specs.Board.{page_bytes};
-ghost use Rattle.machine.specs.Boot.{boot_memory, boot_board, boot_machine};
 ghost use Rattle.reset_machine.specs.Marks.{is_marked, Grows};
-ghost use Rattle.reset_machine.specs.Watched.{IsWatched, AreGivenMarked};
+ghost use Rattle.reset_machine.specs.Watched.{HasPages, IsWatched, AreGivenMarked};
 
-use crate::Marks;
+use crate::{Home, Marks};
 use devices::{DeviceRegister, Devices};
-use elf32::Image;
 use flatvm::{Flat, FlatBus};
-use guest::load_image_page;
 use machine::{Kind, PhysBus, Refusal, Rejection, Reply, Size};
 use mips_step::Cpu;
 use std::alloc::{AllocError, Global};
@@ -23,49 +17,49 @@ use std::marker::Model;
 use std::sync::Arc;
 use word32::{Ppn, page_of};
 
-/// A plain memory with its devices that marks each page which a store changes, so that it goes back to how its image boots by those pages
-/// alone. In clauses it is a `WatchedBoard`.
+/// A plain memory with its devices that marks each page which a store changes, so that it goes back to what it was at first, the memory of its
+/// home, by those pages alone. In clauses it is a `WatchedBoard`.
 #[derive(Drop)]
 pub struct WatchedBus {
     flat: FlatBus,
     marks: Marks,
-    image: Arc<Image, Global>,
+    home: Arc<Home, Global>,
 }
 
 impl Model for WatchedBus {
-    ghost use Rattle.std.specs.Prelude.{length};
-    ghost use Rattle.machine.specs.Boot.{boot_machine};
     ghost use Rattle.reset_machine.specs.Watched.{WatchedBoard, IsWatched};
 
     ghost Value = { WatchedBoard };
 
-    ghost view = { λ b. record {
-      board = b.flat;
-      boot = boot_machine b.image.value (length b.marks.marked);
-      written = b.marks.list;
-    } };
+    ghost view = { λ b. record { board = b.flat; home = b.home.value; written = b.marks.list } };
 
-    ghost invariant = { λ b. IsWatched b.flat.memory b.marks.marked b.image.value };
+    ghost invariant = { λ b. IsWatched b.flat.memory b.marks.marked b.home.value.board.memory };
 }
 
 impl WatchedBus {
-    /// The memory and the devices that an image boots, of `pages` pages, at most 2^20, which hold the image. `AllocError` where a request
-    /// for memory was refused.
-    #[tactic(auto, using(crate::proofs::Watching::boot_watched, crate::proofs::Watching::booted_count))]
-    pub fn boot(
-        alloc: Global,
-        image: Arc<Image, Global>,
-        pages: u32,
-    ) -> Result<WatchedBus, AllocError>
-        requires fits { FitsPages image.value pages }
-        requires few { pages ≤ 2 ^ 20 }
-        ensures board { IfOk result (λ bus. bus.board ≡ boot_board image.value pages) }
-        ensures boot { IfOk result (λ bus. bus.boot ≡ boot_machine image.value pages) }
+    /// The memory and the devices of a home. `AllocError` where a request for memory was refused.
+    #[tactic(auto, using(crate::proofs::Watching::home_watched))]
+    pub fn new(alloc: Global, home: Arc<Home, Global>) -> Result<WatchedBus, AllocError>
+        ensures board { IfOk result (λ bus. bus.board ≡ home.value.board) }
+        ensures home { IfOk result (λ bus. bus.home ≡ home.value) }
         ensures written { IfOk result (λ bus. bus.written ≡ []) }
     {
-        let flat = FlatBus::boot(alloc, &image, pages)?;
-        let marks = Marks::new(alloc, pages)?;
-        Ok(WatchedBus { flat, marks, image })
+        let flat = home.board()?;
+        let marks = Marks::new(alloc, home.page_count())?;
+        Ok(WatchedBus { flat, marks, home })
+    }
+
+    /// The memory with the devices, and how many pages it has.
+    #[tactic(auto, using(crate::proofs::Watching::watched_pages))]
+    pub(crate) fn into_flat(self) -> (FlatBus, u32)
+        ensures board { result.0 ≡ self.board }
+        ensures pages { HasPages result.1 self.board.memory }
+    {
+        let pages = self.marks.pages() as u32;
+        let WatchedBus { flat, marks, home } = self;
+        drop(marks);
+        drop(home);
+        (flat, pages)
     }
 
     /// The devices.
@@ -75,13 +69,13 @@ impl WatchedBus {
         self.flat.devices()
     }
 
-    /// How many pages were written since the image booted; where none was, the memory is that of the boot.
+    /// How many pages were written since the memory was that of its home; where none was, it is.
     #[tactic(auto, using(crate::proofs::Watching::all_back))]
     pub fn written(&self) -> usize
         ensures count { result ≡ length self.now.written }
         ensures within { result * 4096 ≤ length self.now.board.memory }
         ensures few { result ≤ 2 ^ 20 }
-        ensures none { result ≡ 0 → self.now.board.memory ≡ self.now.boot.board.memory }
+        ensures none { result ≡ 0 → self.now.board.memory ≡ self.now.home.board.memory }
     {
         self.marks.count()
     }
@@ -90,7 +84,7 @@ impl WatchedBus {
     #[tactic(auto, using(crate::proofs::Watching::devices_watched))]
     pub fn feed(&mut self, byte: u8) -> Result<Reply, Rejection>
         ensures fed { OnOk result (self.new.board ≡ record self.old.board { devices = device_input_fed byte self.old.board.devices }) }
-        ensures boot { self.new.boot ≡ self.old.boot }
+        ensures home { self.new.home ≡ self.old.home }
         ensures room { IsOk result ↔ (length self.old.board.devices.console.input < input_room) }
         ensures refused { OnErr result (self.new ≡ self.old) }
         ensures error { OnErr result (result ≡ Err Rejection.Machine) }
@@ -98,51 +92,37 @@ impl WatchedBus {
         self.flat.feed(byte)
     }
 
-    /// The processor that the image boots.
-    pub fn boot_processor(&self) -> Cpu
-        ensures { result ≡ self.now.boot.cpu }
+    /// The processor of its home.
+    pub fn home_processor(&self) -> Cpu
+        ensures { result ≡ self.now.home.cpu }
     {
-        Cpu::boot(self.image.entry)
+        self.home.processor()
     }
 
-    /// Goes back to the memory and the devices that the image boots. `AllocError` where a request for memory was refused, and nothing has
-    /// changed then.
-    pub fn reset(&mut self, alloc: Global) -> Result<(), AllocError>
-        ensures board { OnOk result (self.new.board ≡ self.old.boot.board) }
+    /// Goes back to the memory and the devices of its home. `AllocError` where a request for memory was refused, and nothing has changed then.
+    #[tactic(auto, using(crate::proofs::Watching::as_long, crate::proofs::Watching::still_watched))]
+    pub fn reset(&mut self) -> Result<(), AllocError>
+        ensures board { OnOk result (self.new.board ≡ self.old.home.board) }
         ensures written { OnOk result (self.new.written ≡ []) }
-        ensures boot { self.new.boot ≡ self.old.boot }
+        ensures home { self.new.home ≡ self.old.home }
         ensures unchanged { OnErr result (self.new ≡ self.old) }
     {
-        let devices = Devices::new(alloc, self.marks.pages() as u32)?;
-        reload(&mut self.flat, &mut self.marks, &self.image);
-        self.flat.put_devices(devices);
+        self.home.put_devices(&mut self.flat)?;
+        reload(&mut self.flat, &mut self.marks, &self.home);
         Ok(())
     }
 }
 
-/// Puts the bytes that a page has as the image boots in the place of its own.
-fn reload_page(flat: &mut FlatBus, image: &Image, page: Ppn)
-    requires fits { (pages : ℕ) × FitsPages image.now pages }
-    requires there { page * 4096 + 4096 ≤ length flat.old.memory }
-    ensures whole { (pages : ℕ) → page < pages → FitsPages image.now pages → length (page_bytes page (boot_memory image.now pages)) ≡ 4096 }
-    ensures bytes { (pages : ℕ) → page < pages → FitsPages image.now pages →
-        flat.new ≡ record flat.old { memory = patched flat.old.memory (page * 4096) (page_bytes page (boot_memory image.now pages)) 4096 } }
-{
-    let mut bytes = [0; 4096];
-    load_image_page(image, page, &mut bytes);
-    flat.put_page(page, &bytes);
-}
-
-/// Puts back each page that is marked, as `reload_page` does, and takes its mark away.
-fn reload(flat: &mut FlatBus, marks: &mut Marks, image: &Image)
-    requires { IsWatched flat.old.memory marks.old.marked image.now }
-    ensures memory { flat.new ≡ record flat.old { memory = boot_memory image.now (length marks.old.marked) } }
-    ensures watched { IsWatched flat.new.memory marks.new.marked image.now }
-    ensures pages { length marks.new.marked ≡ length marks.old.marked }
+/// Puts back each page that is marked, with the bytes that it has at home, and takes its mark away.
+#[tactic(auto, using(crate::proofs::Watching::put_inside, crate::proofs::Watching::home_inside))]
+fn reload(flat: &mut FlatBus, marks: &mut Marks, home: &Home)
+    requires { IsWatched flat.old.memory marks.old.marked home.now.board.memory }
+    ensures memory { flat.new ≡ record flat.old { memory = home.now.board.memory } }
+    ensures watched { IsWatched flat.new.memory marks.new.marked home.now.board.memory }
     ensures list { marks.new.list ≡ [] }
 {
     while let Some(page) = marks.take() {
-        reload_page(flat, image, page);
+        home.put_page(page, flat);
     }
 }
 
@@ -180,12 +160,12 @@ fn mark_stored(marks: &mut Marks, at: u32, value: u32)
 }
 
 impl PhysBus for WatchedBus {
-    // The machine that the image boots, as its clauses see it.
+    // Its home, as its clauses see it.
     type Kept = Flat;
 
     ghost board = { λ b. b.board };
 
-    ghost kept = { λ b. b.boot };
+    ghost kept = { λ b. b.home };
 
     ghost lacks = { λ kept page kind. None };
 

@@ -1,14 +1,11 @@
-//! The machine that goes back to its boot.
+//! The machine that goes back to its home.
 ghost use Rattle.std.specs.Prelude.{◌≡◌, ◌*◌, ◌<◌, ◌≤◌, ◌^◌, None, IfOk, OnOk, OnErr, length};
 ghost use Rattle.items.specs.declared.item.What.TheVariants.{In};
-ghost use Rattle.elf32.specs.Images.{FitsPages};
-ghost use Rattle.machine.specs.Boot.{boot_machine};
 ghost use Rattle.machine.specs.Items.{after};
 ghost use Rattle.machine.specs.Step.{step};
 ghost use Rattle.runs.specs.Runs.{after_steps};
 
-use crate::WatchedBus;
-use elf32::Image;
+use crate::{Home, WatchedBus};
 use flatvm::Flat;
 use guest_log::Stop;
 use machine::{Rejection, StepOut};
@@ -22,8 +19,8 @@ use std::sync::Arc;
 /// Fewer steps than this are made one by one, since what it takes to begin a run is more than that.
 const FEW: u32 = 16;
 
-/// A machine that runs an image, and goes back to how the image boots by the pages that were written since. In clauses it is the machine as
-/// it stands and the one that its image boots, `Resettable`.
+/// A machine that begins as its home is, and goes back to that by the pages that were written since. In clauses it is the machine as it stands and
+/// its home, `Resettable`.
 #[derive(Drop)]
 pub struct ResetMachine {
     cpu: Cpu,
@@ -37,45 +34,48 @@ impl Model for ResetMachine {
 
     ghost Value = { Resettable };
 
-    ghost view = { λ m. record { machine = machine_with m.cpu m.bus.board; boot = m.bus.boot } };
+    ghost view = { λ m. record { machine = machine_with m.cpu m.bus.board; home = m.bus.home } };
 }
 
 impl ResetMachine {
-    /// The machine that an image boots, with a memory of `pages` pages, at most 2^20, which hold the image. `AllocError` where a request for
-    /// memory was refused.
-    pub fn boot(
-        alloc: Global,
-        image: Arc<Image, Global>,
-        pages: u32,
-    ) -> Result<ResetMachine, AllocError>
-        requires fits { FitsPages image.value pages }
-        requires few { pages ≤ 2 ^ 20 }
-        ensures machine { IfOk result (λ m. m.machine ≡ boot_machine image.value pages) }
-        ensures boot { IfOk result (λ m. m.boot ≡ boot_machine image.value pages) }
+    /// A machine as its home is. `AllocError` where a request for memory was refused.
+    pub fn new(alloc: Global, home: Arc<Home, Global>) -> Result<ResetMachine, AllocError>
+        ensures machine { IfOk result (λ m. m.machine ≡ home.value) }
+        ensures home { IfOk result (λ m. m.home ≡ home.value) }
     {
-        let cpu = Cpu::boot(image.entry);
+        let cpu = home.processor();
         let cache = RunCache::new(alloc)?;
-        let bus = WatchedBus::boot(alloc, image, pages)?;
+        let bus = WatchedBus::new(alloc, home)?;
         Ok(ResetMachine { cpu, bus, cache })
     }
 
-    /// Goes back to the machine that the image boots. It costs the pages that were written since, each 4,096 bytes. `AllocError` where a
-    /// request for memory was refused, and nothing has changed then.
-    pub fn reset(&mut self, alloc: Global) -> Result<(), AllocError>
-        ensures machine { OnOk result (self.new.machine ≡ self.old.boot) }
-        ensures boot { self.new.boot ≡ self.old.boot }
+    /// The machine as it stands, for others to begin as: it has no home any more.
+    pub fn into_home(self) -> Home
+        ensures { result ≡ self.machine }
+    {
+        let ResetMachine { cpu, bus, cache } = self;
+        drop(cache);
+        let (flat, pages) = bus.into_flat();
+        Home::of_parts(cpu, flat, pages)
+    }
+
+    /// Goes back to its home. It costs the pages that were written since, each 4,096 bytes. `AllocError` where a request for memory was refused,
+    /// and nothing has changed then.
+    pub fn reset(&mut self) -> Result<(), AllocError>
+        ensures machine { OnOk result (self.new.machine ≡ self.old.home) }
+        ensures home { self.new.home ≡ self.old.home }
         ensures unchanged { OnErr result (self.new ≡ self.old) }
     {
-        self.bus.reset(alloc)?;
-        self.cpu = self.bus.boot_processor();
+        self.bus.reset()?;
+        self.cpu = self.bus.home_processor();
         Ok(())
     }
 
-    /// How many pages were written since the boot or the last reset, at most as many as there are; where none was, the memory is that of the
-    /// boot.
+    /// How many pages were written since it began or the last reset, at most as many as there are; where none was, the memory is that of its
+    /// home.
     pub fn written(&self) -> u32
         ensures within { result * 4096 ≤ length self.now.machine.board.memory }
-        ensures none { result ≡ 0 → self.now.machine.board.memory ≡ self.now.boot.board.memory }
+        ensures none { result ≡ 0 → self.now.machine.board.memory ≡ self.now.home.board.memory }
     {
         self.bus.written() as u32
     }
@@ -85,7 +85,7 @@ impl ResetMachine {
     #[inline(always)]
     fn step(&mut self)
         ensures machine { self.new.machine ≡ step self.old.machine }
-        ensures boot { self.new.boot ≡ self.old.boot }
+        ensures home { self.new.home ≡ self.old.home }
     {
         match self.cpu.step(&mut self.bus) {
             StepOut::Done => {}
@@ -96,7 +96,7 @@ impl ResetMachine {
     /// `count` steps, one by one.
     fn step_by_step(&mut self, count: u32)
         ensures machine { self.new.machine ≡ after_steps count self.old.machine }
-        ensures boot { self.new.boot ≡ self.old.boot }
+        ensures home { self.new.home ≡ self.old.home }
     {
         for made in 0..count {
             // The turn is the number of steps that were made: the loop's invariant speaks of it.
@@ -111,7 +111,7 @@ impl ResetMachine {
     fn run_quietly(&mut self, count: u32) -> u32
         ensures few { result ≤ count }
         ensures machine { self.new.machine ≡ after_steps result self.old.machine }
-        ensures boot { self.new.boot ≡ self.old.boot }
+        ensures home { self.new.home ≡ self.old.home }
     {
         mips_fast::run(&mut self.cpu, &mut self.bus, &mut self.cache, count)
     }
@@ -119,7 +119,7 @@ impl ResetMachine {
     /// `count` steps: many at once, and one by itself wherever that ends.
     fn many_steps(&mut self, count: u32)
         ensures machine { self.new.machine ≡ after_steps count self.old.machine }
-        ensures boot { self.new.boot ≡ self.old.boot }
+        ensures home { self.new.home ≡ self.old.home }
     {
         let mut made: u32 = 0;
         while made < count {
@@ -132,21 +132,21 @@ impl ResetMachine {
     }
 }
 
-/// It never stops, and stays a machine of its image.
+/// It never stops, and keeps its home.
 impl Runnable for ResetMachine {
     ghost state = { λ m. m.machine };
 
     ghost may_stop = { λ m stop. ⊥ };
 
-    // The machine that the image boots, as its clauses see it.
+    // Its home, as its clauses see it.
     type Kept = Flat;
 
-    ghost kept = { λ m. m.boot };
+    ghost kept = { λ m. m.home };
 
     fn steps(&mut self, count: u32) -> (u32, Option<Stop>)
         ensures all { result.0 ≡ count }
         ensures state { self.new.machine ≡ after_steps count self.old.machine }
-        ensures boot { self.new.boot ≡ self.old.boot }
+        ensures home { self.new.home ≡ self.old.home }
         ensures never_stops { result.1 ≡ None }
     {
         if count < FEW {
@@ -160,7 +160,7 @@ impl Runnable for ResetMachine {
     fn feed(&mut self, byte: u8) -> Result<(), Stop>
         requires { length self.old.machine.board.devices.console.input < 256 }
         ensures fed { OnOk result (self.new.machine ≡ after (In byte) self.old.machine) }
-        ensures boot { self.new.boot ≡ self.old.boot }
+        ensures home { self.new.home ≡ self.old.home }
         ensures never_stops { result ≡ Ok tt }
     {
         match self.bus.feed(byte) {

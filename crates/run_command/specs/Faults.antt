@@ -2,6 +2,7 @@
 use Rattle.std.specs.Prelude.{◌≡◌, ◌<◌, ◌⊎◌, ℕ, List, None, Some, All, length, map}
 use Rattle.std.specs.List.{slice_get}
 use Rattle.std.specs.Borrow.{Bor}
+use Rattle.mips_cp0.specs.declared.profile.Profile.{Profile}
 use Rattle.tenant.specs.declared.loading.BootError.{BootError}
 use Rattle.booting.specs.declared.asked.Config.{Config}
 use Rattle.booting.specs.declared.asked.NewGuest.{NewGuest}
@@ -23,15 +24,16 @@ order_numbers order = (order.pages, order.shares, elim order.minimum [ None ↦ 
 abbrev pub config_of : RunOrder → Config
 config_of order = record { frames = order.frames; log_runs = 1048576; admit = order.admit }
 
--- these are guests of the numbers that are asked for, in their order
-abbrev pub AreOrdered : List GuestOrder → List NewGuest → Type 0
-AreOrdered orders guests = map numbers_of guests ≡ map order_numbers orders
+-- these are guests of the profile that is asked for, and of the numbers that are, in their order
+pub record AreOrdered (profile : Profile) (orders : List GuestOrder) (guests : List NewGuest) : Type 0 where
+  pub profiles : All (λ guest. guest.profile ≡ profile) guests
+  pub numbers : map numbers_of guests ≡ map order_numbers orders
 
--- guests of those numbers, with images of some files, may be booted: they are within their limits, their pages hold their images, and where
--- they are to be admitted there are frames and slots for them
+-- guests of that profile and of those numbers, with images of some files, may be booted: they are within their limits, of which the pages' is
+-- their profile's, their pages hold their images, and where they are to be admitted there are frames and slots for them
 pub record MayBoot (order : RunOrder) : Type 0 where
   pub guests : List NewGuest
-  pub ordered : AreOrdered order.guests.items guests
+  pub ordered : AreOrdered order.profile order.guests.items guests
   pub within : AreWithinLimits (config_of order) order.slots guests
   pub hold : All HoldsImage guests
   pub admitted : AreAdmitted (config_of order) order.slots guests
@@ -39,7 +41,7 @@ pub record MayBoot (order : RunOrder) : Type 0 where
 -- such guests aren't, for this reason
 pub record MayNotBoot (order : RunOrder) (error : BootError) : Type 0 where
   pub guests : List NewGuest
-  pub ordered : AreOrdered order.guests.items guests
+  pub ordered : AreOrdered order.profile order.guests.items guests
   pub why : WhyNotBooted (config_of order) order.slots guests error
 
 -- one of the guests has the image of this name

@@ -32,7 +32,7 @@ pub(crate) fn boot<'a, R: Wait>(
     guests: Vec<NewGuest>,
     swap: File,
 ) -> Result<Booted<FileStore<File>, Open>, Fault<'a>>
-    requires ordered { AreOrdered order.now.guests.items guests.items }
+    requires ordered { AreOrdered order.now.profile order.now.guests.items guests.items }
     ensures handles { IfOk result (λ booted. AreHandedOut booted.host.guests.cells.items booted.handles.items) }
     ensures booted { IfOk result (λ booted. MayBoot order.now) }
     ensures faults { IfErr result (λ fault. IsBootFault order.now fault) }

@@ -9,6 +9,7 @@ use commands::Fault;
 use commands::fault::of_file;
 use commands::image_file::{Loaded, elf_image};
 use commands::log_file::is_log;
+use mips_cp0::Profile;
 use output_file::is_one_file;
 use std::fs::File;
 use std::io;
@@ -77,20 +78,21 @@ fn is_apart<'a, R: Files + AllocGlobal>(
     Ok(())
 }
 
-/// The guests of an order, with the images of their files, guest after guest.
+/// The guests of an order, of this profile, with the images of their files, guest after guest.
 #[tactic(auto, using(crate::proofs::Faults::of_place))]
 pub(crate) fn load_guests<'a, R: Files + AllocGlobal>(
     rt: &R,
+    profile: Profile,
     orders: &[GuestOrder<'a>],
 ) -> Result<LoadedGuests, Fault<'a>>
-    ensures guests { IfOk result (λ loaded. AreOrdered orders.now loaded.guests.items) }
+    ensures guests { IfOk result (λ loaded. AreOrdered profile orders.now loaded.guests.items) }
     ensures digests { IfOk result (λ loaded. length loaded.digests.items ≡ length orders.now) }
     ensures faults { IfErr result (λ fault. IsGuestsFault orders.now fault) }
 {
     let mut guests = Vec::with_capacity(rt.alloc(), orders.len())?;
     let mut digests = Vec::with_capacity(rt.alloc(), orders.len())?;
     for order in orders {
-        let (guest, digest) = load_guest(rt, *order)?;
+        let (guest, digest) = load_guest(rt, profile, *order)?;
         guests.push_reserved(guest);
         digests.push_reserved(digest);
     }
@@ -99,8 +101,10 @@ pub(crate) fn load_guests<'a, R: Files + AllocGlobal>(
 
 fn load_guest<'a, R: Files + AllocGlobal>(
     rt: &R,
+    profile: Profile,
     order: GuestOrder<'a>,
 ) -> Result<(NewGuest, [u8; 32]), Fault<'a>>
+    ensures profile { IfOk result (λ loaded. loaded.0.profile ≡ profile) }
     ensures numbers { IfOk result (λ loaded. numbers_of loaded.0 ≡ order_numbers order.entry) }
     ensures faults { IfErr result (λ fault. IsGuestFault order.entry fault) }
 {
@@ -109,6 +113,7 @@ fn load_guest<'a, R: Files + AllocGlobal>(
     match Arc::new(rt.alloc(), image) {
         Ok(image) => Ok((
             NewGuest {
+                profile,
                 image,
                 pages: order.pages,
                 shares: order.shares,

@@ -7,21 +7,22 @@ use std::io;
 use std::io::Write;
 use std::rt::Files;
 
-// Writes the log of a guest. Whether it is written; else its fault stands in `err`.
+// Writes the log of a guest into the directory of the order. Whether it is written; else its fault stands in `err`.
 fn write_one<R: Files + AllocGlobal, E: Write>(
     rt: &R,
-    directory: &str,
+    order: &RunOrder<'_>,
     number: usize,
     guest: &Ended,
     digest: &[u8; 32],
     err: &mut E,
 ) -> io::Result<bool> {
-    let Ok(name) = log_name(rt.alloc(), directory, number) else {
+    let Ok(name) = log_name(rt.alloc(), order.logs, number) else {
         writeln!(err, "vmhost: {}", Fault::Memory)?;
         return Ok(false);
     };
     let log = guest.guest.log();
-    match write_log(rt, name.as_str(), log, guest.guest.page_count(), digest) {
+    let pages = guest.guest.page_count();
+    match write_log(rt, name.as_str(), log, order.profile, pages, digest) {
         Ok(()) => Ok(true),
         Err(fault) => {
             writeln!(err, "vmhost: {fault}")?;
@@ -41,7 +42,7 @@ pub(crate) fn write_logs<R: Files + AllocGlobal, E: Write>(
 ) -> bool {
     let mut all = true;
     for (number, (guest, digest)) in guests.iter().zip(digests).enumerate() {
-        match write_one(rt, order.logs, number, guest, digest, err) {
+        match write_one(rt, order, number, guest, digest, err) {
             Ok(true) => {}
             _ => all = false,
         }

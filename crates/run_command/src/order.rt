@@ -1,8 +1,11 @@
 //! What `run` is to do.
+use mips_cp0::Profile;
 
 /// What `run` runs.
 #[derive(Drop)]
 pub struct RunOrder<'a> {
+    /// The profile of each guest's processor.
+    pub profile: Profile,
     /// How many frames of machine memory there are.
     pub frames: u32,
     /// How many slots the swap file has, of 4,096 bytes each.
@@ -26,7 +29,7 @@ pub struct RunOrder<'a> {
 pub struct GuestOrder<'a> {
     /// The name of its image's file, an ELF executable.
     pub image: &'a str,
-    /// How many pages its memory has; any number is taken here.
+    /// How many pages its memory has; any number is taken here, and more than the profile allows are refused at the boot.
     pub pages: u32,
     /// How many shares of the machine's memory it has; any number is taken here.
     pub shares: u32,

@@ -64,7 +64,7 @@ where
     let swap = open_swap(rt, order)?;
     make_directory(rt, order.logs)?;
     logs_are_apart(rt, order.logs, &order.guests)?;
-    let LoadedGuests { guests, digests } = load_guests(rt, &order.guests)?;
+    let LoadedGuests { guests, digests } = load_guests(rt, order.profile, &order.guests)?;
     let Booted { host, handles } = boot(rt, rt.alloc(), order, guests, swap)?;
     let doors = match open_doors(rt, rt.alloc(), order) {
         Ok(doors) => doors,

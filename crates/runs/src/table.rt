@@ -3,7 +3,7 @@ ghost use Rattle.std.specs.Prelude.{◌≡◌, ◌≤◌, ◌^◌, ◌<◌, None
 ghost use Rattle.elf32.specs.Images.{FitsPages};
 ghost use Rattle.items.specs.declared.item.What.TheVariants.{In};
 ghost use Rattle.machine.specs.Step.{step};
-ghost use Rattle.machine.specs.Boot.{boot_machine};
+ghost use Rattle.machine.specs.Boot.{boot_machine_as};
 ghost use Rattle.machine.specs.Items.{after};
 ghost use Rattle.runs.specs.Runs.{after_steps};
 
@@ -13,6 +13,7 @@ use flatvm::FlatBus;
 use guest_log::Stop;
 use items::What;
 use machine::{Rejection, StepOut};
+use mips_cp0::Profile;
 use mips_step::{Cpu, Unreached, View, debug};
 use std::alloc::{AllocError, Global};
 use std::marker::Model;
@@ -33,15 +34,20 @@ impl Model for Table {
 }
 
 impl Table {
-    /// The machine that an image boots, with a memory of `pages` pages, at most 2^20, which hold the image. An error says that a request
+    /// The machine of a profile that an image boots, with a memory of `pages` pages, at most 2^20, which hold the image. An error says that a request
     /// for memory was refused.
-    pub fn boot(alloc: Global, image: &Image, pages: u32) -> Result<Table, AllocError>
+    pub fn boot(
+        alloc: Global,
+        profile: Profile,
+        image: &Image,
+        pages: u32,
+    ) -> Result<Table, AllocError>
         requires fits { FitsPages image.now pages }
         requires few { pages ≤ 2 ^ 20 }
-        ensures { IfOk result (λ t. t ≡ boot_machine image.now pages) }
+        ensures { IfOk result (λ t. t ≡ boot_machine_as profile image.now pages) }
     {
         Ok(Table {
-            cpu: Cpu::boot(image.entry),
+            cpu: Cpu::boot_as(profile, image.entry),
             bus: FlatBus::boot(alloc, image, pages)?,
         })
     }

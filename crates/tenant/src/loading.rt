@@ -24,6 +24,7 @@ use crate::supplying::supply_first_from;
 use elf32::Image;
 use framepool::Pool;
 use guest::{Guest, load_image_page, reaches};
+use mips_cp0::Profile;
 use page_moves::{Pages, SupplyError};
 use std::alloc::{AllocError, Global};
 use std::sync::Arc;
@@ -263,13 +264,14 @@ fn owner(image: &Arc<Image, Global>) -> Result<Arc<Image, Global>, AllocError>
     image.clone()
 }
 
-/// A guest at the boot of an image, in a memory of `pages` pages that holds it, with no seat yet. Each page that the image reaches has its
+/// A guest of a profile at the boot of an image, in a memory of `pages` pages that holds it, with no seat yet. Each page that the image reaches has its
 /// bytes, in rising order in a frame of the pool while one is free, then in the free slot of the lowest number; no other page was touched.
 ///
 /// `Room` where neither frame nor slot is free for one, so only where both together are fewer than the pages; `Store` where the store
 /// failed to write one, `Memory` where a request for memory was refused. Frames and slots that were taken are gone then.
 pub fn loaded<S: SwapStore>(
     alloc: Global,
+    profile: Profile,
     image: Arc<Image, Global>,
     pages: u32,
     log_runs: u32,
@@ -284,7 +286,7 @@ pub fn loaded<S: SwapStore>(
         Conserves (replicate pages Page.Zero) pool.old slots.old entries g.bus.pages pool.new slots.new entries) }
     ensures reads { IfOk result (λ g. (entries : EntriesAre) → Reads entries g.bus.pages) }
     ensures used { UsedStay slots.old (S.held store.old) (S.held store.new) }
-    ensures booted { IfOk result (IsAtBoot image.value pages log_runs) }
+    ensures booted { IfOk result (IsAtBoot profile image.value pages log_runs) }
     ensures intact { IfOk result Intact }
     ensures kept { IfOk result (λ g. Kept (S.held store.new) (pages_seen (view_of g)) g.bus.pages) }
     ensures frames_first { IfOk result (λ g. FramesFirst pool.new g.bus.pages) }
@@ -303,7 +305,7 @@ pub fn loaded<S: SwapStore>(
     let Ok(its_image) = owner(&image) else {
         return Err(BootError::Memory);
     };
-    let Ok(mut guest) = Guest::boot(alloc, its_image, pages, log_runs) else {
+    let Ok(mut guest) = Guest::boot(alloc, profile, its_image, pages, log_runs) else {
         return Err(BootError::Memory);
     };
     match load(alloc, &mut guest, &image, pool, slots, store) {

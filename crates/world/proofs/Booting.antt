@@ -12,7 +12,7 @@ use Rattle.world.specs.All.{AreBooted, GuestIs, HasFramesFor, HasSlotsFor, Intac
 use Rattle.world.proofs.Worlds.{get_last}
 
 abbrev IsBootOf : ℕ → NewGuest → TenantIs → Type 0
-IsBootOf runs guest t = IsBooted guest.image.value guest.pages guest.shares guest.minimum runs t
+IsBootOf runs guest t = IsBooted guest.profile guest.image.value guest.pages guest.shares guest.minimum runs t
 
 pub none_booted : (runs : ℕ) (ts : List TenantIs) → ts ≡ [] → AreBooted runs [] ts
 none_booted runs ts none = record { count = ap length none; each = λ g guest t inside. absurd (omega (arith, inside)) }
@@ -45,19 +45,19 @@ rest_of xs i left here = ap (λ (l : List _). drop 1 l) (sym here ∙ left) ∙ 
 
 -- what a guest is at its boot, of those that are booted
 pub its_boot : {runs : ℕ} (asked : List NewGuest) (gs : List GuestIs) (k : ℕ) (n : NewGuest) (g : GuestIs) → AreAtBoot runs asked gs → k < length asked → n ≡ get_or asked k n → g ≡ get_or gs k g
-    → IsAtBoot n.image.value n.pages runs g
+    → IsAtBoot n.profile n.image.value n.pages runs g
 its_boot {runs} asked gs k n g a inside which is =
-    subst (λ (m : NewGuest). IsAtBoot m.image.value m.pages runs g) (sym which)
-    (subst (λ (h : GuestIs). IsAtBoot (get_or asked k n).image.value (get_or asked k n).pages runs h) (sym is) (a.each k n g inside))
+    subst (λ (m : NewGuest). IsAtBoot m.profile m.image.value m.pages runs g) (sym which)
+    (subst (λ (h : GuestIs). IsAtBoot (get_or asked k n).profile (get_or asked k n).image.value (get_or asked k n).pages runs h) (sym is) (a.each k n g inside))
 
 -- it has as many pages as it always keeps
 pub minimum_fits : {runs : ℕ} (asked : List NewGuest) (k : ℕ) (n : NewGuest) (g : GuestIs) → All IsWithinLimits asked → k < length asked → n ≡ get_or asked k n
-    → IsAtBoot n.image.value n.pages runs g → n.minimum ≤ length g.bus.pages
+    → IsAtBoot n.profile n.image.value n.pages runs g → n.minimum ≤ length g.bus.pages
 minimum_fits asked k n g within inside which at =
     subst (λ (count : ℕ). n.minimum ≤ count) (sym at.size) (subst (λ (m : NewGuest). m.minimum ≤ m.pages) (sym which) (within k n inside).minimum.1)
 
 -- and with its seats it is as a world's guest is
-pub seated_boot : {runs : ℕ} (n : NewGuest) (g : GuestIs) (t : TenantIs) → IsAtBoot n.image.value n.pages runs g → t.guest ≡ with_seats g → t.shares ≡ n.shares → t.minimum ≡ n.minimum
+pub seated_boot : {runs : ℕ} (n : NewGuest) (g : GuestIs) (t : TenantIs) → IsAtBoot n.profile n.image.value n.pages runs g → t.guest ≡ with_seats g → t.shares ≡ n.shares → t.minimum ≡ n.minimum
     → IsUnsampled t → t.blocked ≡ false → IsBootOf runs n t
 seated_boot n g t at guest shares minimum unsampled unblocked = record {
   boot = ap (λ (h : GuestIs). h.boot) guest ∙ at.boot;

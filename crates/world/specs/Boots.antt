@@ -10,7 +10,7 @@ pub use Rattle.booting.specs.Places.{FramesComeFirst, SlotsComeInOrder}
 pub record AreBooted (log_runs : ℕ) (guests : List NewGuest) (tenants : List TenantIs) : Type 0 where
   pub count : length tenants ≡ length guests
   pub each : (g : ℕ) (guest : NewGuest) (t : TenantIs) → g < length guests →
-      IsBooted (slice_index_or guests g guest).image.value (slice_index_or guests g guest).pages (slice_index_or guests g guest).shares
+      IsBooted (slice_index_or guests g guest).profile (slice_index_or guests g guest).image.value (slice_index_or guests g guest).pages (slice_index_or guests g guest).shares
       (slice_index_or guests g guest).minimum log_runs (slice_index_or tenants g t)
 
 abbrev pub guest_in : TenantIs → GuestIs

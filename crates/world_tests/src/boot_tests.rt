@@ -1,6 +1,7 @@
 //! Worlds that are booted, and those that are refused.
 use crate::event_tests::expect;
 use elf32::Image;
+use mips_cp0::Profile;
 use std::alloc::Global;
 use std::process::Abort;
 use std::sync::Arc;
@@ -60,6 +61,7 @@ fn guests_of(rt: &impl Abort, alloc: Global, numbers: &Numbers) -> Vec<NewGuest>
     let mut guests = Vec::new(alloc);
     for _ in 0..numbers.guests {
         let guest = NewGuest {
+            profile: Profile::One,
             image: image_of(rt, alloc, numbers.size),
             pages: numbers.pages,
             shares: numbers.shares,

@@ -7,6 +7,7 @@ use elf32::Image;
 use guest_pages::PageKind;
 use items::{Item, SeatNo, What};
 use machine::{StepOut, Why};
+use mips_cp0::Profile;
 use page_moves::{Scan, SupplyError};
 use rand_pcg::Pcg32;
 use std::alloc::Global;
@@ -67,6 +68,7 @@ pub(crate) fn booted(rt: &impl Abort, alloc: Global, slots: u32, guests: usize) 
     let mut asked = Vec::new(alloc);
     for _ in 0..guests {
         let guest = NewGuest {
+            profile: Profile::One,
             image: image_of(rt, alloc, &WORDS),
             pages: 3,
             shares: 100,

@@ -8,6 +8,7 @@ use elf32::Image;
 use flatvm::Flat;
 use guest_log::Log;
 use items::{DebugRegister, Entry, Item, SeatNo, What};
+use mips_cp0::Profile;
 use rand_core::{Rng, SeedableRng};
 use rand_pcg::Pcg32;
 use std::alloc::Global;
@@ -67,6 +68,7 @@ fn booted(rt: &impl Abort, alloc: Global) -> World<MemStore> {
     let mut guests = Vec::new(alloc);
     for g in 0..GUESTS {
         let guest = NewGuest {
+            profile: Profile::One,
             image: image(rt, alloc),
             pages: PAGES,
             shares: 100 + g,

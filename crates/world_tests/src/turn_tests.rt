@@ -8,6 +8,7 @@ use elf32::Image;
 use guest::Stop;
 use guest_pages::PageKind;
 use items::{Item, SeatNo, What};
+use mips_cp0::Profile;
 use rand_core::{Rng, SeedableRng};
 use rand_pcg::Pcg32;
 use reclaim::Level;
@@ -43,6 +44,7 @@ fn guest(rt: &impl Abort, alloc: Global) -> NewGuest {
         panic!(rt; "no memory for the image");
     };
     NewGuest {
+        profile: Profile::One,
         image,
         pages: PAGES as u32,
         shares: 100,

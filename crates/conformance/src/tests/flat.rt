@@ -6,6 +6,7 @@ use super::run::{boot_table_machine, raw_image, state_of, step_table_machine};
 use elf32::{Image, Segment};
 use flatvm::Flat;
 use items::{Item, SeatNo, What};
+use mips_cp0::Profile;
 use mips_instr::Reg;
 use std::alloc::{AllocError, Global};
 use std::process::Abort;
@@ -64,7 +65,7 @@ fn an_image_of_two_segments_runs(rt: HostRuntime) -> Result<(), Fail> {
         segments: two_segments(rt.alloc())?,
     };
     expect(&rt, "pages", [image.fits(1), image.fits(2)], [false, true]);
-    let mut flat = boot_table_machine(&rt, "two segments", &image, 2)?;
+    let mut flat = boot_table_machine(&rt, "two segments", Profile::One, &image, 2)?;
     check_two_segments(&rt, &mut flat);
     Ok(())
 }
@@ -75,7 +76,7 @@ fn an_image_without_segments_is_zeros(rt: HostRuntime) -> Result<(), Fail> {
         entry: 0x8000_1ffc,
         segments: Vec::new(rt.alloc()),
     };
-    let mut flat = boot_table_machine(&rt, "no segments", &image, 2)?;
+    let mut flat = boot_table_machine(&rt, "no segments", Profile::One, &image, 2)?;
     // the last word of memory, `sll $0,$0,0`, and then a fetch past it
     step_table_machine(&mut flat, 2);
     let state = state_of(flat.view().cpu);
@@ -209,7 +210,7 @@ fn check_states(rt: &impl Abort, flat: &mut Flat) {
 #[test]
 fn probes_find_memory(rt: HostRuntime) -> Result<(), Fail> {
     let image = raw_image(&rt, "probes", &MAPPING)?;
-    let mut flat = boot_table_machine(&rt, "probes", &image, 2)?;
+    let mut flat = boot_table_machine(&rt, "probes", Profile::One, &image, 2)?;
     check_states(&rt, &mut flat);
     Ok(())
 }

@@ -8,6 +8,7 @@ use super::run::{LOG_RUNS, TAX, boot_world, guest_of, make_steps, raw_image, run
 use guest::{Guest, Refused};
 use guest_log::{Log, Stop};
 use items::{Item, SeatNo, What};
+use mips_cp0::Profile;
 use mips_instr::Reg;
 use rand_pcg::Pcg32;
 use std::process::Abort;
@@ -25,7 +26,7 @@ const COUNTING: [Code; 4] = [
 /// A world of one guest with 2 pages that has booted this code.
 fn booted<R: AllocGlobal + Abort>(rt: &R, code: &[Code]) -> Result<World<MemStore>, Fail> {
     let image = raw_image(rt, "boot", code)?;
-    boot_world(rt, "boot", image, 2)
+    boot_world(rt, "boot", Profile::Two, image, 2)
 }
 
 /// Checks PC and register 1, and how many steps were made by seat 0, in how many runs.

@@ -9,15 +9,15 @@ mod slots;
 
 use super::code::Code;
 use super::expect;
-use super::run::{MOST_PAGES, boot_world, guest_of, make_steps, raw_image};
+use super::run::{MOST_PAGES, PROFILES, boot_world, guest_of, make_steps, raw_image};
 use devices::Devices;
 use elf32::Image;
 use flatvm::FlatBus;
 use guest::Guest;
 use machine::{Ppn, StepOut};
+use mips_cp0::Profile;
 use mips_instr::Reg;
 use mips_step::{Cpu, debug};
-use mips_tlb::ENTRIES;
 use std::process::Abort;
 use std::test::Fail;
 use swapstore::MemStore;
@@ -43,10 +43,15 @@ struct Table {
 }
 
 impl Table {
-    fn boot<R: AllocGlobal + Abort>(rt: &R, name: &str, image: &Image) -> Result<Table, Fail> {
+    fn boot<R: AllocGlobal + Abort>(
+        rt: &R,
+        name: &str,
+        profile: Profile,
+        image: &Image,
+    ) -> Result<Table, Fail> {
         assert!(rt; image.fits(PAGES), "{name}");
         Ok(Table {
-            cpu: Cpu::boot(image.entry),
+            cpu: Cpu::boot_as(profile, image.entry),
             bus: FlatBus::boot(rt.alloc(), image, PAGES)?,
         })
     }
@@ -69,10 +74,8 @@ fn check_registers(rt: &impl Abort, place: Place, cpu: &Cpu, wanted: &Cpu) {
         let wanted = (wanted.reg(r), wanted.cp0().read(number, 0, 0));
         expect(rt, (place, "registers", number), registers, wanted);
     }
-    for index in 0..ENTRIES {
-        let entry = wanted.tlb().read(index);
-        expect(rt, (place, "entry", index), cpu.tlb().read(index), entry);
-    }
+    let same = cpu.tlb().entries() == wanted.tlb().entries();
+    expect(rt, (place, "entries", 0), same, true);
 }
 
 /// PC, the target of the delay slot, HI and LO, and LLbit.
@@ -150,7 +153,7 @@ enum Memory {
     Left,
 }
 
-/// Runs a program in slices of so many steps on both machines.
+/// Runs a program in slices of so many steps on both machines, of either profile.
 fn check_slices<R: AllocGlobal + Abort>(
     rt: &R,
     name: &str,
@@ -158,9 +161,23 @@ fn check_slices<R: AllocGlobal + Abort>(
     slices: &[u32],
     memory: Memory,
 ) -> Result<(), Fail> {
+    for profile in PROFILES {
+        check_slices_as(rt, name, profile, code, slices, memory)?;
+    }
+    Ok(())
+}
+
+fn check_slices_as<R: AllocGlobal + Abort>(
+    rt: &R,
+    name: &str,
+    profile: Profile,
+    code: &[Code],
+    slices: &[u32],
+    memory: Memory,
+) -> Result<(), Fail> {
     let image = raw_image(rt, name, code)?;
-    let mut table = Table::boot(rt, name, &image)?;
-    let mut world = boot_world(rt, name, image, PAGES)?;
+    let mut table = Table::boot(rt, name, profile, &image)?;
+    let mut world = boot_world(rt, name, profile, image, PAGES)?;
     make_slices(rt, name, &mut world, &mut table, slices);
     let checked = match memory {
         Memory::Compared => check_memory(rt, name, guest_of(rt, &world), &table),

@@ -5,6 +5,7 @@ use super::expect;
 use elf32::Image;
 use flatvm::Flat;
 use guest::Guest;
+use mips_cp0::Profile;
 use mips_instr::Reg;
 use mips_step::Cpu;
 use rand_pcg::Pcg32;
@@ -22,6 +23,9 @@ pub const MOST_PAGES: u32 = 1 << 20;
 
 /// The greatest number of runs of a guest's log.
 pub const LOG_RUNS: u32 = 16;
+
+/// Both profiles of the processor.
+pub const PROFILES: [Profile; 2] = [Profile::One, Profile::Two];
 
 pub const TAX: Tax = Tax { percent: 75 };
 
@@ -43,7 +47,7 @@ pub struct Run<'a> {
     pub system: [u32; 4],
 }
 
-/// Makes the steps of each run on the reference machine and in a world of one guest.
+/// Makes the steps of each run on the reference machine and in a world of one guest, of either profile.
 pub fn check_runs<R: AllocGlobal + Abort>(rt: &R, runs: &[Run]) -> Result<(), Fail> {
     for run in runs {
         check_run(rt, run)?;
@@ -51,26 +55,44 @@ pub fn check_runs<R: AllocGlobal + Abort>(rt: &R, runs: &[Run]) -> Result<(), Fa
     Ok(())
 }
 
-/// Makes the steps on the reference machine and in a world of one guest.
+/// Makes the steps on the reference machine and in a world of one guest, of either profile.
 pub fn check_run<R: AllocGlobal + Abort>(rt: &R, run: &Run) -> Result<(), Fail> {
+    for profile in PROFILES {
+        check_run_as(rt, profile, run)?;
+    }
+    Ok(())
+}
+
+/// Makes the steps on the reference machine and in a world of one guest, of this profile.
+pub fn check_run_as<R: AllocGlobal + Abort>(
+    rt: &R,
+    profile: Profile,
+    run: &Run,
+) -> Result<(), Fail> {
     let image = raw_image(rt, run.name, run.code)?;
-    check_table_machine(rt, run, &image)?;
-    check_guest(rt, run, image)
+    check_table_machine(rt, profile, run, &image)?;
+    check_guest(rt, profile, run, image)
 }
 
 fn check_table_machine<R: AllocGlobal + Abort>(
     rt: &R,
+    profile: Profile,
     run: &Run,
     image: &Image,
 ) -> Result<(), Fail> {
-    let mut flat = boot_table_machine(rt, run.name, image, run.pages)?;
+    let mut flat = boot_table_machine(rt, run.name, profile, image, run.pages)?;
     step_table_machine(&mut flat, run.steps);
     check_cpu(rt, flat.view().cpu, run, "reference machine");
     Ok(())
 }
 
-fn check_guest<R: AllocGlobal + Abort>(rt: &R, run: &Run, image: Image) -> Result<(), Fail> {
-    let mut world = boot_world(rt, run.name, image, run.pages)?;
+fn check_guest<R: AllocGlobal + Abort>(
+    rt: &R,
+    profile: Profile,
+    run: &Run,
+    image: Image,
+) -> Result<(), Fail> {
+    let mut world = boot_world(rt, run.name, profile, image, run.pages)?;
     make_steps(rt, &mut world, run.steps);
     check_stepped(rt, guest_of(rt, &world), run);
     let _store = world.close();
@@ -96,26 +118,28 @@ pub fn raw_image<R: AllocGlobal + Abort>(rt: &R, name: &str, code: &[Code]) -> R
     Ok(Image::raw(rt.alloc(), bytes)?)
 }
 
-/// A reference machine of so many pages, which has to hold the image.
+/// A reference machine of a profile and of so many pages, which has to hold the image.
 pub fn boot_table_machine<R: AllocGlobal + Abort>(
     rt: &R,
     name: &str,
+    profile: Profile,
     image: &Image,
     pages: u32,
 ) -> Result<Flat, Fail> {
     assert!(rt; image.fits(pages) && pages <= MOST_PAGES, "{name}");
-    Ok(Flat::boot(rt.alloc(), image, pages)?)
+    Ok(Flat::boot_as(rt.alloc(), profile, image, pages)?)
 }
 
-/// A world of one guest of so many pages, at least 2, which have to hold the image. It has a frame for each of them and one more, and
+/// A world of one guest of a profile and of so many pages, at least 2, which have to hold the image. It has a frame for each of them and one more, and
 /// no slot.
 pub fn boot_world<R: AllocGlobal + Abort>(
     rt: &R,
     name: &str,
+    profile: Profile,
     image: Image,
     pages: u32,
 ) -> Result<World<MemStore>, Fail> {
-    let guests = alone(rt.alloc(), image, pages)?;
+    let guests = alone(rt.alloc(), profile, image, pages)?;
     let store = MemStore::new(rt.alloc(), 0)?;
     let config = Config {
         frames: pages.saturating_add(1).max(4),
@@ -129,9 +153,10 @@ pub fn boot_world<R: AllocGlobal + Abort>(
     }
 }
 
-/// A guest of so many pages that is to boot the image, and no other.
-fn alone(alloc: Global, image: Image, pages: u32) -> Result<Vec<NewGuest>, Fail> {
+/// A guest of a profile and of so many pages that is to boot the image, and no other.
+fn alone(alloc: Global, profile: Profile, image: Image, pages: u32) -> Result<Vec<NewGuest>, Fail> {
     let guest = NewGuest {
+        profile,
         image: Arc::new(alloc, image)?,
         pages,
         shares: 1,

@@ -12,7 +12,7 @@ use case::Case;
 use mips_fast::{RunCache, run};
 use mips_isa::Reg;
 use mips_step::Cpu;
-use mips_tlb::ENTRIES;
+use mips_tlb::Tlb;
 use std::process::Abort;
 use std::test::Fail;
 
@@ -52,10 +52,12 @@ fn check_registers(rt: &impl Abort, name: &str, cpu: &Cpu, twin: &Cpu) {
         let wanted = twin.cp0().read(number, 0, 0);
         expect(rt, case, cpu.cp0().read(number, 0, 0), wanted);
     }
-    for index in 0..ENTRIES {
-        let case = (name, "entry", index);
-        expect(rt, case, cpu.tlb().read(index), twin.tlb().read(index));
-    }
+    check_entries(rt, name, cpu.tlb(), twin.tlb());
+}
+
+fn check_entries(rt: &impl Abort, name: &str, tlb: &Tlb, twin: &Tlb) {
+    let (entries, wanted) = (tlb.entries(), twin.entries());
+    expect(rt, (name, "entries"), entries, wanted);
 }
 
 /// The two pages of memory.

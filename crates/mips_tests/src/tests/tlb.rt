@@ -1,4 +1,6 @@
 //! Tables of translation, probe and the TLB instructions.
+ghost use Rattle.std.specs.Prelude.{◌≡◌, length};
+
 use super::expect;
 use mips_cp0::{Cp0, Exc};
 use mips_tlb::{Entry, Kind, PageHalf, Tlb};
@@ -14,7 +16,9 @@ const ERROR: u32 = 0x14;
 const HANDLER: u32 = 0x12;
 
 // Registers with Status and the current address space.
-fn registers(status: u32, asid: u32) -> Cp0 {
+fn registers(status: u32, asid: u32) -> Cp0
+    ensures { result.last_entry ≡ 15 }
+{
     let mut cp0 = Cp0::boot();
     cp0.write(12, 0, status);
     cp0.write(10, 0, asid);
@@ -22,7 +26,10 @@ fn registers(status: u32, asid: u32) -> Cp0 {
 }
 
 // The TLB with an entry of EntryHi, EntryLo0 and EntryLo1 at an index.
-fn with_entry(tlb: &mut Tlb, index: u32, entry_hi: u32, entry_lo0: u32, entry_lo1: u32) {
+fn with_entry(tlb: &mut Tlb, index: u32, entry_hi: u32, entry_lo0: u32, entry_lo1: u32)
+    requires { length tlb.old ≡ 16 }
+    ensures { length tlb.new ≡ 16 }
+{
     let mut cp0 = Cp0::boot();
     cp0.write(0, 0, index);
     cp0.write(10, 0, entry_hi);
@@ -387,7 +394,9 @@ fn halves_and_ends_of_a_pair(rt: HostRuntime) {
 }
 
 // The TLB with an entry of EntryHi, EntryLo0 and EntryLo1 at index 7 and at Random, 15.
-fn written(hi: u32, lo0: u32, lo1: u32) -> Tlb {
+fn written(hi: u32, lo0: u32, lo1: u32) -> Tlb
+    ensures { length result ≡ 16 }
+{
     let mut tlb = Tlb::boot();
     let mut cp0 = Cp0::boot();
     cp0.write(10, 0, hi);
@@ -400,7 +409,9 @@ fn written(hi: u32, lo0: u32, lo1: u32) -> Tlb {
 }
 
 // EntryHi, EntryLo0 and EntryLo1 once the entry at an index is read into them.
-fn read(tlb: &Tlb, index: u32) -> (u32, u32, u32) {
+fn read(tlb: &Tlb, index: u32) -> (u32, u32, u32)
+    requires { length tlb.now ≡ 16 }
+{
     let mut cp0 = registers(KERNEL, 1);
     cp0.set_index(index);
     tlb.read_indexed(&mut cp0);

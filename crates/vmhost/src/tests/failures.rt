@@ -7,6 +7,7 @@ use commands::fault::of_file;
 use commands::image_file::{elf_image, raw_image};
 use commands::{Exec, Fault, Format, MachineKind};
 use guest::Stop;
+use mips_cp0::Profile;
 use output_file::write_bytes;
 use runs::Nobody;
 use std::alloc::Global;
@@ -62,11 +63,19 @@ fn check_fault<R: AllocGlobal + Abort>(
 
 #[test]
 fn a_read_that_fails_is_no_shorter_file(rt: HostRuntime) -> Result<(), Fail> {
-    for pages in [1, 2, 16_384, 16_385] {
+    for (profile, pages) in [
+        (Profile::One, 1),
+        (Profile::One, 2),
+        (Profile::One, 16_384),
+        (Profile::One, 16_385),
+        (Profile::Two, 32_768),
+        (Profile::Two, 32_769),
+    ] {
         let order = Exec {
             image: "x",
             format: Format::Raw,
             kind: MachineKind::Guest,
+            profile,
             pages,
             steps: 1,
             log: None,

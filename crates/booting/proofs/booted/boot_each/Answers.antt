@@ -35,7 +35,7 @@ loop-guest-preserved g c =
     let so_far : take (i + 1) c.args.asked.now ≡ asked ++ guest ∷ [] = one_more_asked c.args.asked.now i guest inside c.guest-item.is in
     let all : c.push_reserved.new.self.items ≡ gs ++ new ∷ [] = c.push_reserved.ensures.items in
     let pages : map pages_in (gs ++ new ∷ []) ≡ map pages_in gs ++ pages_in new ∷ [] = last_pages gs new in
-    let boots : IsAtBoot guest.image.value guest.pages runs new = subst (λ (im : Image). IsAtBoot im guest.pages runs new) c.in-Ok.ensures e.booted in
+    let boots : IsAtBoot guest.profile guest.image.value guest.pages runs new = subst (λ (im : Image). IsAtBoot guest.profile im guest.pages runs new) c.in-Ok.ensures e.booted in
     record {
       at_boot =
           subst (λ (l : List NewGuest). AreAtBoot runs l c.push_reserved.new.self.items) (sym so_far)

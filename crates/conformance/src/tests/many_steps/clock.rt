@@ -4,6 +4,7 @@ use super::super::code::{CAUSE, COMPARE, COUNT, Code, EPC, RANDOM, STATUS, WIRED
 use super::super::expect;
 use super::super::run::{boot_world, guest_of, make_steps, raw_image};
 use super::{Memory, PAGES, Program, check_programs, check_slices};
+use mips_cp0::Profile;
 use mips_instr::Reg;
 use std::alloc::{AllocError, Global};
 use std::process::Abort;
@@ -198,7 +199,7 @@ fn reads_of_the_clock(alloc: Global) -> Result<Vec<Code>, AllocError> {
 /// Register 4 after all steps of a program of reads, made at once.
 fn check_counted<R: AllocGlobal + Abort>(rt: &R, code: &[Code]) -> Result<(), Fail> {
     let image = raw_image(rt, "Count", code)?;
-    let mut world = boot_world(rt, "Count", image, PAGES)?;
+    let mut world = boot_world(rt, "Count", Profile::Two, image, PAGES)?;
     make_steps(rt, &mut world, code.len());
     let left = guest_of(rt, &world).view().cpu.reg(Reg::new(4));
     let _store = world.close();

@@ -2,6 +2,7 @@ use Rattle.std.proofs.Common.{◌≡◌, ℕ, ◌≤◌, ◌<◌, ◌+◌, ◌-�
 use Rattle.std.proofs.lemmas.List.{take_all, get_or_default}
 use Rattle.std.proofs.lemmas.List.Elements.{All-more, All-same, All-weaker}
 use Rattle.elf32.specs.declared.range.AddressRange.{AddressRange}
+use Rattle.diagnosis.specs.Memories.{most_pages_of}
 use Rattle.diagnosis.specs.Pages.{IsHeldBy}
 use Rattle.diagnosis.proofs.pages.least_pages_for.Goals as goal
 use Rattle.diagnosis.proofs.pages.least_pages_for.Goals.{then-pages-wanted, else-pages-wanted}
@@ -23,7 +24,7 @@ loop-range-preserved c =
     elim c.if-pages-wanted.branch [ then-pages-wanted w ↦ omega arith | else-pages-wanted w ↦ omega arith ] in
     let reached : c.in_ok-wanted.wanted ≤ new =
     elim c.if-pages-wanted.branch [ then-pages-wanted w ↦ omega arith | else-pages-wanted w ↦ omega arith ] in
-    let within : new ≤ 16384 =
+    let within : new ≤ most_pages_of c.args.memory =
     elim c.if-pages-wanted.branch [ then-pages-wanted w ↦ omega (arith, c.in_ok-wanted.ensures.most) | else-pages-wanted w ↦ omega arith ] in
     let before = All-weaker (IsHeldBy c.loop-range.pages) (IsHeldBy new) (λ r h. held_by_more c.loop-range.pages new r grown h) (take i ranges) c.loop-range.invariant.0 in
     let none : AddressRange = record { address = 0; size = 0 } in

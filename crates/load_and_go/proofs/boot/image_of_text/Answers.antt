@@ -18,3 +18,13 @@ returns-clause-read c = record {
   executable = c.in_ok-file.ensures.file;
   stands = subst (λ (b : List ℕ). StandsFor b c.args.pages c.in_ok-read.field-0) c.deref.ensures.value c.in_ok-read.ensures.ok;
 }
+
+pub returns-clause-holds : goal.returns-clause-holds
+returns-clause-holds c =
+    let is = c.in_ok-file.ensures.file in
+    let stands = subst (λ (b : List ℕ). StandsFor b c.args.pages c.in_ok-read.field-0) c.deref.ensures.value c.in_ok-read.ensures.ok in (
+      is.listing,
+      is.means,
+      λ profile.
+          c.booted_machine_holds_its_listing.ensures is.listing is.image c.in_ok-read.field-0 c.in_ok-file.file.items profile c.args.pages is.assembled is.written stands,
+    )

@@ -2,7 +2,7 @@ use Rattle.std.proofs.Common.{◌≡◌, List, [], length, replicate, sym, ap, s
 use Rattle.std.proofs.lemmas.List.{length-replicate}
 use Rattle.elf32.specs.declared.image.Image.{Image}
 use Rattle.elf32.specs.Images.{FitsPages}
-use Rattle.machine.specs.Boot.{boot_machine}
+use Rattle.machine.specs.Boot.{boot_machine_as}
 use Rattle.guest_pages.specs.declared.page.Page.{Page}
 use Rattle.guest_pages.specs.declared.page.Page.TheVariants.{Zero}
 use Rattle.page_moves.specs.Moves.{Conserves, Reads}
@@ -29,12 +29,12 @@ returns-in-Ok-load-clause-reads g c = λ es.
 
 pub returns-in-Ok-load-clause-intact : goal.returns-in-Ok-load-clause-intact
 returns-in-Ok-load-clause-intact g c =
-    (loaded_run (g.S.SwapStore.held c.load.new.store) c.args.image.value c.in-Ok.its_image.value c.deref.result.now c.args.pages c.in-Ok-boot.guest c.load.new.guest c.requires.fits c.in-Ok.ensures c.deref.ensures
+    (loaded_run (g.S.SwapStore.held c.load.new.store) c.args.profile c.args.image.value c.in-Ok.its_image.value c.deref.result.now c.args.pages c.in-Ok-boot.guest c.load.new.guest c.requires.fits c.in-Ok.ensures c.deref.ensures
     c.in-Ok-boot.ensures.cpu c.in-Ok-boot.ensures.bus c.in-Ok-boot.ensures.boot c.in-Ok-boot.ensures.log c.load.ensures.rest c.load.ensures.count c.in-Ok-load.ensures.loaded).0
 
 pub returns-in-Ok-load-clause-kept : goal.returns-in-Ok-load-clause-kept
 returns-in-Ok-load-clause-kept g c =
-    (loaded_run (g.S.SwapStore.held c.load.new.store) c.args.image.value c.in-Ok.its_image.value c.deref.result.now c.args.pages c.in-Ok-boot.guest c.load.new.guest c.requires.fits c.in-Ok.ensures c.deref.ensures
+    (loaded_run (g.S.SwapStore.held c.load.new.store) c.args.profile c.args.image.value c.in-Ok.its_image.value c.deref.result.now c.args.pages c.in-Ok-boot.guest c.load.new.guest c.requires.fits c.in-Ok.ensures c.deref.ensures
     c.in-Ok-boot.ensures.cpu c.in-Ok-boot.ensures.bus c.in-Ok-boot.ensures.boot c.in-Ok-boot.ensures.log c.load.ensures.rest c.load.ensures.count c.in-Ok-load.ensures.loaded).1
 
 pub returns-in-Ok-load-clause-booted : goal.returns-in-Ok-load-clause-booted
@@ -42,7 +42,7 @@ returns-in-Ok-load-clause-booted g c =
     let rest = c.load.ensures.rest in
     let b = c.in-Ok-boot.ensures in
     record {
-      boot = ap (λ (h : GuestIs). h.boot) rest ∙ b.boot ∙ ap (λ (i : Image). boot_machine i c.args.pages) c.in-Ok.ensures;
+      boot = ap (λ (h : GuestIs). h.boot) rest ∙ b.boot ∙ ap (λ (i : Image). boot_machine_as c.args.profile i c.args.pages) c.in-Ok.ensures;
       items = ap (λ (h : GuestIs). h.log.items) rest ∙ b.log;
       limit = ap (λ (h : GuestIs). h.log.limit) rest ∙ b.limit;
       seats = ap (λ (h : GuestIs). h.seats) rest ∙ b.seats;

@@ -11,7 +11,7 @@ loop-made-preserved-then-made-count c =
     record {
       few = omega arith;
       machine = one_step_more (made + more) m c.run_quietly-made.new.self.machine c.step.new.self.machine run c.step.ensures.machine;
-      boot = c.step.ensures.boot ∙ c.run_quietly-made.ensures.boot ∙ c.loop-made.invariant.boot;
+      home = c.step.ensures.home ∙ c.run_quietly-made.ensures.home ∙ c.loop-made.invariant.home;
     }
 
 pub loop-made-preserved : goal.loop-made-preserved
@@ -20,5 +20,5 @@ loop-made-preserved c =
       few = omega arith;
       machine = more_steps c.loop-made.made c.run_quietly-made.result c.args.self.now.machine c.loop-made.self.machine c.run_quietly-made.new.self.machine
           c.loop-made.invariant.machine c.run_quietly-made.ensures.machine;
-      boot = c.run_quietly-made.ensures.boot ∙ c.loop-made.invariant.boot;
+      home = c.run_quietly-made.ensures.home ∙ c.loop-made.invariant.home;
     }

@@ -6,7 +6,7 @@ abbrev pub invariant-loop-made : goal.invariant-loop-made
 invariant-loop-made l = record {
   few : l.made ≤ l.count;
   machine : l.self.machine ≡ after_steps l.made l.initial.self.machine;
-  boot : l.self.boot ≡ l.initial.self.boot;
+  home : l.self.home ≡ l.initial.self.home;
 }
 
 abbrev pub decreases-loop-made : goal.decreases-loop-made

@@ -5,5 +5,5 @@ use Rattle.reset_machine.proofs.resetting.ResetMachine.step_by_step.Given as goa
 abbrev pub invariant-loop-made : goal.invariant-loop-made
 invariant-loop-made l = record {
   machine : l.self.machine ≡ after_steps l.made l.initial.self.machine;
-  boot : l.self.boot ≡ l.initial.self.boot;
+  home : l.self.home ≡ l.initial.self.home;
 }
