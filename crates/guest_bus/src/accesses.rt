@@ -102,7 +102,8 @@ pub(crate) fn fill(map: &mut GuestPages, at: PhysAddr, bytes: &[u8])
 {
     // Who asks how many pages there are knows how many bytes they have.
     let _pages = map.len();
+    let first = at.number();
     for k in 0..bytes.len() {
-        map.write_byte(at.number() + k as u32, bytes[k]);
+        map.write_byte(first + k as u32, bytes[k]);
     }
 }
