@@ -12,7 +12,7 @@ use crate::FlatBus;
 use devices::Devices;
 use elf32::Image;
 use items::What;
-use machine::{Rejection, Reply, StepOut};
+use machine::{PhysAddr, Rejection, Reply, StepOut};
 use mips_cp0::Profile;
 use mips_step::{Cpu, View, debug};
 use std::alloc::{AllocError, Global};
@@ -106,7 +106,7 @@ impl Flat {
 
     /// The physical address in memory that a virtual address leads to, as for a load of kernel mode, whatever mode runs;
     /// None where such a load would raise an exception or reaches no memory.
-    pub fn probe(&self, address: u32) -> Option<u32>
+    pub fn probe(&self, address: u32) -> Option<PhysAddr>
         ensures { result ≡ probe self.now address }
     {
         debug::probe(&self.cpu, &self.bus, address)

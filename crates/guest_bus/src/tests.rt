@@ -10,7 +10,7 @@ use crate::{GuestBus, InputError};
 use frames::{Frame, Numbers, SlotTicket};
 use guest_pages::{PageKind, Returned};
 use items::{DebugRegister, What, WriteBytes};
-use machine::{Reply, StepOut, Why};
+use machine::{PhysAddr, Reply, StepOut, Why};
 use mips_instr::Reg;
 use mips_step::Cpu;
 use sha2::{Digest, Sha256};
@@ -19,7 +19,7 @@ use std::alloc::{AllocError, Global};
 use std::fmt::Debug;
 use std::process::Abort;
 use std::test::Fail;
-use word32::{Ppn, page_of};
+use word32::Ppn;
 
 /// Asserts one case. The tests share it, since each assertion in a function's own body makes its proof much longer.
 fn expect<T: PartialEq + Debug + Drop>(rt: &impl Abort, case: &'static str, got: T, wanted: T) {
@@ -71,15 +71,15 @@ fn supply_zero(rt: &impl Abort, bus: &mut GuestBus, number: u32, frame: Frame)
 }
 
 /// Puts a byte into a page that has a frame of its own.
-fn put_byte(rt: &impl Abort, bus: &mut GuestBus, at: u32, byte: u8) {
+fn put_byte(rt: &impl Abort, bus: &mut GuestBus, at: PhysAddr, byte: u8) {
     settled(rt, bus);
-    let p = page_of(at);
+    let p = at.page();
     if p.number() >= bus.pages() {
-        panic!(rt; "{at} lies past memory");
+        panic!(rt; "{at:?} lies past memory");
     }
     match bus.kind(p) {
         PageKind::Private => bus.fill(at, &[byte]),
-        other => panic!(rt; "{at} is in a page that is {other:?}"),
+        other => panic!(rt; "{at:?} is in a page that is {other:?}"),
     }
 }
 
@@ -89,10 +89,10 @@ fn put_word(rt: &impl Abort, bus: &mut GuestBus, at: u32, word: u32) {
         panic!(rt; "{at} lies past memory");
     }
     let bytes = word.to_le_bytes();
-    put_byte(rt, bus, at, bytes[0]);
-    put_byte(rt, bus, at + 1, bytes[1]);
-    put_byte(rt, bus, at + 2, bytes[2]);
-    put_byte(rt, bus, at + 3, bytes[3]);
+    put_byte(rt, bus, PhysAddr::new(at), bytes[0]);
+    put_byte(rt, bus, PhysAddr::new(at + 1), bytes[1]);
+    put_byte(rt, bus, PhysAddr::new(at + 2), bytes[2]);
+    put_byte(rt, bus, PhysAddr::new(at + 3), bytes[3]);
 }
 
 /// Page 0 gets a frame, and these words into it.

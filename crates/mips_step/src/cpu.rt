@@ -8,7 +8,7 @@ use crate::sign::extended;
 use machine::Size;
 use mips_cp0::{Cp0, Exc, Profile};
 use mips_instr::Reg;
-use mips_tlb::{Kind, Tlb, direct_address};
+use mips_tlb::{Kind, PhysAddr, Tlb, direct_address};
 use std::marker::Model;
 
 mod control;
@@ -142,7 +142,7 @@ impl Cpu {
     /// Most accesses are such, and come by without a call.
     #[tactic(auto, using(machine::proofs::Aligned::place_aligned))]
     #[inline(always)]
-    pub fn direct_place(&self, _kind: Kind, size: Size, address: u32) -> Option<u32>
+    pub fn direct_place(&self, _kind: Kind, size: Size, address: u32) -> Option<PhysAddr>
         ensures place { IfSome result (λ at. place _kind size self.now address ≡ Ok at) }
         ensures aligned { IfSome result (λ at. at % alignment size ≡ 0) }
     {
@@ -155,7 +155,7 @@ impl Cpu {
 
     /// The physical address of an access at a virtual address, or the exception that it raises.
     #[tactic(auto, using(machine::proofs::Aligned::place_aligned))]
-    pub fn place(&self, kind: Kind, size: Size, address: u32) -> Result<u32, Exc>
+    pub fn place(&self, kind: Kind, size: Size, address: u32) -> Result<PhysAddr, Exc>
         ensures place { result ≡ place kind size self.now address }
         ensures aligned { IfOk result (λ at. at % alignment size ≡ 0) }
     {

@@ -38,14 +38,24 @@ fn with_entry(tlb: &mut Tlb, index: u32, entry_hi: u32, entry_lo0: u32, entry_lo
     tlb.write_indexed(&cp0);
 }
 
+// The number of the physical address that translation gives, or its exception.
+fn translate(tlb: &Tlb, cp0: &Cp0, address: u32, kind: Kind) -> Result<u32, Exc> {
+    tlb.translate(cp0, address, kind).map(|at| at.number())
+}
+
+// The number of the physical address that a probe gives.
+fn probe(tlb: &Tlb, cp0: &Cp0, address: u32) -> Option<u32> {
+    tlb.probe(cp0, address).map(|at| at.number())
+}
+
 // What a load, a fetch and a probe of an address give in address space 1, by the entries at boot.
 fn at_boot(status: u32, address: u32) -> (Result<u32, Exc>, Result<u32, Exc>, Option<u32>) {
     let tlb = Tlb::boot();
     let cp0 = registers(status, 1);
     (
-        tlb.translate(&cp0, address, Kind::Load),
-        tlb.translate(&cp0, address, Kind::Fetch),
-        tlb.probe(&cp0, address),
+        translate(&tlb, &cp0, address, Kind::Load),
+        translate(&tlb, &cp0, address, Kind::Fetch),
+        probe(&tlb, &cp0, address),
     )
 }
 
@@ -115,7 +125,7 @@ fn boot_entries_are_not_valid(rt: HostRuntime) {
 fn translations(rt: &impl Abort, tlb: &Tlb, cp0: &Cp0, rows: &[(u32, Kind, Result<u32, Exc>)]) {
     for row in rows {
         let (address, kind, answer) = *row;
-        let translated = tlb.translate(cp0, address, kind);
+        let translated = translate(tlb, cp0, address, kind);
         expect(rt, (address, kind), translated, answer);
     }
 }
@@ -222,7 +232,7 @@ fn probes_answer(rt: &impl Abort, tlb: &Tlb, status: u32) {
     let cp0 = registers(status, 0);
     for row in &PROBES {
         let (address, answer) = *row;
-        expect(rt, (address, status), tlb.probe(&cp0, address), answer);
+        expect(rt, (address, status), probe(tlb, &cp0, address), answer);
     }
 }
 
@@ -254,8 +264,8 @@ fn refill_enters_by(rt: &impl Abort, tlb: &Tlb, cp0: &mut Cp0, vector: u32, epc:
         refill: true,
     };
     let translated = [
-        tlb.translate(cp0, 0x0040_0000, Kind::Fetch),
-        tlb.translate(cp0, 0x0040_3004, Kind::Load),
+        translate(tlb, cp0, 0x0040_0000, Kind::Fetch),
+        translate(tlb, cp0, 0x0040_3004, Kind::Load),
     ];
     let wanted = [Ok(0x0000_2000), Err(exc)];
     expect(rt, ("translations", vector), translated, wanted);
@@ -296,7 +306,7 @@ fn store_to_a_page_not_dirty_enters(rt: HostRuntime) {
     let exc = Exc::Modified {
         address: 0x0000_2000,
     };
-    let stored = tlb.translate(&cp0, 0x0000_2000, Kind::Store);
+    let stored = translate(&tlb, &cp0, 0x0000_2000, Kind::Store);
     expect(&rt, "store", stored, Err(exc));
     let vector = cp0.enter(exc, 0x8000_0000, false);
     expect(&rt, "vector", vector, 0x8000_0180);
@@ -309,7 +319,7 @@ fn least_index_decides(rt: HostRuntime) {
     with_entry(&mut tlb, 9, 0x0000_2000, 0x0000_0142, 0x0000_0142);
     with_entry(&mut tlb, 3, 0x0000_2000, 0x0000_0102, 0x0000_0102);
     let mut cp0 = registers(KERNEL, 0);
-    let loaded = tlb.translate(&cp0, 0x0000_2000, Kind::Load);
+    let loaded = translate(&tlb, &cp0, 0x0000_2000, Kind::Load);
     let found = (loaded, tlb.find(0x0000_2000, 0));
     expect(&rt, "load and entry", found, (Ok(0x0000_4000), Some(3)));
     cp0.write(10, 0, 0x0000_2000);
@@ -321,8 +331,8 @@ fn least_index_decides(rt: HostRuntime) {
 fn loads(tlb: &Tlb, asid: u32) -> [Result<u32, Exc>; 2] {
     let cp0 = registers(KERNEL, asid);
     [
-        tlb.translate(&cp0, 0x0000_2abc, Kind::Load),
-        tlb.translate(&cp0, 0x0000_3abc, Kind::Load),
+        translate(tlb, &cp0, 0x0000_2abc, Kind::Load),
+        translate(tlb, &cp0, 0x0000_3abc, Kind::Load),
     ]
 }
 
@@ -388,7 +398,7 @@ fn halves_and_ends_of_a_pair(rt: HostRuntime) {
         (0xffff_f000, Ok(0x0000_0000)),
         (0xffff_ffff, Ok(0x0000_0fff)),
     ] {
-        let loaded = tlb.translate(&cp0, address, Kind::Load);
+        let loaded = translate(&tlb, &cp0, address, Kind::Load);
         expect(&rt, address, loaded, answer);
     }
 }
