@@ -4,7 +4,7 @@ ghost use Rattle.elf32.specs.Images.{FitsPages};
 ghost use Rattle.machine.specs.Step.{Machine, machine_with, step};
 ghost use Rattle.items.specs.declared.item.What.TheVariants.{Drain};
 ghost use Rattle.machine.specs.Answers.{replied};
-ghost use Rattle.machine.specs.Boot.{boot_machine, boot_machine_as};
+ghost use Rattle.machine.specs.Boot.{boot_machine};
 ghost use Rattle.machine.specs.Items.{accepts, after, reply};
 ghost use Rattle.machine.specs.Replies.{probe};
 
@@ -34,17 +34,8 @@ impl Model for Flat {
 }
 
 impl Flat {
-    /// The machine of the first profile that an image boots, with a memory of `pages` pages, at most 2^20, which hold the image.
-    pub fn boot(alloc: Global, image: &Image, pages: u32) -> Result<Flat, AllocError>
-        requires fits { FitsPages image.now pages }
-        requires few { pages ≤ 2 ^ 20 }
-        ensures { IfOk result (λ f. f ≡ boot_machine image.now pages) }
-    {
-        Flat::boot_as(alloc, Profile::One, image, pages)
-    }
-
     /// The machine of a profile that an image boots, with a memory of `pages` pages, at most 2^20, which hold the image.
-    pub fn boot_as(
+    pub fn boot(
         alloc: Global,
         profile: Profile,
         image: &Image,
@@ -52,10 +43,10 @@ impl Flat {
     ) -> Result<Flat, AllocError>
         requires fits { FitsPages image.now pages }
         requires few { pages ≤ 2 ^ 20 }
-        ensures { IfOk result (λ f. f ≡ boot_machine_as profile image.now pages) }
+        ensures { IfOk result (λ f. f ≡ boot_machine profile image.now pages) }
     {
         Ok(Flat {
-            cpu: Cpu::boot_as(profile, image.entry),
+            cpu: Cpu::boot(profile, image.entry),
             bus: FlatBus::boot(alloc, image, pages)?,
         })
     }

@@ -1,6 +1,6 @@
 //! The state of the processor, and how control moves.
 ghost use Rattle.std.specs.Prelude.{◌≡◌, ◌%◌, IfSome, IfOk, Ok};
-ghost use Rattle.machine.specs.Processor.{Processor, reg, with_reg, boot_processor, boot_processor_as};
+ghost use Rattle.machine.specs.Processor.{Processor, reg, with_reg, boot_processor};
 ghost use Rattle.machine.specs.Places.{alignment, place, data_address};
 
 pub use self::counter::Counter;
@@ -41,17 +41,10 @@ impl Model for Cpu {
 }
 
 impl Cpu {
-    /// A processor as a machine of the first profile boots, at its entry address.
-    pub fn boot(entry: u32) -> Cpu
-        ensures { result ≡ boot_processor entry }
-    {
-        Cpu::boot_as(Profile::One, entry)
-    }
-
     /// A processor as a machine of a profile boots, at its entry address.
     #[tactic(auto, using(mips_tlb::proofs::Used::boot_together))]
-    pub fn boot_as(profile: Profile, entry: u32) -> Cpu
-        ensures { result ≡ boot_processor_as profile entry }
+    pub fn boot(profile: Profile, entry: u32) -> Cpu
+        ensures { result ≡ boot_processor profile entry }
     {
         Cpu {
             regs: [0; 32],
@@ -59,8 +52,8 @@ impl Cpu {
             lo: 0,
             counter: Counter::at(entry),
             ll_bit: false,
-            cp0: Cp0::boot_as(profile),
-            tlb: Tlb::boot_as(profile),
+            cp0: Cp0::boot(profile),
+            tlb: Tlb::boot(profile),
         }
     }
 
