@@ -81,7 +81,7 @@ fn copy_has_the_same_bytes(rt: HostRuntime) -> Result<(), Fail> {
     assert_eq!(rt; console.take_input(), 1);
     console.write_output(b'k');
     assert_eq!(rt; copy.take_input(), 1);
-    assert_eq!(rt; copy.drain()?.as_slice(), b"o");
-    assert_eq!(rt; console.drain()?.as_slice(), b"ok");
+    assert_eq!(rt; copy.drain()?.as_slice(), b"o".as_slice());
+    assert_eq!(rt; console.drain()?.as_slice(), b"ok".as_slice());
     Ok(())
 }
