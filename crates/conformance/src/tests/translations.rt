@@ -1,10 +1,11 @@
 //! Addresses by way of the TLB, and the instructions that write, read and look for its entries.
 use super::code::Code::*;
 use super::code::{ENTRY_HI, ENTRY_LO0, ENTRY_LO1, EPC, INDEX, RANDOM, STATUS, WIRED};
-use super::run::{Run, check_runs};
+use super::run::{Run, check_run_as, check_runs};
+use mips_cp0::Profile;
 use std::test::Fail;
 
-static RUNS: [Run<'static>; 20] = [
+static RUNS: [Run<'static>; 19] = [
     Run {
         name: "a load through an entry that is not valid",
         code: &[Addiu(1, 0, 7), Lw(1, 0, 0)],
@@ -313,23 +314,6 @@ static RUNS: [Run<'static>; 20] = [
         system: [0, 0, 0, 0],
     },
     Run {
-        name: "Random goes down to Wired",
-        code: &[
-            Mfc0(1, RANDOM),
-            Ori(2, 0, 14),
-            Mtc0(2, WIRED),
-            Mfc0(3, RANDOM),
-            Mfc0(4, RANDOM),
-            Mfc0(5, RANDOM),
-        ],
-        pages: 16,
-        steps: 6,
-        pc: 0x8000_0018,
-        hi_lo: [0, 0],
-        regs: &[(1, 0x0e), (2, 0x0e), (3, 0x0e), (4, 0x0f), (5, 0x0e)],
-        system: [0, 0, 0, 0],
-    },
-    Run {
         name: "the first half of the addresses while ERL is 1",
         code: &[
             Ori(1, 0, 4), // ERL
@@ -426,6 +410,50 @@ static RUNS: [Run<'static>; 20] = [
         system: [2, 0x0c, 0x8000_0004, 0x0040_3127],
     },
 ];
+
+/// Random from the number of the last entry down to Wired, and from there once more, in the first profile.
+static RANDOM_OF_THE_FIRST: Run<'static> = Run {
+    name: "Random goes down to Wired",
+    code: &[
+        Mfc0(1, RANDOM),
+        Ori(2, 0, 14),
+        Mtc0(2, WIRED),
+        Mfc0(3, RANDOM),
+        Mfc0(4, RANDOM),
+        Mfc0(5, RANDOM),
+    ],
+    pages: 16,
+    steps: 6,
+    pc: 0x8000_0018,
+    hi_lo: [0, 0],
+    regs: &[(1, 0x0e), (2, 0x0e), (3, 0x0e), (4, 0x0f), (5, 0x0e)],
+    system: [0, 0, 0, 0],
+};
+
+/// The same in the second.
+static RANDOM_OF_THE_SECOND: Run<'static> = Run {
+    name: "Random goes down to Wired",
+    code: &[
+        Mfc0(1, RANDOM),
+        Ori(2, 0, 30),
+        Mtc0(2, WIRED),
+        Mfc0(3, RANDOM),
+        Mfc0(4, RANDOM),
+        Mfc0(5, RANDOM),
+    ],
+    pages: 16,
+    steps: 6,
+    pc: 0x8000_0018,
+    hi_lo: [0, 0],
+    regs: &[(1, 0x1e), (2, 0x1e), (3, 0x1e), (4, 0x1f), (5, 0x1e)],
+    system: [0, 0, 0, 0],
+};
+
+#[test]
+fn random_goes_down_to_wired(rt: HostRuntime) -> Result<(), Fail> {
+    check_run_as(&rt, Profile::One, &RANDOM_OF_THE_FIRST)?;
+    check_run_as(&rt, Profile::Two, &RANDOM_OF_THE_SECOND)
+}
 
 #[test]
 fn addresses_go_by_the_entries(rt: HostRuntime) -> Result<(), Fail> {
