@@ -1,5 +1,5 @@
 -- Reports of runs of the image in a file, and what replays print.
-use Rattle.std.proofs.Common.{ℕ, ◌≡◌, ◌%◌, ◌^◌, ◌∙◌, ap, subst, length, take, take_all, le_refl, List, Option, Some, None, IfSome}
+use Rattle.std.proofs.Common.{ℕ, ◌≡◌, ◌%◌, ◌^◌, ◌∙◌, refl, ap, subst, length, take, take_all, le_refl, List, Option, Some, None, IfSome}
 use Rattle.sha2.specs.Sha256.{sha256}
 use Rattle.elf32.specs.declared.image.Image.{Image}
 use Rattle.items.specs.declared.entry.Entry.{Entry}
@@ -12,15 +12,16 @@ use Rattle.logfile.specs.Versions.{HasHeaderAs, HasEntriesAs}
 use Rattle.commands.specs.declared.exec.Report.{Report}
 use Rattle.commands.specs.declared.order.Exec.{Exec}
 use Rattle.commands.specs.declared.order.Replay.{Replay}
+use Rattle.guest_log.specs.declared.stop.Stop.{Stop}
 use Rattle.dump.specs.Dumps.{dump_text}
 use Rattle.inspection.specs.declared.extras.Extras.{Extras}
 use Rattle.runs.specs.declared.ending.Until.{Until}
 use Rattle.runs.specs.declared.running.Ran.{Ran}
 use Rattle.runs.specs.Endings.{IsFirst}
-use Rattle.runs.specs.Runs.{fed}
+use Rattle.runs.specs.Runs.{fed, IsCount}
 use Rattle.dump.specs.Steps.{step_count}
 use Rattle.commands.specs.Replays.{IsReplay}
-use Rattle.commands.specs.Runs.{IsImageOf, IsReport, IsReportOf}
+use Rattle.commands.specs.Runs.{IsImageOf, IsReport, IsReportOf, IsWhole}
 
 -- a report of a run of the image that was loaded, whether or not the file's bytes are known
 pub report_of_file : (file : Option (List ℕ)) (order : Exec) (input : List ℕ) (until : Until) (extras : Extras) (image : Image) (report : Report)
@@ -47,7 +48,18 @@ replay_of_files all log order profile pages image entries flat after steps text 
       ∙ ap (λ (n : ℕ). dump_text (run (items_of entries) (boot_machine profile image pages)) n None) counted;
 }
 
--- where all of the input was taken
-pub first_of_all : (until : Until) (input : List ℕ) (m : Machine) (ran : Ran) → ran.taken ≡ length input → IsFirst until (fed (take ran.taken input) m) ran → IsFirst until (fed input m) ran
-first_of_all until input m ran all first =
-    subst (λ (bytes : List ℕ). IsFirst until (fed bytes m) ran) (ap (λ (n : ℕ). take n input) all ∙ take_all (length input) input (le_refl (length input))) first
+never_stopped : (stop : Option Stop) → IfSome stop (λ why. ⊥) → stop ≡ None
+never_stopped None never = refl
+never_stopped (Some why) never = absurd never
+
+-- a run of a machine that never stops
+pub whole : (until : Until) (steps : ℕ) (input bytes : List ℕ) (m boot : Machine) (ran : Ran) → bytes ≡ input → m ≡ boot → IsCount bytes steps ran
+    → IfSome ran.stop (λ why. ⊥) → IsFirst until (fed (take ran.taken bytes) m) ran → IsWhole boot input steps until ran
+whole until steps input bytes m boot ran same boots count never first =
+    let on = never_stopped ran.stop never in
+    let all : take ran.taken bytes ≡ bytes = ap (λ (n : ℕ). take n bytes) (count.all_input on) ∙ take_all (length bytes) bytes (le_refl (length bytes)) in
+    record {
+      on = on;
+      count = subst (λ (xs : List ℕ). IsCount xs steps ran) same count;
+      first = subst (λ (x : Machine). IsFirst until (fed input x) ran) boots (subst (λ (xs : List ℕ). IsFirst until (fed xs m) ran) (all ∙ same) first);
+    }

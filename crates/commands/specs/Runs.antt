@@ -1,5 +1,5 @@
 -- What a run of a machine does.
-use Rattle.std.specs.Prelude.{◌≡◌, ℕ, List, ◌++◌, take, string_bytes}
+use Rattle.std.specs.Prelude.{◌≡◌, ℕ, List, ◌++◌, take, string_bytes, None}
 use Rattle.elf32.specs.declared.image.Image.{Image}
 use Rattle.elf32.specs.Files.{StandsFor}
 use Rattle.machine.specs.Step.{Machine}
@@ -33,6 +33,12 @@ IsImageOf format.Raw pages all image = IsRawImage all image
 -- what is printed of a machine after a run: its dump, and behind it what else is wanted
 abbrev pub report_text : Extras → Ran → Machine → List ℕ
 report_text extras ran m = dump_text m ran.steps ran.stop ++ extras_text extras m
+
+-- a run from a machine that went to its end: it took all of the input, and the machine didn't stop
+pub record IsWhole (m : Machine) (input : List ℕ) (steps : ℕ) (until : Until) (ran : Ran) : Type 0 where
+  pub on : ran.stop ≡ None
+  pub count : IsCount input steps ran
+  pub first : IsFirst until (fed input m) ran
 
 -- a report of a run from a machine: how far it went, that it went no farther than to the first state that it was to end at, and the
 -- text of the machine that it led to

@@ -1,5 +1,5 @@
 //! The command `exec`.
-ghost use Rattle.std.specs.Prelude.{◌≡◌, ◌≢◌, [], None, Some, IfErr, IfOk, IfSome, OnOk, string_bytes};
+ghost use Rattle.std.specs.Prelude.{◌≡◌, ◌≢◌, [], take, None, Some, IfErr, IfOk, IfSome, OnOk, string_bytes};
 ghost use Rattle.sha2.specs.Sha256.{sha256};
 ghost use Rattle.elf32.specs.declared.image.Image.{Image};
 ghost use Rattle.elf32.specs.Files.{StandsFor};
@@ -7,7 +7,7 @@ ghost use Rattle.elf32.specs.Images.{FitsPages};
 ghost use Rattle.machine.specs.Boot.{boot_machine};
 ghost use Rattle.commands.specs.Faults.{IsElfRunFault, IsExecFault, IsImageFault, IsRunFault, IsWant};
 ghost use Rattle.commands.specs.Raw.{IsPageCount};
-ghost use Rattle.commands.specs.Runs.{IsImageOf, IsReport, IsReportOf, report_text};
+ghost use Rattle.commands.specs.Runs.{IsImageOf, IsReport, IsReportOf, IsWhole, report_text};
 ghost use Rattle.runs.specs.Endings.{IsFirst};
 ghost use Rattle.runs.specs.Runs.{after_run, fed, IsCount};
 
@@ -148,17 +148,10 @@ fn run_guest<'a, W: Watch>(
 {
     let Loaded { image, digest } = loaded;
     let image = shared(alloc, image)?;
-    let found = if until.is_never() {
-        None
-    } else {
-        Some(rehearse(alloc, order, &image, input, until, watch)?)
-    };
+    let found = rehearsal(alloc, order, &image, input, until, watch)?;
     let booted = HostedGuest::boot_shared(alloc, order.profile, image, order.pages);
     let mut runner = of_boot(booted)?;
-    let ran = match found {
-        Some(found) => run_again(&mut runner, input.as_slice(), found),
-        None => run(&mut runner, input.as_slice(), order.steps, until, watch),
-    };
+    let ran = run_booted(&mut runner, input, order.steps, until, found, watch);
     let report = report_of(alloc, &runner, ran, extras)?;
     Ok(Done {
         report,
@@ -174,9 +167,48 @@ fn shared(alloc: Global, image: elf32::Image) -> Result<Arc<elf32::Image, Global
     Ok(Arc::new(alloc, image)?)
 }
 
+/// Makes the run of a guest that stands as its image boots; where it was found out how that goes, so many steps.
+fn run_booted<W: Watch>(
+    runner: &mut HostedGuest,
+    input: &ConsoleInput,
+    steps: u32,
+    until: &Until,
+    found: Option<Ran>,
+    watch: &mut W,
+) -> Ran
+    requires found { IfSome found (IsWhole runner.old.machine input.now steps until.now) }
+    requires empty { runner.old.machine.board.devices.console.input ≡ [] }
+    ensures count { IsCount input.now steps result }
+    ensures state { runner.new.machine ≡ after_run result input.now runner.old.machine }
+    ensures first { IsFirst until.now (fed (take result.taken input.now) runner.old.machine) result }
+{
+    match found {
+        Some(found) => run_again(runner, input.as_slice(), found),
+        None => run(runner, input.as_slice(), steps, until, watch),
+    }
+}
+
+/// How the run of an image from its boot goes to its end, where it is to end at some state.
+fn rehearsal<W: Watch>(
+    alloc: Global,
+    order: Exec<'_>,
+    image: &elf32::Image,
+    input: &ConsoleInput,
+    until: &Until,
+    watch: &mut W,
+) -> Result<Option<Ran>, AllocError>
+    requires fits { FitsPages image.now order.pages }
+    requires legal { IsPageCount order.profile order.pages }
+    ensures { IfOk result (λ found. IfSome found (IsWhole (boot_machine order.entry.profile image.now order.entry.pages) input.now order.entry.steps until.now)) }
+{
+    if until.is_never() {
+        return Ok(None);
+    }
+    Ok(Some(rehearse(alloc, order, image, input, until, watch)?))
+}
+
 /// How the run of an image from its boot goes to its end, by one on a machine without a log: that is told whether the steps that it makes at once
 /// come to a state that the run is to end at, where a guest would be looked at after each. An error says that a request for memory was refused.
-#[tactic(auto, using(crate::proofs::Reports::first_of_all))]
 fn rehearse<W: Watch>(
     alloc: Global,
     order: Exec<'_>,
@@ -187,9 +219,7 @@ fn rehearse<W: Watch>(
 ) -> Result<Ran, AllocError>
     requires fits { FitsPages image.now order.pages }
     requires legal { IsPageCount order.profile order.pages }
-    ensures whole { IfOk result (λ ran. ran.stop ≡ None) }
-    ensures count { IfOk result (IsCount input.now order.entry.steps) }
-    ensures first { IfOk result (IsFirst until.now (fed input.now (boot_machine order.entry.profile image.now order.entry.pages))) }
+    ensures { IfOk result (IsWhole (boot_machine order.entry.profile image.now order.entry.pages) input.now order.entry.steps until.now) }
 {
     let home = Home::boot(alloc, order.profile, image, order.pages)?;
     let home = Arc::new(alloc, home)?;
