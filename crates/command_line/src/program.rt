@@ -63,7 +63,7 @@ enum Answer {
 /// among the words. `input` is read by the commands `run` and `fuzz` alone, and `watch` is told how far a run of `exec` is.
 ///
 /// At least one of `out` and `err` stays as it was, but where `out` could not be written, or a word begins with `--until`, or is `sim`, `run` or
-/// `fuzz`: where it could not be written what it took stands in it, and `err` has the line `vmhost: output`; with `run` both get lines,
+/// `fuzz`: where it could not be written what it took stands in it, and `err` may have the line `vmhost: output`; with `run` both get lines,
 /// as `run_order` has it; with `--until` `err` may have the line
 /// `vmhost: ended: ` with the state that a run ended at, beside what is printed; with `sim` the replies to the first events of a
 /// script may stand in `out` where `err` says that there was no memory for more, and with `fuzz` the lines of the first inputs where `err` says
@@ -111,18 +111,22 @@ where
     };
     let status = match written {
         Ok(status) => status,
-        Err(_) => tell_unprinted(err),
+        Err(error) => tell_unprinted(&error, err),
     };
     status.code()
 }
 
-/// Says that not all could be printed, where that can be said.
-fn tell_unprinted<E: Write>(err: &mut E) -> Status
+/// Says that not all could be printed, where that can be said and is of use: not where the reader of the output has ended, nor of replies and of the lines
+/// of inputs, whose reader may end at any time.
+fn tell_unprinted<E: Write>(error: &io::Error, err: &mut E) -> Status
     ensures { code_of result ≡ 1 }
 {
-    // where neither output takes more the status alone tells it
-    match write_unprinted(err) {
-        Ok(()) | Err(_) => Status::Refused,
+    match error.kind() {
+        ErrorKind::BrokenPipe | ErrorKind::Other => Status::Refused,
+        // where neither output takes more the status alone tells it
+        _ => match write_unprinted(err) {
+            Ok(()) | Err(_) => Status::Refused,
+        },
     }
 }
 
@@ -131,7 +135,7 @@ fn write_unprinted<E: Write>(err: &mut E) -> io::Result<()> {
     writeln!(err, "vmhost: output")?;
     writeln!(
         err,
-        "  standard output takes no more, as where its disk is full or its reader has ended; what stands there may be cut off"
+        "  standard output takes no more, as where its disk is full; what stands there may be cut off"
     )?;
     err.flush()
 }

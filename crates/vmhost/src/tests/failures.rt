@@ -169,7 +169,7 @@ impl Write for Narrow {
     fn write(&mut self, buf: &[u8]) -> io::Result<usize> {
         let left = self.room.saturating_sub(self.got.len());
         if left == 0 {
-            return Err(io::Error::from(io::ErrorKind::BrokenPipe));
+            return Err(io::Error::from(io::ErrorKind::StorageFull));
         }
         let count = buf.len().min(left).min(3);
         self.got.extend_from_slice(&buf[..count])?;
@@ -180,14 +180,14 @@ impl Write for Narrow {
         if self.got.len() < self.room {
             Ok(())
         } else {
-            Err(io::Error::from(io::ErrorKind::BrokenPipe))
+            Err(io::Error::from(io::ErrorKind::StorageFull))
         }
     }
 }
 
 /// What stands on the error output where the output took no more.
 static UNPRINTED: &str =
-    "vmhost: output\n  standard output takes no more, as where its disk is full or its reader has ended; what stands there may be cut off\n";
+    "vmhost: output\n  standard output takes no more, as where its disk is full; what stands there may be cut off\n";
 
 /// Command lines, and the status that they have where all can be written; `FILE` is a raw image.
 static ANSWERS: [(&str, u8); 6] = [
