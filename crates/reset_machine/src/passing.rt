@@ -15,6 +15,7 @@ pub struct Passing<'a> {
 }
 
 impl Passing<'_> {
+    /// Of a run that is to end at the first of these states.
     pub fn new(until: &Until) -> Passing<'_>
         ensures { result.until.now ≡ until.now }
     {
