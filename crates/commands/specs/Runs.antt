@@ -1,9 +1,9 @@
 -- What a run of a machine does.
-use Rattle.std.specs.Prelude.{◌≡◌, ℕ, List, ◌++◌, take, string_bytes}
+use Rattle.std.specs.Prelude.{◌≡◌, ℕ, List, ◌++◌, take, string_bytes, None}
 use Rattle.elf32.specs.declared.image.Image.{Image}
 use Rattle.elf32.specs.Files.{StandsFor}
 use Rattle.machine.specs.Step.{Machine}
-use Rattle.machine.specs.Boot.{boot_machine_as}
+use Rattle.machine.specs.Boot.{boot_machine}
 use Rattle.guest_log.specs.Logs.{LogIs, IsFull}
 use Rattle.guest_log.specs.declared.stop.Stop.{Stop}
 use Rattle.guest_log.specs.declared.stop.Stop.TheVariants as why
@@ -34,6 +34,12 @@ IsImageOf format.Raw pages all image = IsRawImage all image
 abbrev pub report_text : Extras → Ran → Machine → List ℕ
 report_text extras ran m = dump_text m ran.steps ran.stop ++ extras_text extras m
 
+-- a run from a machine that went to its end: it took all of the input, and the machine didn't stop
+pub record IsWhole (m : Machine) (input : List ℕ) (steps : ℕ) (until : Until) (ran : Ran) : Type 0 where
+  pub on : ran.stop ≡ None
+  pub count : IsCount input steps ran
+  pub first : IsFirst until (fed input m) ran
+
 -- a report of a run from a machine: how far it went, that it went no farther than to the first state that it was to end at, and the
 -- text of the machine that it led to
 pub record IsReport (boot : Machine) (input : List ℕ) (steps : ℕ) (until : Until) (extras : Extras) (report : Report) : Type 0 where
@@ -45,4 +51,4 @@ pub record IsReport (boot : Machine) (input : List ℕ) (steps : ℕ) (until : U
 pub record IsReportOf (all : List ℕ) (order : Exec) (input : List ℕ) (until : Until) (extras : Extras) (report : Report) : Type 0 where
   pub image : Image
   pub stands : IsImageOf order.format order.pages all image
-  pub ran : IsReport (boot_machine_as order.profile image order.pages) input order.steps until extras report
+  pub ran : IsReport (boot_machine order.profile image order.pages) input order.steps until extras report

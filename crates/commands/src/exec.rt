@@ -1,14 +1,15 @@
 //! The command `exec`.
-ghost use Rattle.std.specs.Prelude.{◌≡◌, ◌≢◌, [], None, Some, IfErr, IfOk, IfSome, OnOk, string_bytes};
+ghost use Rattle.std.specs.Prelude.{◌≡◌, ◌≢◌, [], take, None, Some, IfErr, IfOk, IfSome, OnOk, string_bytes};
 ghost use Rattle.sha2.specs.Sha256.{sha256};
 ghost use Rattle.elf32.specs.declared.image.Image.{Image};
 ghost use Rattle.elf32.specs.Files.{StandsFor};
 ghost use Rattle.elf32.specs.Images.{FitsPages};
-ghost use Rattle.machine.specs.Boot.{boot_machine_as};
+ghost use Rattle.machine.specs.Boot.{boot_machine};
 ghost use Rattle.commands.specs.Faults.{IsElfRunFault, IsExecFault, IsImageFault, IsRunFault, IsWant};
 ghost use Rattle.commands.specs.Raw.{IsPageCount};
-ghost use Rattle.commands.specs.Runs.{IsImageOf, IsReport, IsReportOf, report_text};
-ghost use Rattle.runs.specs.Runs.{after_run};
+ghost use Rattle.commands.specs.Runs.{IsImageOf, IsReport, IsReportOf, IsWhole, report_text};
+ghost use Rattle.runs.specs.Endings.{IsFirst};
+ghost use Rattle.runs.specs.Runs.{after_run, fed, IsCount};
 
 use crate::fault::{Fault, LogRefusal, of_boot, of_file};
 use crate::hosted::HostedGuest;
@@ -18,11 +19,13 @@ use crate::order::{ConsoleInput, Exec, Format, MachineKind};
 use dump::dump;
 use inspection::{Extras, push_extras};
 use output_file::is_one_file;
-use runs::{Ran, Runnable, Table, Until, Watch, run};
+use reset_machine::{Home, ResetMachine};
+use runs::{Ran, Runnable, Table, Until, Watch, run, run_again};
 use std::alloc::{AllocError, Global};
 use std::fs::File;
 use std::io::Read;
 use std::rt::Files;
+use std::sync::Arc;
 use tenant::BootError;
 
 /// What a run prints, and how it went.
@@ -61,7 +64,7 @@ pub fn run_image<'a, R: Files + AllocGlobal, W: Watch>(
     extras: &Extras,
     watch: &mut W,
 ) -> Result<Report, Fault<'a>>
-    ensures report { IfOk result (λ r. (image : Image) × IsReport (boot_machine_as order.entry.profile image order.entry.pages) input.now order.entry.steps until.now extras.now r) }
+    ensures report { IfOk result (λ r. (image : Image) × IsReport (boot_machine order.entry.profile image order.entry.pages) input.now order.entry.steps until.now extras.now r) }
     ensures legal { IfOk result (λ r. IsPageCount order.entry.profile order.entry.pages) }
     ensures log { IfOk result (λ r. order.entry.kind ≡ MachineKind.Flat → order.entry.log ≡ None) }
     ensures apart { IfOk result (λ r. order.entry.log ≢ Some order.entry.image) }
@@ -110,7 +113,7 @@ pub fn run_file<'a, F: Read + Drop, W: Watch>(
 ) -> Result<Done, Fault<'a>>
     ensures report { IfSome (F.remaining file) (λ all. IfOk result (λ done. IsReportOf all order.entry input.now until.now extras.now done.report)) }
     ensures digest { IfSome (F.remaining file) (λ all. IfOk result (λ done. done.digest ≡ sha256 all)) }
-    ensures some_image { IfOk result (λ done. (image : Image) × IsReport (boot_machine_as order.entry.profile image order.entry.pages) input.now order.entry.steps until.now extras.now done.report) }
+    ensures some_image { IfOk result (λ done. (image : Image) × IsReport (boot_machine order.entry.profile image order.entry.pages) input.now order.entry.steps until.now extras.now done.report) }
     ensures guest { IfOk result (λ done. order.entry.kind ≡ MachineKind.Guest → done.runner ≢ None) }
     ensures flat_never_stops { IfOk result (λ done. order.entry.kind ≡ MachineKind.Flat → done.report.ran.stop ≡ None) }
     ensures legal { IfOk result (λ done. IsPageCount order.entry.profile order.entry.pages) }
@@ -123,8 +126,8 @@ pub fn run_file<'a, F: Read + Drop, W: Watch>(
     }
 }
 
-/// Boots a guest of the image, and runs it. An error is `Boot` where the boot was refused memory, and `Memory` where another
-/// request was.
+/// Boots a guest of the image, and runs it; where the run is to end at some state, so many steps as a rehearsal makes to the first. An error is
+/// `Boot` where the boot was refused memory, and `Memory` where another request was.
 fn run_guest<'a, W: Watch>(
     alloc: Global,
     loaded: Loaded,
@@ -136,22 +139,92 @@ fn run_guest<'a, W: Watch>(
 ) -> Result<Done, Fault<'a>>
     requires fits { FitsPages loaded.image order.pages }
     requires legal { IsPageCount order.profile order.pages }
-    ensures report { IfOk result (λ done. IsReport (boot_machine_as order.entry.profile loaded.image order.entry.pages) input.now order.entry.steps until.now extras.now done.report) }
+    ensures report { IfOk result (λ done. IsReport (boot_machine order.entry.profile loaded.image order.entry.pages) input.now order.entry.steps until.now extras.now done.report) }
     ensures digest { IfOk result (λ done. done.digest ≡ loaded.digest) }
     ensures guest { IfOk result
-        (λ done. IfSome done.runner (λ r. r.machine ≡ after_run done.report.ran input.now (boot_machine_as order.entry.profile loaded.image order.entry.pages))) }
+        (λ done. IfSome done.runner (λ r. r.machine ≡ after_run done.report.ran input.now (boot_machine order.entry.profile loaded.image order.entry.pages))) }
     ensures runner { IfOk result (λ done. done.runner ≢ None) }
     ensures faults { IfErr result IsWant }
 {
     let Loaded { image, digest } = loaded;
-    let mut runner = of_boot(HostedGuest::boot(alloc, order.profile, image, order.pages))?;
-    let ran = run(&mut runner, input.as_slice(), order.steps, until, watch);
+    let image = shared(alloc, image)?;
+    let found = rehearsal(alloc, order, &image, input, until, watch)?;
+    let booted = HostedGuest::boot_shared(alloc, order.profile, image, order.pages);
+    let mut runner = of_boot(booted)?;
+    let ran = run_booted(&mut runner, input, order.steps, until, found, watch);
     let report = report_of(alloc, &runner, ran, extras)?;
     Ok(Done {
         report,
         runner: Some(runner),
         digest,
     })
+}
+
+/// An image that several may have.
+fn shared(alloc: Global, image: elf32::Image) -> Result<Arc<elf32::Image, Global>, AllocError>
+    ensures { IfOk result (λ a. a.value ≡ image) }
+{
+    Ok(Arc::new(alloc, image)?)
+}
+
+/// Makes the run of a guest that stands as its image boots; where it was found out how that goes, so many steps.
+fn run_booted<W: Watch>(
+    runner: &mut HostedGuest,
+    input: &ConsoleInput,
+    steps: u32,
+    until: &Until,
+    found: Option<Ran>,
+    watch: &mut W,
+) -> Ran
+    requires found { IfSome found (IsWhole runner.old.machine input.now steps until.now) }
+    requires empty { runner.old.machine.board.devices.console.input ≡ [] }
+    ensures count { IsCount input.now steps result }
+    ensures state { runner.new.machine ≡ after_run result input.now runner.old.machine }
+    ensures first { IsFirst until.now (fed (take result.taken input.now) runner.old.machine) result }
+{
+    match found {
+        Some(found) => run_again(runner, input.as_slice(), found),
+        None => run(runner, input.as_slice(), steps, until, watch),
+    }
+}
+
+/// How the run of an image from its boot goes to its end, where it is to end at some state.
+fn rehearsal<W: Watch>(
+    alloc: Global,
+    order: Exec<'_>,
+    image: &elf32::Image,
+    input: &ConsoleInput,
+    until: &Until,
+    watch: &mut W,
+) -> Result<Option<Ran>, AllocError>
+    requires fits { FitsPages image.now order.pages }
+    requires legal { IsPageCount order.profile order.pages }
+    ensures { IfOk result (λ found. IfSome found (IsWhole (boot_machine order.entry.profile image.now order.entry.pages) input.now order.entry.steps until.now)) }
+{
+    if until.is_never() {
+        return Ok(None);
+    }
+    Ok(Some(rehearse(alloc, order, image, input, until, watch)?))
+}
+
+/// How the run of an image from its boot goes to its end, by one on a machine without a log: that is told whether the steps that it makes at once
+/// come to a state that the run is to end at, where a guest would be looked at after each. An error says that a request for memory was refused.
+fn rehearse<W: Watch>(
+    alloc: Global,
+    order: Exec<'_>,
+    image: &elf32::Image,
+    input: &ConsoleInput,
+    until: &Until,
+    watch: &mut W,
+) -> Result<Ran, AllocError>
+    requires fits { FitsPages image.now order.pages }
+    requires legal { IsPageCount order.profile order.pages }
+    ensures { IfOk result (IsWhole (boot_machine order.entry.profile image.now order.entry.pages) input.now order.entry.steps until.now) }
+{
+    let home = Home::boot(alloc, order.profile, image, order.pages)?;
+    let home = Arc::new(alloc, home)?;
+    let mut machine = ResetMachine::new(alloc, home)?;
+    Ok(run(&mut machine, input.as_slice(), order.steps, until, watch))
 }
 
 /// Boots the reference machine with the image, and runs it. The errors are those of `run_guest`.
@@ -166,7 +239,7 @@ fn run_flat<'a, W: Watch>(
 ) -> Result<Done, Fault<'a>>
     requires fits { FitsPages loaded.image order.pages }
     requires legal { IsPageCount order.profile order.pages }
-    ensures report { IfOk result (λ done. IsReport (boot_machine_as order.entry.profile loaded.image order.entry.pages) input.now order.entry.steps until.now extras.now done.report) }
+    ensures report { IfOk result (λ done. IsReport (boot_machine order.entry.profile loaded.image order.entry.pages) input.now order.entry.steps until.now extras.now done.report) }
     ensures digest { IfOk result (λ done. done.digest ≡ loaded.digest) }
     ensures never_stops { IfOk result (λ done. done.report.ran.stop ≡ None) }
     ensures faults { IfErr result IsWant }

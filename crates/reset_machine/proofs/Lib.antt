@@ -1,4 +1,5 @@
 mod Homes
 mod Marking
+mod Past
 mod Stepping
 mod Watching

@@ -1,23 +1,32 @@
 //! The machine that goes back to its home.
-ghost use Rattle.std.specs.Prelude.{◌≡◌, ◌*◌, ◌<◌, ◌≤◌, ◌^◌, None, IfOk, OnOk, OnErr, length};
+ghost use Rattle.std.specs.Prelude.{◌≡◌, ℕ, ◌*◌, ◌<◌, ◌≤◌, ◌^◌, None, IfOk, OnOk, OnErr, length};
 ghost use Rattle.items.specs.declared.item.What.TheVariants.{In};
 ghost use Rattle.machine.specs.Items.{after};
 ghost use Rattle.machine.specs.Step.{step};
+ghost use Rattle.mips_fast.specs.Runs.{AreAdmitted, KeepsStatus};
+ghost use Rattle.runs.specs.Endings.{IsPassed};
 ghost use Rattle.runs.specs.Runs.{after_steps};
 
-use crate::{Home, WatchedBus};
+use crate::{Home, Passing, WatchedBus};
 use flatvm::Flat;
 use guest_log::Stop;
 use machine::{Rejection, StepOut};
-use mips_fast::RunCache;
+use mips_fast::{Everything, Filter, RunCache};
 use mips_step::{Cpu, Unreached, View, debug};
-use runs::{NoPlace, Runnable};
+use runs::{NoPlace, Runnable, Until};
 use std::alloc::{AllocError, Global};
 use std::marker::Model;
 use std::sync::Arc;
 
 /// Fewer steps than this are made one by one, since what it takes to begin a run is more than that.
 const FEW: u32 = 16;
+
+/// A run that is to go past states and ends after fewer steps than this came to a branch or jump to itself that is no loop, mostly: a wait that counts
+/// in its delay slot. Then states are looked at one by one for a while.
+const SHORT: u32 = 2;
+
+/// How often they are.
+const PAUSE: u32 = 16;
 
 /// A machine that begins as its home is, and goes back to that by the pages that were written since. In clauses it is the machine as it stands and
 /// its home, `Resettable`.
@@ -26,6 +35,8 @@ pub struct ResetMachine {
     cpu: Cpu,
     bus: WatchedBus,
     cache: RunCache,
+    // how often `steps_past` is yet to make no step
+    pause: u32,
 }
 
 impl Model for ResetMachine {
@@ -46,14 +57,24 @@ impl ResetMachine {
         let cpu = home.processor();
         let cache = RunCache::new(alloc)?;
         let bus = WatchedBus::new(alloc, home)?;
-        Ok(ResetMachine { cpu, bus, cache })
+        Ok(ResetMachine {
+            cpu,
+            bus,
+            cache,
+            pause: 0,
+        })
     }
 
     /// The machine as it stands, for others to begin as: it has no home any more.
     pub fn into_home(self) -> Home
         ensures { result ≡ self.machine }
     {
-        let ResetMachine { cpu, bus, cache } = self;
+        let ResetMachine {
+            cpu,
+            bus,
+            cache,
+            pause: _,
+        } = self;
         drop(cache);
         let (flat, pages) = bus.into_flat();
         Home::of_parts(cpu, flat, pages)
@@ -105,15 +126,17 @@ impl ResetMachine {
         }
     }
 
-    /// Steps, at most `count`, as `mips_fast::run` makes them, and how many.
+    /// Steps, at most `count`, as `mips_fast::run` makes them of the instructions that a filter admits, and how many.
     #[inline(always)]
     #[tactic(auto, using(crate::proofs::Stepping::same_steps))]
-    fn run_quietly(&mut self, count: u32) -> u32
+    fn run_quietly<F: Filter>(&mut self, filter: &F, count: u32) -> u32
         ensures few { result ≤ count }
         ensures machine { self.new.machine ≡ after_steps result self.old.machine }
+        ensures admitted { AreAdmitted (F.admits filter.now) result self.old.machine }
+        ensures status { KeepsStatus result self.old.machine }
         ensures home { self.new.home ≡ self.old.home }
     {
-        mips_fast::run(&mut self.cpu, &mut self.bus, &mut self.cache, count)
+        mips_fast::run(&mut self.cpu, &mut self.bus, &mut self.cache, filter, count)
     }
 
     /// `count` steps: many at once, and one by itself wherever that ends.
@@ -123,7 +146,7 @@ impl ResetMachine {
     {
         let mut made: u32 = 0;
         while made < count {
-            made += self.run_quietly(count - made);
+            made += self.run_quietly(&Everything, count - made);
             if made < count {
                 self.step();
                 made += 1;
@@ -155,6 +178,25 @@ impl Runnable for ResetMachine {
             self.many_steps(count);
         }
         (count, None)
+    }
+
+    // A run of many steps at once enters no exception, and makes none from a state that this one is to end at.
+    fn steps_past(&mut self, count: u32, until: &Until) -> u32
+        ensures few { result ≤ count }
+        ensures state { self.new.machine ≡ after_steps result self.old.machine }
+        ensures passed { (k : ℕ) → k < result → IsPassed until.now (after_steps k self.old.machine) }
+        ensures home { self.new.home ≡ self.old.home }
+    {
+        if count < FEW {
+            return 0;
+        }
+        if self.pause > 0 {
+            self.pause -= 1;
+            return 0;
+        }
+        let made = self.run_quietly(&Passing::new(until), count);
+        self.pause = if made < SHORT { PAUSE } else { 0 };
+        made
     }
 
     fn feed(&mut self, byte: u8) -> Result<(), Stop>

@@ -169,7 +169,7 @@ impl Write for Narrow {
     fn write(&mut self, buf: &[u8]) -> io::Result<usize> {
         let left = self.room.saturating_sub(self.got.len());
         if left == 0 {
-            return Err(io::Error::from(io::ErrorKind::BrokenPipe));
+            return Err(io::Error::from(io::ErrorKind::StorageFull));
         }
         let count = buf.len().min(left).min(3);
         self.got.extend_from_slice(&buf[..count])?;
@@ -180,10 +180,14 @@ impl Write for Narrow {
         if self.got.len() < self.room {
             Ok(())
         } else {
-            Err(io::Error::from(io::ErrorKind::BrokenPipe))
+            Err(io::Error::from(io::ErrorKind::StorageFull))
         }
     }
 }
+
+/// What stands on the error output where the output took no more.
+static UNPRINTED: &str =
+    "vmhost: output\n  standard output takes no more, as where its disk is full; what stands there may be cut off\n";
 
 /// Command lines, and the status that they have where all can be written; `FILE` is a raw image.
 static ANSWERS: [(&str, u8); 6] = [
@@ -210,15 +214,17 @@ where
     let words = words_of(rt.alloc(), line, file)?;
     let whole = ample.out.len().max(ample.err.len());
     for room in 0..whole.saturating_add(2) {
-        let got = answer_in(rt, words.as_slice(), room, &ample);
-        let want = if room > whole { status } else { 1 };
+        let fits = room > whole;
+        let got = answer_in(rt, words.as_slice(), room, &ample, fits);
+        let want = if fits { status } else { 1 };
         assert_eq!(rt; got, (want, true), "{line}, room {room}");
     }
     Ok(())
 }
 
-/// The status where each output takes so many bytes, and whether both got a beginning of the ample answer.
-fn answer_in<R>(rt: &R, words: &[String], room: usize, ample: &Said) -> (u8, bool)
+/// The status where each output takes so many bytes, in which the ample answer fits or doesn't, and whether both got a beginning of that, or the
+/// error output, where it is to be silent, one of the words for an output that took no more.
+fn answer_in<R>(rt: &R, words: &[String], room: usize, ample: &Said, fits: bool) -> (u8, bool)
 where
     R: Files<File = File>
         + AllocGlobal
@@ -230,10 +236,18 @@ where
     let mut out = Narrow::new(rt.alloc(), room);
     let mut err = Narrow::new(rt.alloc(), room);
     let status = program(rt, words, &mut io::empty(), &mut out, &mut err, &mut Nobody);
-    (status, begins(&ample.out, &out) && begins(&ample.err, &err))
+    let told = if fits || !ample.err.is_empty() {
+        ample.err.as_str()
+    } else {
+        UNPRINTED
+    };
+    (
+        status,
+        begins(ample.out.as_str(), &out) && begins(told, &err),
+    )
 }
 
-fn begins(whole: &String, got: &Narrow) -> bool {
+fn begins(whole: &str, got: &Narrow) -> bool {
     whole.as_bytes().starts_with(got.got.as_slice())
 }
 
