@@ -5,7 +5,7 @@ use Rattle.items.specs.declared.item.What.{What}
 use Rattle.items.specs.declared.item.What.TheVariants as what
 use Rattle.log_seats.specs.Heads.{HeadId}
 use Rattle.machine.specs.Step.{Machine}
-use Rattle.machine.specs.Boot.{boot_machine_as}
+use Rattle.machine.specs.Boot.{boot_machine}
 use Rattle.machine.specs.Items.{accepts, reply, run}
 use Rattle.guest_log.specs.Logs.{IsFull}
 use Rattle.guest.specs.Guests.{GuestIs, view_of, Intact}
@@ -23,7 +23,7 @@ use Rattle.machine_memory.specs.Memories.{IsLevel}
 
 -- the machine that a front's guest boots
 abbrev pub front_boot : {S : Type 0} → Front S → Machine
-front_boot front = boot_machine_as front.profile front.image.value front.pages
+front_boot front = boot_machine front.profile front.image.value front.pages
 
 -- the head of the log of a cell's guest, and the machine that the guest boots
 abbrev pub cell_head : {S : Type 0} → Cell S → HeadId

@@ -1,6 +1,6 @@
 //! How a guest comes under its lock, and how it leaves it.
 ghost use Rattle.std.specs.Prelude.{◌≡◌, ◌≤◌, ◌++◌, [], true, IfOk, IfErr, vec_capacity};
-ghost use Rattle.machine.specs.Boot.{boot_machine_as};
+ghost use Rattle.machine.specs.Boot.{boot_machine};
 ghost use Rattle.guest.specs.Guests.{Intact};
 ghost use Rattle.cell.specs.Inputs.{bytes_in};
 ghost use Rattle.machine_memory.specs.Memories.{IsLevel};
@@ -231,7 +231,7 @@ fn take_apart<S: SwapStore + Drop, R: Wait>(
 
 impl<S: SwapStore + Drop> Cell<S> {
     ghost use Rattle.std.specs.Prelude.{◌≡◌, ◌++◌, [], true, IfOk, IfErr};
-    ghost use Rattle.machine.specs.Boot.{boot_machine_as};
+    ghost use Rattle.machine.specs.Boot.{boot_machine};
     ghost use Rattle.guest.specs.Guests.{Intact};
     ghost use Rattle.cell.specs.Inputs.{bytes_in};
     ghost use Rattle.machine_memory.specs.Memories.{IsLevel};
@@ -243,7 +243,7 @@ impl<S: SwapStore + Drop> Cell<S> {
     /// console. Where the store is true to digests, the pages that are in slots were written to them as they are at the boot. All comes back
     /// where there is no memory for it.
     pub fn new(alloc: Global, memory: &MachineMemory<S>, parts: Parts) -> Result<Made<S>, Parts>
-        requires boots { parts.guest.boot ≡ boot_machine_as parts.profile parts.image.value parts.pages }
+        requires boots { parts.guest.boot ≡ boot_machine parts.profile parts.image.value parts.pages }
         requires limit { parts.guest.log.limit ≡ parts.limit }
         requires items { parts.guest.log.items ≡ [] }
         requires intact { Intact parts.guest }
@@ -272,7 +272,7 @@ impl<S: SwapStore + Drop> Cell<S> {
         memory: &MachineMemory<S>,
         parts: Parts,
     ) -> Result<Made<S>, Parts>
-        requires boots { parts.guest.boot ≡ boot_machine_as parts.profile parts.image.value parts.pages }
+        requires boots { parts.guest.boot ≡ boot_machine parts.profile parts.image.value parts.pages }
         requires limit { parts.guest.log.limit ≡ parts.limit }
         requires items { parts.guest.log.items ≡ [] }
         requires intact { Intact parts.guest }

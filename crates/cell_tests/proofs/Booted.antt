@@ -8,7 +8,7 @@ use Rattle.devices.specs.Devices.{fresh_devices}
 use Rattle.machine.specs.Step.{Machine}
 use Rattle.machine.proofs.Clearing.{length-zeros}
 use Rattle.mips_cp0.specs.declared.profile.Profile.{Profile}
-use Rattle.machine.specs.Boot.{placed, boot_memory, boot_machine_as}
+use Rattle.machine.specs.Boot.{placed, boot_memory, boot_machine}
 use Rattle.guest_pages.specs.declared.page.Page.{Page}
 use Rattle.guest_pages.specs.declared.page.Page.TheVariants as page
 use Rattle.guest_pages.specs.Pages.{page_at}
@@ -42,11 +42,11 @@ empty_size : (image : Image) (count : ℕ) → image.segments.items ≡ [] → l
 empty_size image count none = ap (λ (l : List Segment). length (fold placed (zeros (count * 4096)) l)) none ∙ length-zeros (count * 4096)
 
 pub empty_intact : (profile : Profile) (image : Image) (count : ℕ) (g : GuestIs) → image.segments.items ≡ [] → g.cpu ≡ g.boot.cpu
-    → g.bus ≡ record { pages = replicate count page.Zero; devices = fresh_devices count; waiting = None } → g.boot ≡ boot_machine_as profile image count → g.log.items ≡ [] → Intact g
+    → g.bus ≡ record { pages = replicate count page.Zero; devices = fresh_devices count; waiting = None } → g.boot ≡ boot_machine profile image count → g.log.items ≡ [] → Intact g
 empty_intact profile image count g none cpu bus boot items =
     let pages : g.bus.pages ≡ replicate count page.Zero = ap (λ (b : GuestBusIs). b.pages) bus in
     let size : length g.bus.pages ≡ count = ap length pages ∙ length-replicate count page.Zero in
-    let faithful : Faithful (pages_seen (boot_machine_as profile image count)) g.bus.pages = λ p inside. zeros_faithful (pages_seen (boot_machine_as profile image count) p) (page_at g.bus.pages p)
+    let faithful : Faithful (pages_seen (boot_machine profile image count)) g.bus.pages = λ p inside. zeros_faithful (pages_seen (boot_machine profile image count) p) (page_at g.bus.pages p)
     (ap (λ (l : List Page). page_at l p) pages ∙ same_at count p page.Zero)
     (sym (beside_is_zeros image count p (omega (arith, inside, size)) (of_none (IsWithin (count * 4096)) image.segments.items none)
     (of_none (λ (s : Segment). segment_reaches p s ≡ false) image.segments.items none))) in

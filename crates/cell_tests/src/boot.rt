@@ -5,7 +5,7 @@ ghost use Rattle.machine_memory.specs.Memories.{IsLevel, AreLevel};
 ghost use Rattle.cell.specs.Level.{IsMemoryOf};
 ghost use Rattle.swapstore.specs.Faults.{store_of};
 ghost use Rattle.mips_cp0.specs.declared.profile.Profile.{Profile};
-ghost use Rattle.machine.specs.Boot.{boot_machine_as};
+ghost use Rattle.machine.specs.Boot.{boot_machine};
 ghost use Rattle.guest.specs.Guests.{Intact};
 ghost use Rattle.cell_tests.specs.Booting.{untouched};
 
@@ -52,7 +52,7 @@ fn owner(rt: &impl Abort, image: &Arc<Image, Global>) -> Arc<Image, Global>
 // A guest at the boot of an image of no segment, with no seat yet.
 fn new_guest(rt: &impl Abort, alloc: Global, image: &Arc<Image, Global>, limit: u32) -> Guest
     requires { image.now.value.segments.items ≡ [] }
-    ensures boots { result.boot ≡ boot_machine_as Profile.One image.now.value 16 }
+    ensures boots { result.boot ≡ boot_machine Profile.One image.now.value 16 }
     ensures pages { result.bus.pages ≡ untouched }
     ensures items { result.log.items ≡ [] }
     ensures limit { result.log.limit ≡ limit }
@@ -199,7 +199,7 @@ fn behind_lock(
     stake: Stake,
     wanted: &Wanted,
 ) -> Side
-    requires boots { guest.boot ≡ boot_machine_as Profile.One image.value 16 }
+    requires boots { guest.boot ≡ boot_machine Profile.One image.value 16 }
     requires pages { guest.bus.pages ≡ untouched }
     requires items { guest.log.items ≡ [] }
     requires limit { guest.log.limit ≡ wanted.now.limit }

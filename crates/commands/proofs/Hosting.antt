@@ -23,7 +23,7 @@ use Rattle.machine.specs.declared.access.Why.{Why}
 use Rattle.machine.proofs.OtherPages.{step_stays}
 use Rattle.elf32.specs.declared.image.Image.{Image}
 use Rattle.mips_cp0.specs.declared.profile.Profile.{Profile}
-use Rattle.machine.specs.Boot.{boot_machine_as}
+use Rattle.machine.specs.Boot.{boot_machine}
 use Rattle.machine.specs.Items.{accepts, after, run}
 use Rattle.machine.proofs.Runs.{run_append}
 use Rattle.sharetab.specs.Entries.{EntriesAre, entry_at, one_entry, tickets_of, entry_count, ticket_count, Fits, AllFit}
@@ -483,7 +483,7 @@ pub booted_one : (runs : ℕ) (guests : List NewGuest) (guest : NewGuest) (ts : 
 booted_one runs guests guest ts is b = omega (arith, b.count, ap length is)
 
 pub record IsAtBoot (runs : ℕ) (profile : Profile) (image : Image) (pages : ℕ) (ts : List TenantIs) : Type 0 where
-  pub machine : (hosted_of ts).machine ≡ boot_machine_as profile image pages
+  pub machine : (hosted_of ts).machine ≡ boot_machine profile image pages
   pub items : (hosted_of ts).log.items ≡ []
   pub limit : (hosted_of ts).log.limit ≡ runs
   pub count : length (first_pages ts) ≡ pages

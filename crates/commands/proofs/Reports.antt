@@ -6,7 +6,7 @@ use Rattle.items.specs.declared.entry.Entry.{Entry}
 use Rattle.items.specs.Entries.{items_of}
 use Rattle.machine.specs.Step.{Machine}
 use Rattle.mips_cp0.specs.declared.profile.Profile.{Profile}
-use Rattle.machine.specs.Boot.{boot_machine_as}
+use Rattle.machine.specs.Boot.{boot_machine}
 use Rattle.machine.specs.Items.{run, AllAccepted}
 use Rattle.logfile.specs.Versions.{HasHeaderAs, HasEntriesAs}
 use Rattle.commands.specs.declared.exec.Report.{Report}
@@ -21,13 +21,13 @@ use Rattle.commands.specs.Runs.{IsImageOf, IsReport, IsReportOf}
 
 -- a report of a run of the image that was loaded, whether or not the file's bytes are known
 pub report_of_file : (file : Option (List ℕ)) (order : Exec) (input : List ℕ) (until : Until) (extras : Extras) (image : Image) (report : Report)
-    → IfSome file (λ all. IsImageOf order.format order.pages all image) → IsReport (boot_machine_as order.profile image order.pages) input order.steps until extras report → IfSome file (λ all. IsReportOf all order input until extras report)
+    → IfSome file (λ all. IsImageOf order.format order.pages all image) → IsReport (boot_machine order.profile image order.pages) input order.steps until extras report → IfSome file (λ all. IsReportOf all order input until extras report)
 report_of_file None order input until extras image report stands ran = tt
 report_of_file (Some all) order input until extras image report stands ran = record { image = image; stands = stands; ran = ran }
 
 -- what a replay prints, by its steps: the header, the image, the entries, the boot, their run, and the dump
 pub replay_of_files : (all log : List ℕ) (order : Replay) (profile : Profile) (pages : ℕ) (image : Image) (entries : List Entry) (flat after : Machine) (steps : ℕ) (text : List ℕ)
-    → HasHeaderAs log (sha256 all) profile pages → IsImageOf order.format pages all image → HasEntriesAs log entries → flat ≡ boot_machine_as profile image pages
+    → HasHeaderAs log (sha256 all) profile pages → IsImageOf order.format pages all image → HasEntriesAs log entries → flat ≡ boot_machine profile image pages
     → after ≡ run (items_of entries) flat → AllAccepted (items_of entries) flat → steps ≡ step_count (items_of entries) % 2 ^ 64
     → text ≡ dump_text after steps None → IsReplay all log order text
 replay_of_files all log order profile pages image entries flat after steps text header stands has booted ran accepted counted printed = record {
@@ -41,5 +41,5 @@ replay_of_files all log order profile pages image entries flat after steps text 
   accepted = subst (AllAccepted (items_of entries)) booted accepted;
   dump =
       printed ∙ ap (λ (m : Machine). dump_text m steps None) (ran ∙ ap (run (items_of entries)) booted)
-      ∙ ap (λ (n : ℕ). dump_text (run (items_of entries) (boot_machine_as profile image pages)) n None) counted;
+      ∙ ap (λ (n : ℕ). dump_text (run (items_of entries) (boot_machine profile image pages)) n None) counted;
 }

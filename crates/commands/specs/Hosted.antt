@@ -1,6 +1,7 @@
 -- A guest that has a world of its own.
 use Rattle.std.specs.Prelude.{◌≡◌, ◌≢◌, ℕ, ◌*◌, ◌<◌, false, List, [], ◌∷◌, length}
 use Rattle.devices.specs.Devices.{fresh_devices}
+use Rattle.mips_cp0.specs.declared.profile.Profile.TheVariants.{One}
 use Rattle.machine.specs.Processor.{boot_processor}
 use Rattle.machine.specs.Step.{Machine, machine_with}
 use Rattle.guest_log.specs.Logs.{LogIs}
@@ -20,7 +21,7 @@ pub record HostedIs : Type 0 where
 -- what is seen of the first of a world's guests; where there is none, of a machine without memory to which nothing has happened
 abbrev pub hosted_of : List TenantIs → HostedIs
 hosted_of [] = record {
-  machine = machine_with (boot_processor 0) (record { memory = []; devices = fresh_devices 0 });
+  machine = machine_with (boot_processor One 0) (record { memory = []; devices = fresh_devices 0 });
   log = record { items = []; room = 0; limit = 0 };
 }
 hosted_of (t ∷ ts) = record { machine = view_of t.guest; log = t.guest.log }

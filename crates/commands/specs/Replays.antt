@@ -5,7 +5,7 @@ use Rattle.elf32.specs.declared.image.Image.{Image}
 use Rattle.items.specs.declared.entry.Entry.{Entry}
 use Rattle.items.specs.Entries.{items_of}
 use Rattle.mips_cp0.specs.declared.profile.Profile.{Profile}
-use Rattle.machine.specs.Boot.{boot_machine_as}
+use Rattle.machine.specs.Boot.{boot_machine}
 use Rattle.machine.specs.Items.{run, AllAccepted}
 use Rattle.logfile.specs.Versions.{HasHeaderAs, HasEntriesAs}
 use Rattle.commands.specs.declared.order.Replay.{Replay}
@@ -23,5 +23,5 @@ pub record IsReplay (all log : List ℕ) (order : Replay) (text : List ℕ) : Ty
   pub header : HasHeaderAs log (sha256 all) profile pages
   pub stands : IsImageOf order.format pages all image
   pub has : HasEntriesAs log entries
-  pub accepted : AllAccepted (items_of entries) (boot_machine_as profile image pages)
-  pub dump : text ≡ dump_text (run (items_of entries) (boot_machine_as profile image pages)) (step_count (items_of entries) % 2 ^ 64) None
+  pub accepted : AllAccepted (items_of entries) (boot_machine profile image pages)
+  pub dump : text ≡ dump_text (run (items_of entries) (boot_machine profile image pages)) (step_count (items_of entries) % 2 ^ 64) None

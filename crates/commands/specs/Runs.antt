@@ -3,7 +3,7 @@ use Rattle.std.specs.Prelude.{◌≡◌, ℕ, List, ◌++◌, take, string_bytes
 use Rattle.elf32.specs.declared.image.Image.{Image}
 use Rattle.elf32.specs.Files.{StandsFor}
 use Rattle.machine.specs.Step.{Machine}
-use Rattle.machine.specs.Boot.{boot_machine_as}
+use Rattle.machine.specs.Boot.{boot_machine}
 use Rattle.guest_log.specs.Logs.{LogIs, IsFull}
 use Rattle.guest_log.specs.declared.stop.Stop.{Stop}
 use Rattle.guest_log.specs.declared.stop.Stop.TheVariants as why
@@ -45,4 +45,4 @@ pub record IsReport (boot : Machine) (input : List ℕ) (steps : ℕ) (until : U
 pub record IsReportOf (all : List ℕ) (order : Exec) (input : List ℕ) (until : Until) (extras : Extras) (report : Report) : Type 0 where
   pub image : Image
   pub stands : IsImageOf order.format order.pages all image
-  pub ran : IsReport (boot_machine_as order.profile image order.pages) input order.steps until extras report
+  pub ran : IsReport (boot_machine order.profile image order.pages) input order.steps until extras report

@@ -4,7 +4,7 @@ ghost use Rattle.sha2.specs.Sha256.{sha256};
 ghost use Rattle.elf32.specs.declared.image.Image.{Image};
 ghost use Rattle.elf32.specs.Files.{StandsFor};
 ghost use Rattle.elf32.specs.Images.{FitsPages};
-ghost use Rattle.machine.specs.Boot.{boot_machine_as};
+ghost use Rattle.machine.specs.Boot.{boot_machine};
 ghost use Rattle.commands.specs.Faults.{IsElfRunFault, IsExecFault, IsImageFault, IsRunFault, IsWant};
 ghost use Rattle.commands.specs.Raw.{IsPageCount};
 ghost use Rattle.commands.specs.Runs.{IsImageOf, IsReport, IsReportOf, report_text};
@@ -61,7 +61,7 @@ pub fn run_image<'a, R: Files + AllocGlobal, W: Watch>(
     extras: &Extras,
     watch: &mut W,
 ) -> Result<Report, Fault<'a>>
-    ensures report { IfOk result (λ r. (image : Image) × IsReport (boot_machine_as order.entry.profile image order.entry.pages) input.now order.entry.steps until.now extras.now r) }
+    ensures report { IfOk result (λ r. (image : Image) × IsReport (boot_machine order.entry.profile image order.entry.pages) input.now order.entry.steps until.now extras.now r) }
     ensures legal { IfOk result (λ r. IsPageCount order.entry.profile order.entry.pages) }
     ensures log { IfOk result (λ r. order.entry.kind ≡ MachineKind.Flat → order.entry.log ≡ None) }
     ensures apart { IfOk result (λ r. order.entry.log ≢ Some order.entry.image) }
@@ -110,7 +110,7 @@ pub fn run_file<'a, F: Read + Drop, W: Watch>(
 ) -> Result<Done, Fault<'a>>
     ensures report { IfSome (F.remaining file) (λ all. IfOk result (λ done. IsReportOf all order.entry input.now until.now extras.now done.report)) }
     ensures digest { IfSome (F.remaining file) (λ all. IfOk result (λ done. done.digest ≡ sha256 all)) }
-    ensures some_image { IfOk result (λ done. (image : Image) × IsReport (boot_machine_as order.entry.profile image order.entry.pages) input.now order.entry.steps until.now extras.now done.report) }
+    ensures some_image { IfOk result (λ done. (image : Image) × IsReport (boot_machine order.entry.profile image order.entry.pages) input.now order.entry.steps until.now extras.now done.report) }
     ensures guest { IfOk result (λ done. order.entry.kind ≡ MachineKind.Guest → done.runner ≢ None) }
     ensures flat_never_stops { IfOk result (λ done. order.entry.kind ≡ MachineKind.Flat → done.report.ran.stop ≡ None) }
     ensures legal { IfOk result (λ done. IsPageCount order.entry.profile order.entry.pages) }
@@ -136,10 +136,10 @@ fn run_guest<'a, W: Watch>(
 ) -> Result<Done, Fault<'a>>
     requires fits { FitsPages loaded.image order.pages }
     requires legal { IsPageCount order.profile order.pages }
-    ensures report { IfOk result (λ done. IsReport (boot_machine_as order.entry.profile loaded.image order.entry.pages) input.now order.entry.steps until.now extras.now done.report) }
+    ensures report { IfOk result (λ done. IsReport (boot_machine order.entry.profile loaded.image order.entry.pages) input.now order.entry.steps until.now extras.now done.report) }
     ensures digest { IfOk result (λ done. done.digest ≡ loaded.digest) }
     ensures guest { IfOk result
-        (λ done. IfSome done.runner (λ r. r.machine ≡ after_run done.report.ran input.now (boot_machine_as order.entry.profile loaded.image order.entry.pages))) }
+        (λ done. IfSome done.runner (λ r. r.machine ≡ after_run done.report.ran input.now (boot_machine order.entry.profile loaded.image order.entry.pages))) }
     ensures runner { IfOk result (λ done. done.runner ≢ None) }
     ensures faults { IfErr result IsWant }
 {
@@ -166,7 +166,7 @@ fn run_flat<'a, W: Watch>(
 ) -> Result<Done, Fault<'a>>
     requires fits { FitsPages loaded.image order.pages }
     requires legal { IsPageCount order.profile order.pages }
-    ensures report { IfOk result (λ done. IsReport (boot_machine_as order.entry.profile loaded.image order.entry.pages) input.now order.entry.steps until.now extras.now done.report) }
+    ensures report { IfOk result (λ done. IsReport (boot_machine order.entry.profile loaded.image order.entry.pages) input.now order.entry.steps until.now extras.now done.report) }
     ensures digest { IfOk result (λ done. done.digest ≡ loaded.digest) }
     ensures never_stops { IfOk result (λ done. done.report.ran.stop ≡ None) }
     ensures faults { IfErr result IsWant }

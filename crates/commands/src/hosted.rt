@@ -3,7 +3,7 @@ ghost use Rattle.std.specs.Prelude.{◌≡◌, ◌+◌, ◌≤◌, ◌<◌, ◌�
 ghost use Rattle.elf32.specs.Images.{FitsPages};
 ghost use Rattle.items.specs.declared.item.What.TheVariants.{In};
 ghost use Rattle.machine.specs.Step.{step};
-ghost use Rattle.machine.specs.Boot.{boot_machine_as};
+ghost use Rattle.machine.specs.Boot.{boot_machine};
 ghost use Rattle.machine.specs.Items.{after};
 ghost use Rattle.guest_log.specs.Logs.{IsFull};
 ghost use Rattle.guest_log.specs.declared.stop.Stop.{Stop};
@@ -69,7 +69,7 @@ impl HostedGuest {
     ) -> Result<HostedGuest, AllocError>
         requires fits { FitsPages image pages }
         requires legal { IsPageCount profile pages }
-        ensures machine { IfOk result (λ r. r.machine ≡ boot_machine_as profile image pages) }
+        ensures machine { IfOk result (λ r. r.machine ≡ boot_machine profile image pages) }
         ensures log { IfOk result (λ r. r.log.items ≡ []) }
         ensures limit { IfOk result (λ r. r.log.limit ≡ 1048576) }
     {
@@ -87,7 +87,7 @@ impl HostedGuest {
     ) -> Result<HostedGuest, AllocError>
         requires fits { FitsPages image.value pages }
         requires legal { IsPageCount profile pages }
-        ensures machine { IfOk result (λ r. r.machine ≡ boot_machine_as profile image.value pages) }
+        ensures machine { IfOk result (λ r. r.machine ≡ boot_machine profile image.value pages) }
         ensures log { IfOk result (λ r. r.log.items ≡ []) }
         ensures limit { IfOk result (λ r. r.log.limit ≡ 1048576) }
     {
@@ -157,7 +157,7 @@ fn boot_world(
     requires fits { FitsPages image.value pages }
     requires legal { IsPageCount profile pages }
     ensures alone { IfOk result IsAlone }
-    ensures machine { IfOk result (λ w. (hosted_of w.tenants).machine ≡ boot_machine_as profile image.value pages) }
+    ensures machine { IfOk result (λ w. (hosted_of w.tenants).machine ≡ boot_machine profile image.value pages) }
     ensures log { IfOk result (λ w. (hosted_of w.tenants).log.items ≡ []) }
     ensures limit { IfOk result (λ w. (hosted_of w.tenants).log.limit ≡ 1048576) }
 {

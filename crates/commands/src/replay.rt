@@ -90,7 +90,7 @@ fn replay_on<'a>(
     let LogHeader { profile, pages } = header;
     let image = image_of(alloc, image, order, pages)?;
     let entries = read_entries_as(alloc, log)?;
-    let mut flat = of_boot(Flat::boot_as(alloc, profile, &image, pages))?;
+    let mut flat = of_boot(Flat::boot(alloc, profile, &image, pages))?;
     match replay_entries(&mut flat, &entries) {
         Ok(steps) => Ok(dump(alloc, flat.view(), steps, None)?),
         Err(Halt::Item) => Err(Fault::Log {

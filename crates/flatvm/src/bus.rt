@@ -15,11 +15,14 @@ ghost use Rattle.machine.specs.Boot.{placed, boot_memory, boot_board};
 
 use devices::{DeviceRegister, Devices};
 use elf32::{Image, SEGMENT_BASE, Segment};
-use machine::{Kind, PhysBus, Refusal, Rejection, Reply, Size};
+use machine::{Kind, PhysAddr, PhysBus, Refusal, Rejection, Reply, Size};
 use mips_alu::{store_left, store_right};
 use std::alloc::{AllocError, Global};
 use std::marker::Model;
-use word32::{Ppn, half_at, page_of, put_half, put_word, word_at};
+use word32::{PAGE_SIZE, Ppn, half_at, put_half, put_word, word_at};
+
+/// How many bytes of the memory a page has.
+const PAGE_BYTES: usize = PAGE_SIZE as usize;
 
 /// A memory of some pages from physical address 0 on, all of which are there, with the devices. In clauses it is a
 /// `Board`.
@@ -48,7 +51,7 @@ impl FlatBus {
         requires few { pages ≤ 2 ^ 20 }
         ensures { IfOk result (λ bus. bus ≡ boot_board image.now pages) }
     {
-        let mut bytes = zeroed(alloc, pages as usize * 4096)?;
+        let mut bytes = zeroed(alloc, pages as usize * PAGE_BYTES)?;
         place_all(&mut bytes, &image.segments);
         let devices = Devices::new(alloc, pages)?;
         Ok(FlatBus { bytes, devices })
@@ -94,8 +97,8 @@ impl FlatBus {
         requires whole { length bytes.now ≡ 4096 }
         ensures { self.new ≡ record self.old { memory = patched self.old.memory (page * 4096) bytes.now 4096 } }
     {
-        let start = page.number() as usize * 4096;
-        self.bytes[start..start + 4096].copy_from_slice(bytes);
+        let start = page.number() as usize * PAGE_BYTES;
+        self.bytes[start..start + PAGE_BYTES].copy_from_slice(bytes);
     }
 
     /// The same memory with its devices once more, for a snapshot. `AllocError` where a request for memory was refused.
@@ -124,8 +127,8 @@ impl FlatBus {
         ensures bytes { result.now ≡ page_bytes page self.now.memory }
         ensures whole { length result.now ≡ 4096 }
     {
-        let start = page.number() as usize * 4096;
-        &self.bytes[start..start + 4096]
+        let start = page.number() as usize * PAGE_BYTES;
+        &self.bytes[start..start + PAGE_BYTES]
     }
 
     /// Puts the devices of another bus, once more, in the place of its own. Both memories have as many pages. `AllocError` where a request for
@@ -152,12 +155,12 @@ impl FlatBus {
     /// A load of a word from the device's register at an address; 0 where there is none.
     #[cold]
     #[inline(never)]
-    fn load_register(&mut self, at: u32) -> u32
+    fn load_register(&mut self, at: PhysAddr) -> u32
         ensures value { result ≡ reached_value (register_reach (device_register_at at)) Size.Word at self.old }
         ensures small { result < 2 ^ 32 }
         ensures after { self.new ≡ board_loaded (register_reach (device_register_at at)) at self.old }
     {
-        match DeviceRegister::at(at) {
+        match DeviceRegister::at(at.number()) {
             Some(register) => self.devices.load(register),
             None => 0,
         }
@@ -166,10 +169,10 @@ impl FlatBus {
     /// A store of a word to the device's register at an address; nothing where there is none.
     #[cold]
     #[inline(never)]
-    fn store_register(&mut self, at: u32, value: u32)
+    fn store_register(&mut self, at: PhysAddr, value: u32)
         ensures { self.new ≡ board_stored (register_reach (device_register_at at)) Size.Word value at self.old }
     {
-        if let Some(register) = DeviceRegister::at(at) {
+        if let Some(register) = DeviceRegister::at(at.number()) {
             if let Some(page) = self.devices.store(register, value) {
                 clear_page(&mut self.bytes, page);
             }
@@ -204,7 +207,7 @@ fn place(memory: &mut [u8], segment: &Segment)
 }
 
 /// The first byte that an access reaches, and how many bytes there are.
-fn reached(size: Size, at: u32) -> (u32, usize)
+fn reached(size: Size, at: PhysAddr) -> (PhysAddr, usize)
     ensures first { result.0 ≡ first_byte size at }
     ensures count { result.1 ≡ bytes_of size }
 {
@@ -212,7 +215,7 @@ fn reached(size: Size, at: u32) -> (u32, usize)
         Size::Byte => (at, 1),
         Size::Half => (at, 2),
         Size::Word => (at, 4),
-        Size::Left | Size::Right => (at / 4 * 4, 4),
+        Size::Left | Size::Right => (at.word(), 4),
     }
 }
 
@@ -220,11 +223,11 @@ fn reached(size: Size, at: u32) -> (u32, usize)
 /// access of memory needs no room for an answer.
 #[cold]
 #[inline(never)]
-fn reaches_register(at: u32, size: Size, kind: Kind) -> bool
+fn reaches_register(at: PhysAddr, size: Size, kind: Kind) -> bool
     ensures { ready_answer (device_reach kind size at) None (page_number at) ≡ (if result then Ok tt else Err Refusal.Bus) }
 {
     match (kind, size) {
-        (Kind::Load | Kind::Store, Size::Word) => match DeviceRegister::at(at) {
+        (Kind::Load | Kind::Store, Size::Word) => match DeviceRegister::at(at.number()) {
             Some(_) => true,
             None => false,
         },
@@ -232,36 +235,36 @@ fn reaches_register(at: u32, size: Size, kind: Kind) -> bool
     }
 }
 
-fn value(memory: &[u8], size: Size, at: u32) -> u32
+fn value(memory: &[u8], size: Size, at: PhysAddr) -> u32
     requires { first_byte size at + bytes_of size ≤ length memory.now }
     ensures value { result ≡ value_in memory.now size at }
     ensures small { result < limit_of size }
 {
     match size {
-        Size::Byte => u32::from(memory[at as usize]),
-        Size::Half => u32::from(half_at(memory, at as usize)),
-        Size::Word => word_at(memory, at as usize),
-        Size::Left | Size::Right => word_at(memory, (at / 4 * 4) as usize),
+        Size::Byte => u32::from(memory[at.index()]),
+        Size::Half => u32::from(half_at(memory, at.index())),
+        Size::Word => word_at(memory, at.index()),
+        Size::Left | Size::Right => word_at(memory, at.word().index()),
     }
 }
 
-fn put_value(memory: &mut [u8], size: Size, at: u32, value: u32)
+fn put_value(memory: &mut [u8], size: Size, at: PhysAddr, value: u32)
     requires { first_byte size at + bytes_of size ≤ length memory.old }
     ensures value { memory.new ≡ bytes_after size value at memory.old }
     ensures length { length memory.new ≡ length memory.old }
 {
     match size {
-        Size::Byte => memory[at as usize] = (value % 0x100) as u8,
-        Size::Half => put_half(memory, at as usize, (value % 0x1_0000) as u16),
-        Size::Word => put_word(memory, at as usize, value),
+        Size::Byte => memory[at.index()] = (value % 0x100) as u8,
+        Size::Half => put_half(memory, at.index(), (value % 0x1_0000) as u16),
+        Size::Word => put_word(memory, at.index(), value),
         Size::Left => {
-            let first = (at / 4 * 4) as usize;
-            let word = store_left(word_at(memory, first), value, at % 4);
+            let first = at.word().index();
+            let word = store_left(word_at(memory, first), value, at.byte_of_word());
             put_word(memory, first, word);
         }
         Size::Right => {
-            let first = (at / 4 * 4) as usize;
-            let word = store_right(word_at(memory, first), value, at % 4);
+            let first = at.word().index();
+            let word = store_right(word_at(memory, first), value, at.byte_of_word());
             put_word(memory, first, word);
         }
     }
@@ -279,8 +282,8 @@ fn clear_page(memory: &mut [u8], page: Ppn)
     ensures cleared { memory.new ≡ page_cleared page memory.old }
     ensures length { length memory.new ≡ length memory.old }
 {
-    let start = page.number() as usize * 4096;
-    clear(&mut memory[start..start + 4096]);
+    let start = page.number() as usize * PAGE_BYTES;
+    clear(&mut memory[start..start + PAGE_BYTES]);
 }
 
 impl PhysBus for FlatBus {
@@ -295,9 +298,9 @@ impl PhysBus for FlatBus {
     ghost waiting = { λ b page. Unit {0} };
 
     #[inline(always)]
-    fn ready(&self, at: u32, size: Size, kind: Kind) -> Result<(), Refusal> {
+    fn ready(&self, at: PhysAddr, size: Size, kind: Kind) -> Result<(), Refusal> {
         let (first, count) = reached(size, at);
-        if first as usize + count <= self.bytes.len() {
+        if first.index() + count <= self.bytes.len() {
             Ok(())
         } else if reaches_register(at, size, kind) {
             Ok(())
@@ -307,27 +310,27 @@ impl PhysBus for FlatBus {
     }
 
     #[inline(always)]
-    fn is_plain(&self, at: u32, size: Size, _kind: Kind) -> bool {
+    fn is_plain(&self, at: PhysAddr, size: Size, _kind: Kind) -> bool {
         let (first, count) = reached(size, at);
-        first as usize + count <= self.bytes.len() && !self.devices.is_given(page_of(at))
+        first.index() + count <= self.bytes.len() && !self.devices.is_given(at.page())
     }
 
     #[inline(always)]
-    fn peek(&self, at: u32) -> u32 {
-        word_at(&self.bytes, at as usize)
+    fn peek(&self, at: PhysAddr) -> u32 {
+        word_at(&self.bytes, at.index())
     }
 
     #[inline(always)]
-    fn fetch(&mut self, at: u32) -> u32 {
-        self.devices.touch(page_of(at));
-        word_at(&self.bytes, at as usize)
+    fn fetch(&mut self, at: PhysAddr) -> u32 {
+        self.devices.touch(at.page());
+        word_at(&self.bytes, at.index())
     }
 
     #[inline(always)]
-    fn load(&mut self, at: u32, size: Size) -> u32 {
+    fn load(&mut self, at: PhysAddr, size: Size) -> u32 {
         let (first, count) = reached(size, at);
-        if first as usize + count <= self.bytes.len() {
-            self.devices.touch(page_of(at));
+        if first.index() + count <= self.bytes.len() {
+            self.devices.touch(at.page());
             value(&self.bytes, size, at)
         } else {
             self.load_register(at)
@@ -335,13 +338,13 @@ impl PhysBus for FlatBus {
     }
 
     #[inline(always)]
-    fn load_plain(&self, at: u32, size: Size) -> u32 {
+    fn load_plain(&self, at: PhysAddr, size: Size) -> u32 {
         value(&self.bytes, size, at)
     }
 
     #[inline(always)]
     #[tactic(auto, using(machine::proofs::Plain::plain_memory_stored))]
-    fn store_plain(&mut self, at: u32, size: Size, value: u32) {
+    fn store_plain(&mut self, at: PhysAddr, size: Size, value: u32) {
         put_value(&mut self.bytes, size, at, value);
     }
 
@@ -350,15 +353,15 @@ impl PhysBus for FlatBus {
         self.devices.lines()
     }
 
-    fn look(&self, at: u32) -> u8 {
-        self.bytes[at as usize]
+    fn look(&self, at: PhysAddr) -> u8 {
+        self.bytes[at.index()]
     }
 
     #[inline(always)]
-    fn store(&mut self, at: u32, size: Size, value: u32) {
+    fn store(&mut self, at: PhysAddr, size: Size, value: u32) {
         let (first, count) = reached(size, at);
-        if first as usize + count <= self.bytes.len() {
-            self.devices.touch(page_of(at));
+        if first.index() + count <= self.bytes.len() {
+            self.devices.touch(at.page());
             put_value(&mut self.bytes, size, at, value);
         } else {
             self.store_register(at, value);

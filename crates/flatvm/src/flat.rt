@@ -4,7 +4,7 @@ ghost use Rattle.elf32.specs.Images.{FitsPages};
 ghost use Rattle.machine.specs.Step.{Machine, machine_with, step};
 ghost use Rattle.items.specs.declared.item.What.TheVariants.{Drain};
 ghost use Rattle.machine.specs.Answers.{replied};
-ghost use Rattle.machine.specs.Boot.{boot_machine, boot_machine_as};
+ghost use Rattle.machine.specs.Boot.{boot_machine};
 ghost use Rattle.machine.specs.Items.{accepts, after, reply};
 ghost use Rattle.machine.specs.Replies.{probe};
 
@@ -12,7 +12,7 @@ use crate::FlatBus;
 use devices::Devices;
 use elf32::Image;
 use items::What;
-use machine::{Rejection, Reply, StepOut};
+use machine::{PhysAddr, Rejection, Reply, StepOut};
 use mips_cp0::Profile;
 use mips_step::{Cpu, View, debug};
 use std::alloc::{AllocError, Global};
@@ -34,17 +34,8 @@ impl Model for Flat {
 }
 
 impl Flat {
-    /// The machine of the first profile that an image boots, with a memory of `pages` pages, at most 2^20, which hold the image.
-    pub fn boot(alloc: Global, image: &Image, pages: u32) -> Result<Flat, AllocError>
-        requires fits { FitsPages image.now pages }
-        requires few { pages ≤ 2 ^ 20 }
-        ensures { IfOk result (λ f. f ≡ boot_machine image.now pages) }
-    {
-        Flat::boot_as(alloc, Profile::One, image, pages)
-    }
-
     /// The machine of a profile that an image boots, with a memory of `pages` pages, at most 2^20, which hold the image.
-    pub fn boot_as(
+    pub fn boot(
         alloc: Global,
         profile: Profile,
         image: &Image,
@@ -52,10 +43,10 @@ impl Flat {
     ) -> Result<Flat, AllocError>
         requires fits { FitsPages image.now pages }
         requires few { pages ≤ 2 ^ 20 }
-        ensures { IfOk result (λ f. f ≡ boot_machine_as profile image.now pages) }
+        ensures { IfOk result (λ f. f ≡ boot_machine profile image.now pages) }
     {
         Ok(Flat {
-            cpu: Cpu::boot_as(profile, image.entry),
+            cpu: Cpu::boot(profile, image.entry),
             bus: FlatBus::boot(alloc, image, pages)?,
         })
     }
@@ -106,7 +97,7 @@ impl Flat {
 
     /// The physical address in memory that a virtual address leads to, as for a load of kernel mode, whatever mode runs;
     /// None where such a load would raise an exception or reaches no memory.
-    pub fn probe(&self, address: u32) -> Option<u32>
+    pub fn probe(&self, address: u32) -> Option<PhysAddr>
         ensures { result ≡ probe self.now address }
     {
         debug::probe(&self.cpu, &self.bus, address)

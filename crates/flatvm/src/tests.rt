@@ -6,6 +6,7 @@ use crate::{Flat, FlatBus};
 use elf32::Image;
 use items::{DebugRegister, What, WriteBytes};
 use machine::{Rejection, Reply, StepOut};
+use mips_cp0::Profile;
 use mips_instr::Reg;
 use mips_step::{Cpu, debug};
 use std::fmt::Debug;
@@ -39,7 +40,7 @@ fn image_of<R: AllocGlobal + Abort>(rt: &R, words: &[u32]) -> Result<Image, Fail
 fn boot<R: AllocGlobal + Abort>(rt: &R, words: &[u32]) -> Result<Flat, Fail> {
     let image = image_of(rt, words)?;
     assert!(rt; image.fits(PAGES));
-    Ok(Flat::boot(rt.alloc(), &image, PAGES)?)
+    Ok(Flat::boot(rt.alloc(), Profile::One, &image, PAGES)?)
 }
 
 /// The memory and the devices that these words boot, apart from the processor.
@@ -261,7 +262,7 @@ fn loaded(cpu: &Cpu) -> [u32; 6] {
 #[test]
 fn given_pages_are_cleared(rt: HostRuntime) -> Result<(), Fail> {
     let mut bus = boot_bus(&rt, &BALLOON)?;
-    let mut cpu = Cpu::boot(0x8000_0000);
+    let mut cpu = Cpu::boot(Profile::One, 0x8000_0000);
     fill_around_page_7(&rt, &mut cpu, &mut bus)?;
     let filled = [0xaaaa_aaaa; 4];
     expect(&rt, "before", around_page_7(&rt, &cpu, &bus), filled);
@@ -279,7 +280,7 @@ fn given_pages_are_cleared(rt: HostRuntime) -> Result<(), Fail> {
 #[test]
 fn a_write_takes_a_given_page_back(rt: HostRuntime) -> Result<(), Fail> {
     let mut bus = boot_bus(&rt, &BALLOON)?;
-    let mut cpu = Cpu::boot(0x8000_0000);
+    let mut cpu = Cpu::boot(Profile::One, 0x8000_0000);
     make_bus_steps(&rt, &mut cpu, &mut bus, 3);
     expect(&rt, "given", bus.devices().given(), 1);
     let refused = write_aa(&rt, &mut cpu, &mut bus, 0x8000_7ffc, 4)?;
@@ -310,7 +311,7 @@ static WRITES: [(u32, usize, bool, u32); 8] = [
 #[test]
 fn writes_have_a_place_and_a_limit(rt: HostRuntime) -> Result<(), Fail> {
     let mut bus = boot_bus(&rt, &[])?;
-    let mut cpu = Cpu::boot(0x8000_0000);
+    let mut cpu = Cpu::boot(Profile::One, 0x8000_0000);
     for row in &WRITES {
         let (address, count, is_refused, last) = *row;
         let refused = write_aa(&rt, &mut cpu, &mut bus, address, count)?.is_some();

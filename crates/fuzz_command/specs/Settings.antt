@@ -1,7 +1,7 @@
 -- What an input is run on, and how.
 use Rattle.std.specs.Prelude.{ℕ, ◌≡◌, ◌<◌, []}
 use Rattle.elf32.specs.declared.image.Image.{Image}
-use Rattle.machine.specs.Boot.{boot_machine_as}
+use Rattle.machine.specs.Boot.{boot_machine}
 use Rattle.machine.specs.Step.{Machine}
 use Rattle.runs.specs.Runs.{after_steps}
 use Rattle.runs.specs.declared.ending.Until.{Until}
@@ -33,7 +33,7 @@ CanRun s = IsSilent s.home.value
 
 -- the machine that its image boots
 abbrev pub boot_of : FuzzOrder → Image → Machine
-boot_of order image = boot_machine_as order.run.profile image order.run.pages
+boot_of order image = boot_machine order.run.profile image order.run.pages
 
 -- after so many steps from a machine PC is this address, and not before
 pub record ComesTo (address : ℕ) (m : Machine) (made : ℕ) : Type 0 where

@@ -5,7 +5,7 @@ use Rattle.elf32.specs.declared.image.Image.{Image}
 use Rattle.mips_cp0.specs.declared.profile.Profile.{Profile}
 use Rattle.machine.specs.Agreeing.{GivenAreZeros}
 use Rattle.machine.specs.Step.{Machine}
-use Rattle.machine.specs.Boot.{boot_machine_as}
+use Rattle.machine.specs.Boot.{boot_machine}
 use Rattle.machine.specs.Items.{accepts, after, run, AllAccepted}
 use Rattle.machine.proofs.Runs.{run_append, accepted_append}
 use Rattle.machine.proofs.GivenPages.{boot_zeros, run_zeros}
@@ -23,5 +23,5 @@ pub run_on : (items now more : List Item) (boot : Machine) → now ≡ items ++ 
 run_on items now more boot e = ap (λ (xs : List Item). run xs boot) e ∙ run_append items more boot
 
 -- in a view each page that is given is zeros
-pub view_zeros : (items : List Item) (profile : Profile) (image : Image) (pages : ℕ) → GivenAreZeros (run items (boot_machine_as profile image pages)).board
-view_zeros items profile image pages = run_zeros items (boot_machine_as profile image pages) (boot_zeros image pages)
+pub view_zeros : (items : List Item) (profile : Profile) (image : Image) (pages : ℕ) → GivenAreZeros (run items (boot_machine profile image pages)).board
+view_zeros items profile image pages = run_zeros items (boot_machine profile image pages) (boot_zeros image pages)

@@ -37,13 +37,13 @@ pub struct Guest {
 }
 
 impl Model for Guest {
-    ghost use Rattle.machine.specs.Boot.{boot_machine_as};
+    ghost use Rattle.machine.specs.Boot.{boot_machine};
     ghost use Rattle.guest_bus.specs.Buses.{IsSettled};
     ghost use Rattle.guest.specs.Guests.{GuestIs, guest_of};
 
     ghost Value = { GuestIs };
 
-    ghost view = { λ g. guest_of g.cpu g.bus (boot_machine_as g.profile g.image.value g.pages) g.owned_log };
+    ghost view = { λ g. guest_of g.cpu g.bus (boot_machine g.profile g.image.value g.pages) g.owned_log };
 
     ghost invariant = { λ g. IsSettled g.bus };
 }
@@ -62,7 +62,7 @@ impl Guest {
     ghost use Rattle.machine.specs.Given.{step_given};
     ghost use Rattle.machine.specs.Accesses.{accesses, first_lack};
     ghost use Rattle.machine.specs.Answers.{replied};
-    ghost use Rattle.machine.specs.Boot.{boot_machine_as, boot_memory};
+    ghost use Rattle.machine.specs.Boot.{boot_machine, boot_memory};
     ghost use Rattle.machine.specs.Items.{accepts, after, reply, run};
     ghost use Rattle.machine.specs.Replies.{bytes_at, SomePlaceIn};
     ghost use Rattle.guest_log.specs.Logs.{HasRoom, IsFull, TakesRoom};
@@ -97,7 +97,7 @@ impl Guest {
         requires few { pages ≤ 2 ^ 20 }
         ensures cpu { IfOk result (λ g. g.cpu ≡ g.boot.cpu) }
         ensures bus { IfOk result (λ g. g.bus ≡ record { pages = replicate pages Page.Zero; devices = fresh_devices pages; waiting = None }) }
-        ensures boot { IfOk result (λ g. g.boot ≡ boot_machine_as profile image.value pages) }
+        ensures boot { IfOk result (λ g. g.boot ≡ boot_machine profile image.value pages) }
         ensures log { IfOk result (λ g. g.log.items ≡ []) }
         ensures limit { IfOk result (λ g. g.log.limit ≡ log_runs) }
         ensures seats { IfOk result (λ g. g.seats ≡ 0) }
@@ -105,7 +105,7 @@ impl Guest {
         let owned_log = OwnedLog::new(alloc, log_runs)?;
         let cache = RunCache::new(alloc)?;
         Ok(Guest {
-            cpu: Cpu::boot_as(profile, image.entry),
+            cpu: Cpu::boot(profile, image.entry),
             bus: GuestBus::new(alloc, pages)?,
             cache,
             profile,

@@ -14,7 +14,13 @@ ghost use Rattle.guest.specs.Loading.{segment_reaches, Reaches, IsBeside, IsBoot
 use crate::step::whole;
 use elf32::{Image, SEGMENT_BASE, Segment};
 use guest_bus::GuestBus;
-use machine::Ppn;
+use machine::{PhysAddr, Ppn};
+use word32::PAGE_SIZE;
+
+// How many bytes a page has, as a number of places are: a segment may pass the end of 32 bits.
+const PAGE: u64 = PAGE_SIZE as u64;
+// How many bytes a page has, as a list of them is long.
+pub(crate) const PAGE_BYTES: usize = PAGE_SIZE as usize;
 
 // Where a segment and a page begin, in bytes from physical address 0 on.
 fn starts(segment: &Segment, p: Ppn) -> (u64, u64)
@@ -26,7 +32,7 @@ fn starts(segment: &Segment, p: Ppn) -> (u64, u64)
 {
     (
         u64::from(segment.address - SEGMENT_BASE),
-        u64::from(p.number()) * 4096,
+        u64::from(p.number()) * PAGE,
     )
 }
 
@@ -36,7 +42,7 @@ fn segment_reaches(segment: &Segment, p: Ppn) -> bool
     ensures { result ≡ segment_reaches p segment.now }
 {
     let (at, start) = starts(segment, p);
-    at.max(start) < (at + u64::from(segment.size)).min(start + 4096)
+    at.max(start) < (at + u64::from(segment.size)).min(start + PAGE)
 }
 
 /// Whether a segment of an image reaches a page, by its bytes or by the zeros after them. A page that none reaches is zeros as
@@ -86,7 +92,7 @@ fn load_segment(bytes: &mut [u8], segment: &Segment, p: Ppn)
     let file = segment.bytes.as_slice();
     let (at, start) = starts(segment, p);
     let first = at.max(start);
-    let end = at.saturating_add(file.len() as u64).min(start + 4096);
+    let end = at.saturating_add(file.len() as u64).min(start + PAGE);
     if first < end {
         put(bytes, first - start, part_of(file, first - at, end - at));
     }
@@ -141,8 +147,8 @@ pub(crate) fn load_page(bus: &mut GuestBus, image: &Image, p: Ppn)
     // Who asks how many pages there are knows that they are at most 2^20.
     let _pages = bus.pages();
     bus.sound();
-    let mut bytes = [0; 4096];
+    let mut bytes = [0; PAGE_BYTES];
     load_image_page(image, p, &mut bytes);
-    bus.fill(p.number() * 4096, &bytes);
+    bus.fill(PhysAddr::in_page(p, 0), &bytes);
     whole(bus);
 }

@@ -10,7 +10,6 @@ use crate::step::whole;
 use guest_bus::GuestBus;
 use machine::Ppn;
 use mips_step::{Cpu, debug};
-use word32::page_of;
 
 // The page that the byte at a virtual address lies in.
 fn page_reached(cpu: &Cpu, bus: &GuestBus, address: u32) -> Option<Ppn>
@@ -18,7 +17,7 @@ fn page_reached(cpu: &Cpu, bus: &GuestBus, address: u32) -> Option<Ppn>
     ensures none { IsNone result → probe (machine_with cpu.now (board_of bus.now)) address ≡ None }
 {
     match debug::probe(cpu, bus, address) {
-        Some(at) => Some(page_of(at)),
+        Some(at) => Some(at.page()),
         None => None,
     }
 }

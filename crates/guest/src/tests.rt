@@ -5,7 +5,7 @@ ghost use Rattle.elf32.specs.Images.{FitsPages};
 ghost use Rattle.items.specs.Items.{is_step};
 ghost use Rattle.guest_pages.specs.Holdings.{tickets_held};
 
-use crate::loading::{load_image_page, reaches};
+use crate::loading::{PAGE_BYTES, load_image_page, reaches};
 use crate::{Guest, Refused, Seat, Stepped};
 use elf32::{Image, Segment};
 use framepool::Pool;
@@ -320,7 +320,7 @@ fn bytes_of(rt: &impl Abort, alloc: Global, words: &[u32]) -> Vec<u8> {
 /// An image of these words from 80000000 on.
 fn image_of(rt: &impl Abort, alloc: Global, words: &[u32]) -> Image {
     let bytes = bytes_of(rt, alloc, words);
-    if bytes.len() > 4096 {
+    if bytes.len() > PAGE_BYTES {
         panic!(rt; "too many words");
     }
     match Image::raw(alloc, bytes) {
@@ -623,7 +623,7 @@ fn is_reached(rt: &impl Abort, image: &Image, number: u32) -> bool {
 }
 
 /// The first and the last two bytes of a page, and how many are not 0.
-fn outer_bytes(page: &[u8; 4096]) -> ([u8; 2], [u8; 2], u32) {
+fn outer_bytes(page: &[u8; PAGE_BYTES]) -> ([u8; 2], [u8; 2], u32) {
     let mut count = 0u32;
     for byte in page {
         if *byte != 0 {
@@ -639,7 +639,7 @@ fn loaded(rt: &impl Abort, image: &Image, number: u32) -> ([u8; 2], [u8; 2], u32
         panic!(rt; "there is no page {number}");
     }
     fitting(rt, image);
-    let mut page = [0xa5; 4096];
+    let mut page = [0xa5; PAGE_BYTES];
     load_image_page(image, Ppn::new(number), &mut page);
     outer_bytes(&page)
 }

@@ -12,7 +12,7 @@ ghost use Rattle.guest_bus.specs.Lacking.{lack_of};
 
 use devices::DeviceRegister;
 use guest_pages::{GuestPages, PageKind};
-use machine::{Kind, Refusal, Size, Why};
+use machine::{Kind, PhysAddr, Refusal, Size, Why};
 use mips_alu::{store_left, store_right};
 
 /// Why a page of a kind is lacking for an access, or None where it is there.
@@ -36,11 +36,11 @@ pub(crate) fn lack(page: PageKind, kind: Kind) -> Option<Why>
 /// Whether an access beside memory reaches a device's register: one of a word, but no fetch.
 #[cold]
 #[inline(never)]
-pub(crate) fn reaches_register(at: u32, size: Size, kind: Kind) -> bool
+pub(crate) fn reaches_register(at: PhysAddr, size: Size, kind: Kind) -> bool
     ensures { ready_answer (device_reach kind size at) None (page_number at) ≡ (if result then Ok tt else Err Refusal.Bus) }
 {
     match (kind, size) {
-        (Kind::Load | Kind::Store, Size::Word) => match DeviceRegister::at(at) {
+        (Kind::Load | Kind::Store, Size::Word) => match DeviceRegister::at(at.number()) {
             Some(_) => true,
             None => false,
         },
@@ -51,23 +51,23 @@ pub(crate) fn reaches_register(at: u32, size: Size, kind: Kind) -> bool
 /// The value of an access. It is answered of each page, as zeros where the page is in no frame, so a read has no path that
 /// could fail.
 #[inline(always)]
-pub(crate) fn value(map: &GuestPages, size: Size, at: u32) -> u32
+pub(crate) fn value(map: &GuestPages, size: Size, at: PhysAddr) -> u32
     requires there { page_number at < length map.now }
     requires aligned { at % alignment size ≡ 0 }
     ensures value { result ≡ value_in (memory_of map.now) size at }
     ensures small { result < limit_of size }
 {
     match size {
-        Size::Byte => u32::from(map.read_byte(at)),
-        Size::Half => u32::from(map.read_half(at)),
-        Size::Word => map.read_word(at),
-        Size::Left | Size::Right => map.read_word(at / 4 * 4),
+        Size::Byte => u32::from(map.read_byte(at.number())),
+        Size::Half => u32::from(map.read_half(at.number())),
+        Size::Word => map.read_word(at.number()),
+        Size::Left | Size::Right => map.read_word(at.word().number()),
     }
 }
 
 /// Stores the value of an access, of which a byte or a half-word takes the lowest bits, in a page that has a frame of its own.
 #[inline(always)]
-pub(crate) fn put_value(map: &mut GuestPages, size: Size, at: u32, value: u32)
+pub(crate) fn put_value(map: &mut GuestPages, size: Size, at: PhysAddr, value: u32)
     requires there { page_number at < length map.old }
     requires aligned { at % alignment size ≡ 0 }
     requires private { kind_at map.old (page_number at) ≡ PageKind.Private }
@@ -75,17 +75,17 @@ pub(crate) fn put_value(map: &mut GuestPages, size: Size, at: u32, value: u32)
     ensures outline { outline map.new ≡ outline map.old }
 {
     match size {
-        Size::Byte => map.write_byte(at, (value % 0x100) as u8),
-        Size::Half => map.write_half(at, (value % 0x1_0000) as u16),
-        Size::Word => map.write_word(at, value),
+        Size::Byte => map.write_byte(at.number(), (value % 0x100) as u8),
+        Size::Half => map.write_half(at.number(), (value % 0x1_0000) as u16),
+        Size::Word => map.write_word(at.number(), value),
         Size::Left => {
-            let first = at / 4 * 4;
-            let word = store_left(map.read_word(first), value, at % 4);
+            let first = at.word().number();
+            let word = store_left(map.read_word(first), value, at.byte_of_word());
             map.write_word(first, word);
         }
         Size::Right => {
-            let first = at / 4 * 4;
-            let word = store_right(map.read_word(first), value, at % 4);
+            let first = at.word().number();
+            let word = store_right(map.read_word(first), value, at.byte_of_word());
             map.write_word(first, word);
         }
     }
@@ -93,7 +93,7 @@ pub(crate) fn put_value(map: &mut GuestPages, size: Size, at: u32, value: u32)
 
 /// Writes bytes from an address on, each into a page that has a frame of its own.
 #[tactic(auto, using(guest_pages::proofs::Outlines::outline_length, guest_pages::proofs::Outlines::outline_kind))]
-pub(crate) fn fill(map: &mut GuestPages, at: u32, bytes: &[u8])
+pub(crate) fn fill(map: &mut GuestPages, at: PhysAddr, bytes: &[u8])
     requires few { length map.old ≤ 2 ^ 20 }
     requires inside { at + length bytes.now ≤ length map.old * 4096 }
     requires private { (k : ℕ) → k < length bytes.now → kind_at map.old (page_number (at + k)) ≡ PageKind.Private }
@@ -102,7 +102,8 @@ pub(crate) fn fill(map: &mut GuestPages, at: u32, bytes: &[u8])
 {
     // Who asks how many pages there are knows how many bytes they have.
     let _pages = map.len();
+    let first = at.number();
     for k in 0..bytes.len() {
-        map.write_byte(at + k as u32, bytes[k]);
+        map.write_byte(first + k as u32, bytes[k]);
     }
 }

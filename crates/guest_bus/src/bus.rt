@@ -18,12 +18,12 @@ ghost use Rattle.guest_bus.specs.Lacking.{lacks_in};
 use crate::accesses::{lack, put_value, reaches_register, value};
 use devices::{DeviceRegister, Devices};
 use guest_pages::{GuestPages, PageKind};
-use machine::{Kind, PhysBus, Refusal, Size};
+use machine::{Kind, PhysAddr, PhysBus, Refusal, Size};
 use sampling::Marks;
 use std::alloc::{AllocError, Global};
 use std::marker::Model;
 use taxpolicy::SAMPLE_SIZE;
-use word32::{Ppn, page_of};
+use word32::Ppn;
 
 /// A memory of pages from physical address 0 on, each of which is nowhere yet, in a frame of its own, in a shared frame or in
 /// a slot of the swap store, with the devices. In clauses it is a record, `GuestBusIs`.
@@ -221,14 +221,14 @@ impl GuestBus {
     /// A load of a word from the device's register at an address; 0 where there is none.
     #[cold]
     #[inline(never)]
-    fn load_register(&mut self, at: u32) -> u32
+    fn load_register(&mut self, at: PhysAddr) -> u32
         ensures value { result ≡ reached_value (register_reach (device_register_at at)) Size.Word at (board_of self.old) }
         ensures small { result < 2 ^ 32 }
         ensures board { board_of self.new ≡ board_loaded (register_reach (device_register_at at)) at (board_of self.old) }
         ensures pages { self.new.pages ≡ self.old.pages }
         ensures waiting { self.new.waiting ≡ self.old.waiting }
     {
-        match DeviceRegister::at(at) {
+        match DeviceRegister::at(at.number()) {
             Some(register) => self.devices.load(register),
             None => 0,
         }
@@ -239,13 +239,13 @@ impl GuestBus {
     #[cold]
     #[inline(never)]
     #[tactic(auto, using(crate::proofs::Boards::given_is_there))]
-    fn store_register(&mut self, at: u32, value: u32)
+    fn store_register(&mut self, at: PhysAddr, value: u32)
         requires settled { IsSettled self.old }
         ensures board { board_of self.new ≡ board_stored (register_reach (device_register_at at)) Size.Word value at (board_of self.old) }
         ensures pages { self.new.pages ≡ self.old.pages }
         ensures waiting { self.new.waiting ≡ reached_given (register_reach (device_register_at at)) value (board_of self.old) }
     {
-        if let Some(register) = DeviceRegister::at(at) {
+        if let Some(register) = DeviceRegister::at(at.number()) {
             self.waiting = self.devices.store(register, value);
         }
     }
@@ -264,12 +264,12 @@ impl GuestBus {
     /// Whether an access reaches memory. An address is a multiple of the access's size, so the page alone decides.
     #[inline(always)]
     #[tactic(auto, using(crate::proofs::Boards::length_of_board, crate::proofs::Places::in_memory_by_page))]
-    fn is_in_memory(&self, at: u32, _size: Size) -> bool
+    fn is_in_memory(&self, at: PhysAddr, _size: Size) -> bool
         requires { at % alignment _size ≡ 0 }
         ensures reach { result ≡ is_in_memory (board_of self.now) _size at }
         ensures page { IsTrue result ↔ page_number at < length self.now.pages }
     {
-        page_of(at).number() < self.map.len()
+        at.page().number() < self.map.len()
     }
 }
 
@@ -285,9 +285,9 @@ impl PhysBus for GuestBus {
     ghost waiting = { λ b page. b.waiting ≡ page };
 
     #[inline(always)]
-    fn ready(&self, at: u32, size: Size, kind: Kind) -> Result<(), Refusal> {
+    fn ready(&self, at: PhysAddr, size: Size, kind: Kind) -> Result<(), Refusal> {
         if self.is_in_memory(at, size) {
-            let page = page_of(at);
+            let page = at.page();
             match lack(self.map.kind(page), kind) {
                 None => Ok(()),
                 Some(why) => Err(Refusal::Need(page, why)),
@@ -301,11 +301,11 @@ impl PhysBus for GuestBus {
 
     #[inline(always)]
     #[tactic(auto, using(crate::proofs::Refusing::lacks_kept))]
-    fn is_plain(&self, at: u32, size: Size, kind: Kind) -> bool {
+    fn is_plain(&self, at: PhysAddr, size: Size, kind: Kind) -> bool {
         if !self.is_in_memory(at, size) {
             return false;
         }
-        let its_page = page_of(at);
+        let its_page = at.page();
         match lack(self.map.kind(its_page), kind) {
             None => !self.devices.is_given(its_page),
             Some(_) => false,
@@ -313,22 +313,22 @@ impl PhysBus for GuestBus {
     }
 
     #[inline(always)]
-    fn peek(&self, at: u32) -> u32 {
-        self.map.read_word(at)
+    fn peek(&self, at: PhysAddr) -> u32 {
+        self.map.read_word(at.number())
     }
 
     #[inline(always)]
-    fn fetch(&mut self, at: u32) -> u32 {
-        let word = self.map.read_word(at);
-        self.access(page_of(at));
+    fn fetch(&mut self, at: PhysAddr) -> u32 {
+        let word = self.map.read_word(at.number());
+        self.access(at.page());
         word
     }
 
     #[inline(always)]
-    fn load(&mut self, at: u32, size: Size) -> u32 {
+    fn load(&mut self, at: PhysAddr, size: Size) -> u32 {
         if self.is_in_memory(at, size) {
             let value = value(&self.map, size, at);
-            self.access(page_of(at));
+            self.access(at.page());
             value
         } else {
             self.load_register(at)
@@ -336,13 +336,13 @@ impl PhysBus for GuestBus {
     }
 
     #[inline(always)]
-    fn load_plain(&self, at: u32, size: Size) -> u32 {
+    fn load_plain(&self, at: PhysAddr, size: Size) -> u32 {
         value(&self.map, size, at)
     }
 
     #[inline(always)]
     #[tactic(auto, using(machine::proofs::Plain::plain_memory_stored))]
-    fn store_plain(&mut self, at: u32, size: Size, value: u32) {
+    fn store_plain(&mut self, at: PhysAddr, size: Size, value: u32) {
         put_value(&mut self.map, size, at, value);
     }
 
@@ -351,16 +351,16 @@ impl PhysBus for GuestBus {
         self.devices.lines()
     }
 
-    fn look(&self, at: u32) -> u8 {
+    fn look(&self, at: PhysAddr) -> u8 {
         let _pages = self.map.len();
-        self.map.read_byte(at)
+        self.map.read_byte(at.number())
     }
 
     #[inline(always)]
-    fn store(&mut self, at: u32, size: Size, value: u32) {
+    fn store(&mut self, at: PhysAddr, size: Size, value: u32) {
         if self.is_in_memory(at, size) {
             put_value(&mut self.map, size, at, value);
-            self.access(page_of(at));
+            self.access(at.page());
         } else {
             self.store_register(at, value);
         }

@@ -16,6 +16,7 @@ use crate::GuestBus;
 use crate::accesses::fill;
 use frames::{Frame, SharePage, ShareTicket, SlotTicket};
 use guest_pages::Returned;
+use machine::PhysAddr;
 use sharetab::Shares;
 use std::alloc::AllocError;
 use word32::Ppn;
@@ -139,7 +140,7 @@ impl GuestBus {
 
     /// Puts bytes into memory from an address on, each into a page that has a frame of its own, as the bytes of an image at
     /// boot. All else stays.
-    pub fn fill(&mut self, at: u32, bytes: &[u8])
+    pub fn fill(&mut self, at: PhysAddr, bytes: &[u8])
         requires settled { IsSettled self.old }
         requires inside { at + length bytes.now ≤ length self.old.pages * 4096 }
         requires private { (k : ℕ) → k < length bytes.now → kind_at self.old.pages (page_number (at + k)) ≡ PageKind.Private }

@@ -10,7 +10,8 @@ use crate::{GuestBus, InputError};
 use frames::{Frame, Numbers, SlotTicket};
 use guest_pages::{PageKind, Returned};
 use items::{DebugRegister, What, WriteBytes};
-use machine::{Reply, StepOut, Why};
+use machine::{PhysAddr, Reply, StepOut, Why};
+use mips_cp0::Profile;
 use mips_instr::Reg;
 use mips_step::Cpu;
 use sha2::{Digest, Sha256};
@@ -19,7 +20,7 @@ use std::alloc::{AllocError, Global};
 use std::fmt::Debug;
 use std::process::Abort;
 use std::test::Fail;
-use word32::{Ppn, page_of};
+use word32::Ppn;
 
 /// Asserts one case. The tests share it, since each assertion in a function's own body makes its proof much longer.
 fn expect<T: PartialEq + Debug + Drop>(rt: &impl Abort, case: &'static str, got: T, wanted: T) {
@@ -71,15 +72,15 @@ fn supply_zero(rt: &impl Abort, bus: &mut GuestBus, number: u32, frame: Frame)
 }
 
 /// Puts a byte into a page that has a frame of its own.
-fn put_byte(rt: &impl Abort, bus: &mut GuestBus, at: u32, byte: u8) {
+fn put_byte(rt: &impl Abort, bus: &mut GuestBus, at: PhysAddr, byte: u8) {
     settled(rt, bus);
-    let p = page_of(at);
+    let p = at.page();
     if p.number() >= bus.pages() {
-        panic!(rt; "{at} lies past memory");
+        panic!(rt; "{at:?} lies past memory");
     }
     match bus.kind(p) {
         PageKind::Private => bus.fill(at, &[byte]),
-        other => panic!(rt; "{at} is in a page that is {other:?}"),
+        other => panic!(rt; "{at:?} is in a page that is {other:?}"),
     }
 }
 
@@ -89,10 +90,10 @@ fn put_word(rt: &impl Abort, bus: &mut GuestBus, at: u32, word: u32) {
         panic!(rt; "{at} lies past memory");
     }
     let bytes = word.to_le_bytes();
-    put_byte(rt, bus, at, bytes[0]);
-    put_byte(rt, bus, at + 1, bytes[1]);
-    put_byte(rt, bus, at + 2, bytes[2]);
-    put_byte(rt, bus, at + 3, bytes[3]);
+    put_byte(rt, bus, PhysAddr::new(at), bytes[0]);
+    put_byte(rt, bus, PhysAddr::new(at + 1), bytes[1]);
+    put_byte(rt, bus, PhysAddr::new(at + 2), bytes[2]);
+    put_byte(rt, bus, PhysAddr::new(at + 3), bytes[3]);
 }
 
 /// Page 0 gets a frame, and these words into it.
@@ -171,7 +172,7 @@ fn a_page_is_supplied_before_its_first_load(rt: HostRuntime) -> Result<(), Fail>
     let mut bus = GuestBus::new(rt.alloc(), 4)?;
     let mut numbers = Numbers::below(2);
     load(&rt, rt.alloc(), &mut bus, &mut numbers, &LOAD_AND_STORE);
-    let mut cpu = Cpu::boot(0x8000_0000);
+    let mut cpu = Cpu::boot(Profile::One, 0x8000_0000);
     steps(&rt, &mut cpu, &mut bus, 2);
     let first = needs(1, Why::First);
     expect(&rt, "need", step(&rt, &mut cpu, &mut bus), first);
@@ -283,7 +284,7 @@ fn a_shared_page_is_copied_before_a_store(rt: HostRuntime) -> Result<(), Fail> {
     let mut numbers = Numbers::below(4);
     load(&rt, rt.alloc(), &mut bus, &mut numbers, &LOAD_AND_STORE);
     share_two(&rt, rt.alloc(), &mut bus, &mut numbers, &mut shares);
-    let mut cpu = Cpu::boot(0x8000_0000);
+    let mut cpu = Cpu::boot(Profile::One, 0x8000_0000);
     steps(&rt, &mut cpu, &mut bus, 3);
     expect(&rt, "loaded", reg(&cpu, 3), 7);
     let copy = needs(1, Why::Copy);
@@ -338,7 +339,7 @@ fn a_given_page_leaves_its_frame(rt: HostRuntime) -> Result<(), Fail> {
     load(&rt, rt.alloc(), &mut bus, &mut numbers, &GIVE);
     supply_zero(&rt, &mut bus, 1, zeroed(&rt, rt.alloc(), &mut numbers));
     put_word(&rt, &mut bus, 0x1000, 7);
-    let mut cpu = Cpu::boot(0x8000_0000);
+    let mut cpu = Cpu::boot(Profile::One, 0x8000_0000);
     nothing(&rt, bus.settle());
     steps(&rt, &mut cpu, &mut bus, 3);
     expect(&rt, "waits", bus.waiting(), Some(Ppn::new(1)));
@@ -406,7 +407,7 @@ fn a_swapped_page_comes_back_with_its_bytes(rt: HostRuntime) -> Result<(), Fail>
     let slot = slot_ticket(&rt, &mut numbers);
     let frame = returned_frame(&rt, swap_out(&rt, &mut bus, 1, slot));
     expect(&rt, "one in a slot", counts(&bus), [1, 0, 1, 1]);
-    let mut cpu = Cpu::boot(0x8000_0000);
+    let mut cpu = Cpu::boot(Profile::One, 0x8000_0000);
     steps(&rt, &mut cpu, &mut bus, 2);
     let swapped = needs(1, Why::Swapped);
     expect(&rt, "need", step(&rt, &mut cpu, &mut bus), swapped);
@@ -495,7 +496,7 @@ fn what_happens_beside_steps(rt: HostRuntime) -> Result<(), Fail> {
     let mut bus = GuestBus::new(rt.alloc(), 4)?;
     let mut numbers = Numbers::below(1);
     load(&rt, rt.alloc(), &mut bus, &mut numbers, &words);
-    let mut cpu = Cpu::boot(0x8000_0000);
+    let mut cpu = Cpu::boot(Profile::One, 0x8000_0000);
     steps(&rt, &mut cpu, &mut bus, 2);
     let count = drained(&rt, &mut cpu, &mut bus);
     let inputs = all_inputs(&rt, &mut cpu, &mut bus);

@@ -183,7 +183,7 @@ fn run_flat(rt: &impl Abort, alloc: Global, words: &[u32], steps: u32) -> Flat {
     if !image.fits(PAGES) {
         panic!(rt; "the image has no room");
     }
-    let Ok(mut flat) = Flat::boot(alloc, &image, PAGES) else {
+    let Ok(mut flat) = Flat::boot(alloc, Profile::One, &image, PAGES) else {
         panic!(rt; "no memory for the reference machine");
     };
     if steps > 0 {

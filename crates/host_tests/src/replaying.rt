@@ -7,6 +7,7 @@ use flatvm::FlatBus;
 use guest::Guest;
 use guest_log::Log;
 use items::{Entry, What};
+use mips_cp0::Profile;
 use mips_step::debug::read;
 use mips_step::{Cpu, View};
 use std::alloc::Global;
@@ -30,7 +31,7 @@ fn booted(rt: &impl Abort, alloc: Global, words: &[u32]) -> Table {
     }
     match FlatBus::boot(alloc, &image, PAGES) {
         Ok(bus) => Table {
-            cpu: Cpu::boot(image.entry),
+            cpu: Cpu::boot(Profile::One, image.entry),
             bus,
         },
         Err(_) => panic!(rt; "no memory for the reference machine"),

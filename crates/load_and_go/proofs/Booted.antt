@@ -18,7 +18,7 @@ use Rattle.masm.specs.Listings.{Part, Listing}
 use Rattle.masm.specs.Images.{IsSegmentOf, AreSegmentsOf, IsImageOf}
 use Rattle.machine.specs.Step.{Machine}
 use Rattle.mips_cp0.specs.declared.profile.Profile.{Profile}
-use Rattle.machine.specs.Boot.{boot_machine_as}
+use Rattle.machine.specs.Boot.{boot_machine}
 use Rattle.machine.specs.Replies.{byte_at}
 use Rattle.load_and_go.specs.Holds.{HoldsFrom, Holds}
 use Rattle.load_and_go.proofs.Placing.{IsIn, length-all, all_in}
@@ -61,12 +61,12 @@ unfolding zeros
 length-zeros n = length-replicate n 0
 
 -- the machine that is booted from what is read holds the listing of what was assembled
-pub machine_holds : (listing : Listing) (assembled read : Image) (file : List ℕ) (profile : Profile) (pages : ℕ) → IsImageOf listing assembled → StandsFor file 131072 assembled → StandsFor file pages read → Holds (boot_machine_as profile read pages) listing
+pub machine_holds : (listing : Listing) (assembled read : Image) (file : List ℕ) (profile : Profile) (pages : ℕ) → IsImageOf listing assembled → StandsFor file 131072 assembled → StandsFor file pages read → Holds (boot_machine profile read pages) listing
 machine_holds listing assembled read file profile pages image written stands =
     let ss = read.segments.items in
     let n = pages * 4096 in
     let memory = zeros n in
-    let booted = boot_machine_as profile read pages in
+    let booted = boot_machine profile read pages in
     let segments = segments_same listing.parts assembled.segments.items ss (written.segments ∙ sym stands.segments) image.segments in
     let reached : StandsFor file 131072 read = record { sound = written.sound; entry = stands.entry; segments = stands.segments } in
     let within = recursion_from_All (IsWithin n) ss (stands_fit file pages read stands) in

@@ -4,7 +4,7 @@ use Rattle.items.specs.declared.item.Item.{Item}
 use Rattle.masm.specs.Listings.{Listing}
 use Rattle.masm.specs.Assembly.{Means}
 use Rattle.machine.specs.Step.{Machine}
-use Rattle.machine.specs.Boot.{boot_machine_as}
+use Rattle.machine.specs.Boot.{boot_machine}
 use Rattle.machine.specs.Items.{run}
 use Rattle.guest.specs.Guests.{view_of}
 use Rattle.booting.specs.declared.asked.Config.{Config}
@@ -15,14 +15,14 @@ use Rattle.tenant.specs.Tenants.{TenantIs}
 use Rattle.load_and_go.specs.Holds.{Holds}
 
 -- the view of a guest that is booted alone is the machine that it boots
-view_booted : (runs : ℕ) (guest : NewGuest) (ts : List TenantIs) → AreBooted runs (guest ∷ []) ts → (t : TenantIs) → view_of (slice_index_or ts 0 t).guest ≡ boot_machine_as guest.profile guest.image.value guest.pages
+view_booted : (runs : ℕ) (guest : NewGuest) (ts : List TenantIs) → AreBooted runs (guest ∷ []) ts → (t : TenantIs) → view_of (slice_index_or ts 0 t).guest ≡ boot_machine guest.profile guest.image.value guest.pages
 view_booted runs guest ts booted t =
     let is = booted.each 0 guest t (omega arith) in
     ap (λ (items : List Item). run items (slice_index_or ts 0 t).guest.boot) is.items ∙ is.boot
 
 -- so it holds the listing that this one holds
 pub view_holds : (text : List ℕ) (runs : ℕ) (guest : NewGuest) (ts : List TenantIs) → AreBooted runs (guest ∷ []) ts
-    → (listing : Listing) × Means text listing × Holds (boot_machine_as guest.profile guest.image.value guest.pages) listing
+    → (listing : Listing) × Means text listing × Holds (boot_machine guest.profile guest.image.value guest.pages) listing
     → (listing : Listing) × Means text listing × ((t : TenantIs) → Holds (view_of (slice_index_or ts 0 t).guest) listing)
 view_holds text runs guest ts booted h =
     (h.0, h.1, λ t. subst (λ (m : Machine). Holds m h.0) (sym (view_booted runs guest ts booted t)) h.2)

@@ -5,7 +5,7 @@ ghost use Rattle.elf32.specs.Images.{FitsPages};
 ghost use Rattle.masm.specs.Listings.{Listing};
 ghost use Rattle.masm.specs.Assembly.{Means};
 ghost use Rattle.mips_cp0.specs.declared.profile.Profile.{Profile};
-ghost use Rattle.machine.specs.Boot.{boot_machine_as};
+ghost use Rattle.machine.specs.Boot.{boot_machine};
 ghost use Rattle.sharetab.specs.Maps.{at_page};
 ghost use Rattle.sharetab.specs.declared.guest_page.GuestPage.{GuestPage};
 ghost use Rattle.guest.specs.Guests.{view_of};
@@ -84,7 +84,7 @@ fn guests_of_text(
 ) -> Result<Vec<NewGuest>, TextError>
     ensures one { IfOk result (λ guests. (guest : boot.NewGuest) × (guests.items ≡ guest ∷ [])
         × IsGuestOf profile text.now pages shares guest × HoldsImage guest
-        × ((listing : Listing) × Means text.now listing × Holds (boot_machine_as guest.profile guest.image.value guest.pages) listing)) }
+        × ((listing : Listing) × Means text.now listing × Holds (boot_machine guest.profile guest.image.value guest.pages) listing)) }
     ensures refused { IfErr result (IsErrorOf text.now pages) }
 {
     let guest = guest_of_text(alloc, profile, text, pages, shares)?;
@@ -115,7 +115,7 @@ pub fn guest_of_text(
     ensures guest { IfOk result (IsGuestOf profile text.now pages shares) }
     ensures fits { IfOk result HoldsImage }
     // The machine that it boots holds the listing that the text means.
-    ensures holds { IfOk result (λ guest. (listing : Listing) × Means text.now listing × Holds (boot_machine_as guest.profile guest.image.value guest.pages) listing) }
+    ensures holds { IfOk result (λ guest. (listing : Listing) × Means text.now listing × Holds (boot_machine guest.profile guest.image.value guest.pages) listing) }
     ensures refused { IfErr result (IsErrorOf text.now pages) }
 {
     let image = image_of_text(alloc, text, pages)?;
@@ -142,11 +142,11 @@ pub fn flat_text(alloc: Global, profile: Profile, text: &str, pages: u32) -> Res
     // The machine holds the listing that the text means.
     ensures machine { IfOk result (λ m. (listing : Listing) × Means text.now listing × Holds m listing) }
     // It is the boot of an image that the text's executable stands for.
-    ensures image { IfOk result (λ m. (image : elf.Image) × IsReadFrom text.now pages image × (m ≡ boot_machine_as profile image pages)) }
+    ensures image { IfOk result (λ m. (image : elf.Image) × IsReadFrom text.now pages image × (m ≡ boot_machine profile image pages)) }
     ensures refused { IfErr result (IsErrorOf text.now pages) }
 {
     let image = image_of_text(alloc, text, pages)?;
-    Ok(Flat::boot_as(alloc, profile, &image, pages)?)
+    Ok(Flat::boot(alloc, profile, &image, pages)?)
 }
 
 /// The image that a text's executable stands for, for a machine with `pages` pages, which hold it.
@@ -154,7 +154,7 @@ fn image_of_text(alloc: Global, text: &str, pages: u32) -> Result<Image, TextErr
     ensures read { IfOk result (IsReadFrom text.now pages) }
     ensures fits { IfOk result (λ image. FitsPages image pages) }
     ensures holds { IfOk result (λ image. (listing : Listing) × Means text.now listing
-        × ((profile : Profile) → Holds (boot_machine_as profile image pages) listing)) }
+        × ((profile : Profile) → Holds (boot_machine profile image pages) listing)) }
     ensures refused { IfErr result (IsErrorOf text.now pages) }
 {
     let file = assemble(alloc, text)?;

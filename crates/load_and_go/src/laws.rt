@@ -6,7 +6,7 @@ ghost use Rattle.elf32.specs.Files.{StandsFor};
 ghost use Rattle.masm.specs.Listings.{Listing};
 ghost use Rattle.masm.specs.Images.{IsImageOf};
 ghost use Rattle.mips_cp0.specs.declared.profile.Profile.{Profile};
-ghost use Rattle.machine.specs.Boot.{boot_machine_as};
+ghost use Rattle.machine.specs.Boot.{boot_machine};
 ghost use Rattle.load_and_go.specs.Executables.{fault_of};
 ghost use Rattle.load_and_go.specs.Holds.{Holds};
 
@@ -14,7 +14,7 @@ ghost use Rattle.load_and_go.specs.Holds.{Holds};
 #[tactic(auto, using(crate::proofs::Booted::machine_holds))]
 pub fn booted_machine_holds_its_listing()
     ensures { (listing : Listing) (assembled read : Image) (file : List ℕ) (profile : Profile) (pages : ℕ) → IsImageOf listing assembled
-        → StandsFor file 131072 assembled → StandsFor file pages read → Holds (boot_machine_as profile read pages) listing }
+        → StandsFor file 131072 assembled → StandsFor file pages read → Holds (boot_machine profile read pages) listing }
 {}
 
 /// A law: the executable of a listing is refused for a machine's pages exactly where a part of the listing passes their end,

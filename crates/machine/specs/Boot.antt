@@ -6,8 +6,7 @@ use Rattle.elf32.specs.declared.image.Segment.{Segment}
 use Rattle.elf32.specs.declared.image.Image.{Image}
 use Rattle.devices.specs.Devices.{fresh_devices}
 use Rattle.mips_cp0.specs.declared.profile.Profile.{Profile}
-use Rattle.mips_cp0.specs.declared.profile.Profile.TheVariants.{One}
-use Rattle.machine.specs.Processor.{boot_processor_as}
+use Rattle.machine.specs.Processor.{boot_processor}
 use Rattle.machine.specs.Board.{Board}
 use Rattle.machine.specs.Step.{Machine, machine_with}
 
@@ -24,9 +23,5 @@ abbrev pub boot_board : Image → ℕ → Board
 boot_board image pages = record { memory = boot_memory image pages; devices = fresh_devices pages }
 
 -- the machine of a profile
-abbrev pub boot_machine_as : Profile → Image → ℕ → Machine
-boot_machine_as profile image pages = machine_with (boot_processor_as profile image.entry) (boot_board image pages)
-
--- that of the first profile
-abbrev pub boot_machine : Image → ℕ → Machine
-boot_machine image pages = boot_machine_as One image pages
+abbrev pub boot_machine : Profile → Image → ℕ → Machine
+boot_machine profile image pages = machine_with (boot_processor profile image.entry) (boot_board image pages)

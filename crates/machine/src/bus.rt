@@ -8,7 +8,7 @@ ghost use Rattle.machine.specs.Given.{reached_given};
 ghost use Rattle.machine.specs.Places.{alignment};
 ghost use Rattle.machine.specs.Bus.{readiness, IsReady, IsPlain};
 
-use crate::{Kind, Refusal, Size};
+use crate::{Kind, PhysAddr, Refusal, Size};
 
 /// What the processor reaches by physical addresses: memory, and the registers of devices.
 ///
@@ -38,25 +38,25 @@ pub trait PhysBus {
     ghost waiting: { Self → Option ℕ → Type 0 };
 
     /// Whether an access would be answered, and why not.
-    fn ready(&self, at: u32, size: Size, kind: Kind) -> Result<(), Refusal>
+    fn ready(&self, at: PhysAddr, size: Size, kind: Kind) -> Result<(), Refusal>
         requires { at % alignment size ≡ 0 }
         ensures { result ≡ readiness (board self.now) (lacks (kept self.now)) kind size at };
 
     /// Whether an access is plain: memory answers it, and beside the bytes that a store writes it changes nothing. A bus may
     /// answer no for any access.
-    fn is_plain(&self, at: u32, size: Size, kind: Kind) -> bool
+    fn is_plain(&self, at: PhysAddr, size: Size, kind: Kind) -> bool
         requires { at % alignment size ≡ 0 }
         ensures { result ≡ true → IsPlain (board self.now) (lacks (kept self.now)) kind size at };
 
     /// The word that a fetch would give.
-    fn peek(&self, at: u32) -> u32
+    fn peek(&self, at: PhysAddr) -> u32
         requires settled { waiting self.now None }
         requires aligned { at % 4 ≡ 0 }
         requires ready { IsReady (board self.now) (lacks (kept self.now)) Kind.Fetch Size.Word at }
         ensures { result ≡ value_in (board self.now).memory Size.Word at };
 
     /// Fetches a word.
-    fn fetch(&mut self, at: u32) -> u32
+    fn fetch(&mut self, at: PhysAddr) -> u32
         requires settled { waiting self.old None }
         requires aligned { at % 4 ≡ 0 }
         requires ready { IsReady (board self.old) (lacks (kept self.old)) Kind.Fetch Size.Word at }
@@ -66,7 +66,7 @@ pub trait PhysBus {
         ensures settled { waiting self.new None };
 
     /// Loads a value, which has no more bits than the access.
-    fn load(&mut self, at: u32, size: Size) -> u32
+    fn load(&mut self, at: PhysAddr, size: Size) -> u32
         requires settled { waiting self.old None }
         requires aligned { at % alignment size ≡ 0 }
         requires ready { IsReady (board self.old) (lacks (kept self.old)) Kind.Load size at }
@@ -78,7 +78,7 @@ pub trait PhysBus {
 
     /// Loads a value where the access is plain. It does nothing beside that: a bus that notes which pages are accessed has noted an access
     /// that `load` made of the page before.
-    fn load_plain(&self, at: u32, size: Size) -> u32
+    fn load_plain(&self, at: PhysAddr, size: Size) -> u32
         requires settled { waiting self.now None }
         requires aligned { at % alignment size ≡ 0 }
         requires plain { IsPlain (board self.now) (lacks (kept self.now)) Kind.Load size at }
@@ -86,7 +86,7 @@ pub trait PhysBus {
         ensures small { result < limit_of size };
 
     /// Stores a value where the access is plain, as `load_plain` loads one.
-    fn store_plain(&mut self, at: u32, size: Size, value: u32)
+    fn store_plain(&mut self, at: PhysAddr, size: Size, value: u32)
         requires settled { waiting self.old None }
         requires aligned { at % alignment size ≡ 0 }
         requires plain { IsPlain (board self.old) (lacks (kept self.old)) Kind.Store size at }
@@ -100,7 +100,7 @@ pub trait PhysBus {
 
     /// The byte of memory at an address, as a debugger sees it: a page that was never touched or was given away is
     /// zeros, and stays as it is.
-    fn look(&self, at: u32) -> u8
+    fn look(&self, at: PhysAddr) -> u8
         requires settled { waiting self.now None }
         requires inside { at < length (board self.now).memory }
         requires there { lacks (kept self.now) (page_number at) Kind.Load ≢ Some Why.Swapped }
@@ -108,7 +108,7 @@ pub trait PhysBus {
 
     /// Stores a value, of which a byte or a half-word takes the lowest bits. It may give a page away, which then
     /// may wait for the owner of the bus.
-    fn store(&mut self, at: u32, size: Size, value: u32)
+    fn store(&mut self, at: PhysAddr, size: Size, value: u32)
         requires settled { waiting self.old None }
         requires aligned { at % alignment size ≡ 0 }
         requires ready { IsReady (board self.old) (lacks (kept self.old)) Kind.Store size at }

@@ -17,6 +17,6 @@ pub mod step_laws;
 
 pub use access::{Refusal, Size, StepOut, Why};
 pub use bus::PhysBus;
-pub use mips_tlb::Kind;
+pub use mips_tlb::{Kind, PhysAddr};
 pub use reply::{Rejection, Reply, WRITE_LIMIT};
 pub use word32::Ppn;

@@ -4,7 +4,7 @@ ghost use Rattle.mips_cp0.specs.Bits.{has_bits, replaced_bits};
 ghost use Rattle.mips_cp0.specs.Status.{status_exl, status_erl};
 ghost use Rattle.mips_cp0.specs.Cause.{cause_bd};
 ghost use Rattle.mips_cp0.specs.Exception.{exc_code, coprocessor_error};
-ghost use Rattle.mips_cp0.specs.Registers.{SystemRegisters, boot_registers_as};
+ghost use Rattle.mips_cp0.specs.Registers.{SystemRegisters, boot_registers};
 ghost use Rattle.mips_cp0.specs.Access.{register_value, register_written};
 ghost use Rattle.mips_cp0.specs.Entered.{entered, returned, return_address};
 ghost use Rattle.mips_cp0.specs.Interrupts.{ticked, interrupt_taken};
@@ -82,12 +82,12 @@ pub fn replaced_bits_are_exact()
 /// A law: what a profile shows. Random at the boot and after a write of Wired, the bits that a write of Index or of Wired keeps, and
 /// Config1 are those of its last TLB entry, 15 of the first profile and 31 of the second.
 pub fn profiles_show_their_entries()
-    ensures first { (boot_registers_as One).random ≡ 0x0f }
-    ensures second { (boot_registers_as Two).random ≡ 0x1f }
-    ensures first_config { (lines : ℕ) → register_value lines Config1 (boot_registers_as One) ≡ 0x1e000000 }
-    ensures second_config { (lines : ℕ) → register_value lines Config1 (boot_registers_as Two) ≡ 0x3e000000 }
-    ensures first_index { (value : ℕ) → (register_written value Index (boot_registers_as One)).index ≡ bit_and value 0x0f }
-    ensures second_index { (value : ℕ) → (register_written value Index (boot_registers_as Two)).index ≡ bit_and value 0x1f }
-    ensures first_wired { (value : ℕ) → (register_written value Wired (boot_registers_as One)).wired ≡ bit_and value 0x0f }
-    ensures second_wired { (value : ℕ) → (register_written value Wired (boot_registers_as Two)).wired ≡ bit_and value 0x1f }
+    ensures first { (boot_registers One).random ≡ 0x0f }
+    ensures second { (boot_registers Two).random ≡ 0x1f }
+    ensures first_config { (lines : ℕ) → register_value lines Config1 (boot_registers One) ≡ 0x1e000000 }
+    ensures second_config { (lines : ℕ) → register_value lines Config1 (boot_registers Two) ≡ 0x3e000000 }
+    ensures first_index { (value : ℕ) → (register_written value Index (boot_registers One)).index ≡ bit_and value 0x0f }
+    ensures second_index { (value : ℕ) → (register_written value Index (boot_registers Two)).index ≡ bit_and value 0x1f }
+    ensures first_wired { (value : ℕ) → (register_written value Wired (boot_registers One)).wired ≡ bit_and value 0x0f }
+    ensures second_wired { (value : ℕ) → (register_written value Wired (boot_registers Two)).wired ≡ bit_and value 0x1f }
 {}

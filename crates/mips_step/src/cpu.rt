@@ -1,6 +1,6 @@
 //! The state of the processor, and how control moves.
 ghost use Rattle.std.specs.Prelude.{◌≡◌, ◌%◌, IfSome, IfOk, Ok};
-ghost use Rattle.machine.specs.Processor.{Processor, reg, with_reg, boot_processor, boot_processor_as};
+ghost use Rattle.machine.specs.Processor.{Processor, reg, with_reg, boot_processor};
 ghost use Rattle.machine.specs.Places.{alignment, place, data_address};
 
 pub use self::counter::Counter;
@@ -8,7 +8,7 @@ use crate::sign::extended;
 use machine::Size;
 use mips_cp0::{Cp0, Exc, Profile};
 use mips_instr::Reg;
-use mips_tlb::{Kind, Tlb, direct_address};
+use mips_tlb::{Kind, PhysAddr, Tlb, direct_address};
 use std::marker::Model;
 
 mod control;
@@ -41,17 +41,10 @@ impl Model for Cpu {
 }
 
 impl Cpu {
-    /// A processor as a machine of the first profile boots, at its entry address.
-    pub fn boot(entry: u32) -> Cpu
-        ensures { result ≡ boot_processor entry }
-    {
-        Cpu::boot_as(Profile::One, entry)
-    }
-
     /// A processor as a machine of a profile boots, at its entry address.
     #[tactic(auto, using(mips_tlb::proofs::Used::boot_together))]
-    pub fn boot_as(profile: Profile, entry: u32) -> Cpu
-        ensures { result ≡ boot_processor_as profile entry }
+    pub fn boot(profile: Profile, entry: u32) -> Cpu
+        ensures { result ≡ boot_processor profile entry }
     {
         Cpu {
             regs: [0; 32],
@@ -59,8 +52,8 @@ impl Cpu {
             lo: 0,
             counter: Counter::at(entry),
             ll_bit: false,
-            cp0: Cp0::boot_as(profile),
-            tlb: Tlb::boot_as(profile),
+            cp0: Cp0::boot(profile),
+            tlb: Tlb::boot(profile),
         }
     }
 
@@ -142,7 +135,7 @@ impl Cpu {
     /// Most accesses are such, and come by without a call.
     #[tactic(auto, using(machine::proofs::Aligned::place_aligned))]
     #[inline(always)]
-    pub fn direct_place(&self, _kind: Kind, size: Size, address: u32) -> Option<u32>
+    pub fn direct_place(&self, _kind: Kind, size: Size, address: u32) -> Option<PhysAddr>
         ensures place { IfSome result (λ at. place _kind size self.now address ≡ Ok at) }
         ensures aligned { IfSome result (λ at. at % alignment size ≡ 0) }
     {
@@ -155,7 +148,7 @@ impl Cpu {
 
     /// The physical address of an access at a virtual address, or the exception that it raises.
     #[tactic(auto, using(machine::proofs::Aligned::place_aligned))]
-    pub fn place(&self, kind: Kind, size: Size, address: u32) -> Result<u32, Exc>
+    pub fn place(&self, kind: Kind, size: Size, address: u32) -> Result<PhysAddr, Exc>
         ensures place { result ≡ place kind size self.now address }
         ensures aligned { IfOk result (λ at. at % alignment size ≡ 0) }
     {

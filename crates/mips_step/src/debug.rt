@@ -9,7 +9,7 @@ ghost use Rattle.machine.specs.Items.{written_from};
 ghost use Rattle.machine.specs.Replies.{probe, bytes_at, EachPlace, SomePlaceIn, CanLook, CanStore};
 
 use crate::Cpu;
-use machine::{Kind, PhysBus, Ppn, Refusal, Size, Why};
+use machine::{Kind, PhysAddr, PhysBus, Ppn, Refusal, Size, Why};
 use word32::page_of;
 
 /// Why bytes can't be read or written. Nothing has changed then.
@@ -24,7 +24,7 @@ pub enum Unreached {
 
 /// The physical address in memory that a virtual address leads to, as for a load of kernel mode, whatever mode the
 /// processor runs in; None where such a load would raise an exception or reaches no memory.
-pub fn probe<B: PhysBus>(cpu: &Cpu, bus: &B, address: u32) -> Option<u32>
+pub fn probe<B: PhysBus>(cpu: &Cpu, bus: &B, address: u32) -> Option<PhysAddr>
     ensures place { result ≡ probe (machine_with cpu.now (B.board bus.now)) address }
     ensures inside { IfSome result (λ at. at < length (B.board bus.now).memory) }
 {
@@ -58,7 +58,7 @@ fn are_placed<B: PhysBus>(cpu: &Cpu, bus: &B, address: u32, count: usize) -> boo
 }
 
 /// The page of a place that is away: its bytes can't be looked at.
-fn away_to_look<B: PhysBus>(bus: &B, at: u32) -> Option<Ppn>
+fn away_to_look<B: PhysBus>(bus: &B, at: PhysAddr) -> Option<Ppn>
     requires inside { at < length (B.board bus.now).memory }
     ensures page { IfSome result (λ page. B.lacks (B.kept bus.now) page Kind.Load ≡ Some Why.Swapped) }
     ensures its_page { IfSome result (λ page. page_number at ≡ page) }
@@ -78,7 +78,7 @@ fn away_to_look<B: PhysBus>(bus: &B, at: u32) -> Option<Ppn>
 }
 
 /// The page of a place that is not there for stores.
-fn away_to_store<B: PhysBus>(bus: &B, at: u32) -> Option<Ppn>
+fn away_to_store<B: PhysBus>(bus: &B, at: PhysAddr) -> Option<Ppn>
     requires inside { at < length (B.board bus.now).memory }
     ensures page { IfSome result (λ page. B.lacks (B.kept bus.now) page Kind.Store ≢ None) }
     ensures its_page { IfSome result (λ page. page_number at ≡ page) }
@@ -143,7 +143,7 @@ fn read_all<B: PhysBus>(cpu: &Cpu, bus: &B, address: u32, bytes: &mut [u8])
 }
 
 /// Stores a byte at a place of memory whose page is there for stores.
-fn store_byte<B: PhysBus>(bus: &mut B, at: u32, byte: u8)
+fn store_byte<B: PhysBus>(bus: &mut B, at: PhysAddr, byte: u8)
     requires settled { B.waiting bus.old None }
     requires inside { at < length (B.board bus.old).memory }
     requires there { CanStore (B.lacks (B.kept bus.old)) at }

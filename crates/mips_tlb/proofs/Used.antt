@@ -5,10 +5,10 @@ use Rattle.std.proofs.lemmas.List.{length-take}
 use Rattle.mips_cp0.specs.Profiles.{profile_numbers}
 use Rattle.mips_cp0.specs.declared.profile.Profile.{Profile}
 use Rattle.mips_cp0.specs.declared.profile.Profile.TheVariants.{One, Two}
-use Rattle.mips_cp0.specs.Registers.{boot_registers_as}
-use Rattle.mips_tlb.specs.Entries.{zero_entry, boot_entries_as, BelongTogether}
+use Rattle.mips_cp0.specs.Registers.{boot_registers}
+use Rattle.mips_tlb.specs.Entries.{zero_entry, boot_entries, BelongTogether}
 
-pub zeros_used : (profile : Profile) → take (profile_numbers profile).entries (replicate 32 zero_entry) ≡ boot_entries_as profile
+pub zeros_used : (profile : Profile) → take (profile_numbers profile).entries (replicate 32 zero_entry) ≡ boot_entries profile
 zeros_used One = refl
 zeros_used Two = refl
 
@@ -18,6 +18,6 @@ index_used n i xs within = omega (arith, length-take n xs, within)
 pub write_used : {X : Type 0} (n i : ℕ) (x : X) (xs : List X) → i < length (take n xs) → take n (slice_set xs i x) ≡ slice_set (take n xs) i x
 write_used n i x xs within = take-set-lt n xs i x (omega (arith, length-take n xs, within))
 
-pub boot_together : (profile : Profile) → BelongTogether (boot_entries_as profile) (boot_registers_as profile)
+pub boot_together : (profile : Profile) → BelongTogether (boot_entries profile) (boot_registers profile)
 boot_together One = refl
 boot_together Two = refl

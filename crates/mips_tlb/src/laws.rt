@@ -1,9 +1,9 @@
 //! Laws of the definitions.
 ghost use Rattle.std.specs.Prelude.{◌≡◌, ℕ, ◌+◌, ◌*◌, ◌/◌, ◌%◌, ◌^◌, ◌<◌, ◌↔◌, All, IsTrue, true, false, List, position, find, slice_get, slice_index_or, Some, Ok, Err};
 ghost use Rattle.mips_cp0.specs.Status.{is_user_mode};
-ghost use Rattle.mips_cp0.specs.Registers.{SystemRegisters, boot_registers_as, current_asid};
+ghost use Rattle.mips_cp0.specs.Registers.{SystemRegisters, boot_registers, current_asid};
 ghost use Rattle.mips_cp0.specs.declared.profile.Profile.{Profile};
-ghost use Rattle.mips_tlb.specs.Entries.{BelongTogether, boot_entries_as, zero_entry, matches};
+ghost use Rattle.mips_tlb.specs.Entries.{BelongTogether, boot_entries, zero_entry, matches};
 ghost use Rattle.mips_tlb.specs.Segments.{is_refused, is_mapped};
 ghost use Rattle.mips_tlb.specs.Translation.{tlb_exception, translation, probed, answer_of};
 ghost use Rattle.mips_tlb.specs.Instructions.{entry_in, with_entry};
@@ -14,7 +14,7 @@ ghost use Rattle.mips_tlb.specs.declared.tlb.Entry.{Entry};
 /// A law: as a machine boots, its TLB has as many entries as its registers say.
 #[tactic(auto, using(crate::proofs::Used::boot_together))]
 pub fn profiles_belong_together()
-    ensures { (profile : Profile) → BelongTogether (boot_entries_as profile) (boot_registers_as profile) }
+    ensures { (profile : Profile) → BelongTogether (boot_entries profile) (boot_registers profile) }
 {}
 
 /// A law: where no entry matches an address that the mode may reach, its translation is a refill exactly in a mapped

@@ -1,6 +1,6 @@
 //! The entries.
 ghost use Rattle.std.specs.Prelude.{◌≡◌, ◌<◌, ◌≤◌, position, find, IfSome, length, slice_get, slice_set, Some};
-ghost use Rattle.mips_tlb.specs.Entries.{boot_entries, boot_entries_as, matches};
+ghost use Rattle.mips_tlb.specs.Entries.{boot_entries, matches};
 
 use crate::{Coherence, Vpn2};
 use mips_cp0::{MOST_ENTRIES, Profile};
@@ -65,17 +65,10 @@ impl Model for Tlb {
 }
 
 impl Tlb {
-    /// The TLB as a machine of the first profile boots.
-    pub fn boot() -> Tlb
-        ensures { result ≡ boot_entries }
-    {
-        Tlb::boot_as(Profile::One)
-    }
-
     /// The TLB as a machine of a profile boots: all zeros.
     #[tactic(auto, using(crate::proofs::Used::zeros_used))]
-    pub fn boot_as(profile: Profile) -> Tlb
-        ensures { result ≡ boot_entries_as profile }
+    pub fn boot(profile: Profile) -> Tlb
+        ensures { result ≡ boot_entries profile }
     {
         let even = PageHalf {
             pfn: Ppn::new(0),

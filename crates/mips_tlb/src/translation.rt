@@ -5,19 +5,24 @@ ghost use Rattle.mips_tlb.specs.declared.kind.Kind.{Kind};
 ghost use Rattle.mips_tlb.specs.declared.tlb.Entry.{Entry};
 ghost use Rattle.mips_tlb.specs.Translation.{half_of, through_half, kernel_translation, translation, probed};
 
-use crate::{Entry, Kind, PageHalf, Tlb};
+use crate::{Entry, Kind, PageHalf, PhysAddr, Tlb};
 use mips_cp0::{Cp0, Exc, Status};
 use word32::offset_of;
+
+/// The first virtual address of kseg0, from which on user mode reaches none.
+pub const KSEG0: u32 = 0x8000_0000;
+/// The first virtual address of kseg2, before which kseg0 and kseg1 end, which go by no entry.
+pub const KSEG2: u32 = 0xc000_0000;
 
 impl Tlb {
     /// The physical address of an access at a virtual address, or the exception that it raises: an address error of an
     /// address that user mode may not reach; in a mapped segment a refill where no entry matches, and else, by the
     /// matching entry of least index, the exception of a page that is not valid, or that is not dirty and stored to
     /// (volume III, Virtual Memory).
-    pub fn translate(&self, cp0: &Cp0, address: u32, kind: Kind) -> Result<u32, Exc>
+    pub fn translate(&self, cp0: &Cp0, address: u32, kind: Kind) -> Result<PhysAddr, Exc>
         ensures { result ≡ translation self.now cp0.now kind address }
     {
-        if cp0.is_user_mode() && address >= 0x8000_0000 {
+        if cp0.is_user_mode() && address >= KSEG0 {
             return Err(kind.address_error(address));
         }
         self.translate_in_kernel_mode(cp0, address, kind)
@@ -25,14 +30,14 @@ impl Tlb {
 
     /// The physical address of a load of kernel mode at a virtual address, whatever mode runs; None where the load
     /// would raise an exception.
-    pub fn probe(&self, cp0: &Cp0, address: u32) -> Option<u32>
+    pub fn probe(&self, cp0: &Cp0, address: u32) -> Option<PhysAddr>
         ensures { result ≡ probed self.now cp0.now address }
     {
         self.translate_in_kernel_mode(cp0, address, Kind::Load).ok()
     }
 
     // What an access of kernel mode gets.
-    fn translate_in_kernel_mode(&self, cp0: &Cp0, address: u32, kind: Kind) -> Result<u32, Exc>
+    fn translate_in_kernel_mode(&self, cp0: &Cp0, address: u32, kind: Kind) -> Result<PhysAddr, Exc>
         ensures { result ≡ kernel_translation self.now cp0.now kind address }
     {
         if !is_mapped(cp0, address) {
@@ -61,11 +66,11 @@ impl Entry {
 /// The physical address of one in kseg0 or kseg1 that kernel mode reaches, which is that of each kind of access and
 /// needs no entry; `None` of the others, which `Tlb::translate` tells.
 #[inline(always)]
-pub fn direct_address(cp0: &Cp0, address: u32) -> Option<u32>
+pub fn direct_address(cp0: &Cp0, address: u32) -> Option<PhysAddr>
     ensures value { result ≡ direct_address cp0.now.status address }
-    ensures translated { (entries : List Entry) (kind : Kind) (physical : ℕ) → result ≡ Some physical → translation entries cp0.now kind address ≡ Ok physical }
+    ensures translated { (entries : List Entry) (kind : Kind) (at : ℕ) → result ≡ Some at → translation entries cp0.now kind address ≡ Ok at }
 {
-    if (0x8000_0000..0xc000_0000).contains(&address) && !cp0.is_user_mode() {
+    if (KSEG0..KSEG2).contains(&address) && !cp0.is_user_mode() {
         Some(unmapped(address))
     } else {
         None
@@ -76,22 +81,22 @@ pub fn direct_address(cp0: &Cp0, address: u32) -> Option<u32>
 fn is_mapped(cp0: &Cp0, address: u32) -> bool
     ensures { result ≡ is_mapped cp0.now.status address }
 {
-    (address < 0x8000_0000 && !cp0.is_error_level()) || address >= 0xc000_0000
+    (address < KSEG0 && !cp0.is_error_level()) || address >= KSEG2
 }
 
 // The physical address of one that does not.
-fn unmapped(address: u32) -> u32
+fn unmapped(address: u32) -> PhysAddr
     ensures { result ≡ unmapped_address address }
 {
-    if address < 0x8000_0000 {
-        address
+    if address < KSEG0 {
+        PhysAddr::new(address)
     } else {
-        address & 0x1fff_ffff
+        PhysAddr::new(address & 0x1fff_ffff)
     }
 }
 
 // The physical address in a page, or the exception that the page raises.
-fn through_half(half: PageHalf, address: u32, kind: Kind) -> Result<u32, Exc>
+fn through_half(half: PageHalf, address: u32, kind: Kind) -> Result<PhysAddr, Exc>
     ensures { result ≡ through_half kind address half }
 {
     if !half.valid {
@@ -99,6 +104,6 @@ fn through_half(half: PageHalf, address: u32, kind: Kind) -> Result<u32, Exc>
     } else if kind == Kind::Store && !half.dirty {
         Err(Exc::Modified { address })
     } else {
-        Ok((half.pfn.number() << 12) + offset_of(address))
+        Ok(PhysAddr::in_page(half.pfn, offset_of(address)))
     }
 }

@@ -10,12 +10,12 @@ ghost use Rattle.reset_machine.specs.Watched.{HasPages, IsWatched, AreGivenMarke
 use crate::{Home, Marks};
 use devices::{DeviceRegister, Devices};
 use flatvm::{Flat, FlatBus};
-use machine::{Kind, PhysBus, Refusal, Rejection, Reply, Size};
+use machine::{Kind, PhysAddr, PhysBus, Refusal, Rejection, Reply, Size};
 use mips_step::Cpu;
 use std::alloc::{AllocError, Global};
 use std::marker::Model;
 use std::sync::Arc;
-use word32::{Ppn, page_of};
+use word32::Ppn;
 
 /// A plain memory with its devices that marks each page which a store changes, so that it goes back to what it was at first, the memory of its
 /// home, by those pages alone. In clauses it is a `WatchedBoard`.
@@ -130,12 +130,12 @@ fn reload(flat: &mut FlatBus, marks: &mut Marks, home: &Home)
 #[cold]
 #[inline(never)]
 #[tactic(auto, using(crate::proofs::Marking::mark_grows, crate::proofs::Marking::none_more))]
-fn mark_given(marks: &mut Marks, at: u32, value: u32)
+fn mark_given(marks: &mut Marks, at: PhysAddr, value: u32)
     requires { length marks.old.marked ≤ 2 ^ 20 }
     ensures grows { Grows marks.old.marked marks.new.marked }
     ensures given { AreGivenMarked at value marks.new.marked }
 {
-    if let Some(DeviceRegister::BalGive) = DeviceRegister::at(at)
+    if let Some(DeviceRegister::BalGive) = DeviceRegister::at(at.number())
         && (value as usize) < marks.pages()
     {
         marks.mark(Ppn::new(value));
@@ -145,13 +145,13 @@ fn mark_given(marks: &mut Marks, at: u32, value: u32)
 /// Marks the page that a store of a value at an address may change.
 #[inline(always)]
 #[tactic(auto, using(crate::proofs::Marking::mark_grows, crate::proofs::Marking::marked_now))]
-fn mark_stored(marks: &mut Marks, at: u32, value: u32)
+fn mark_stored(marks: &mut Marks, at: PhysAddr, value: u32)
     requires { length marks.old.marked ≤ 2 ^ 20 }
     ensures grows { Grows marks.old.marked marks.new.marked }
     ensures stored { page_number at < length marks.old.marked → is_marked (page_number at) marks.new.marked ≡ true }
     ensures given { length marks.old.marked ≤ page_number at → AreGivenMarked at value marks.new.marked }
 {
-    let page = page_of(at);
+    let page = at.page();
     if (page.number() as usize) < marks.pages() {
         marks.mark(page);
     } else {
@@ -172,41 +172,41 @@ impl PhysBus for WatchedBus {
     ghost waiting = { λ b page. Unit {0} };
 
     #[inline(always)]
-    fn ready(&self, at: u32, size: Size, kind: Kind) -> Result<(), Refusal> {
+    fn ready(&self, at: PhysAddr, size: Size, kind: Kind) -> Result<(), Refusal> {
         self.flat.ready(at, size, kind)
     }
 
     #[inline(always)]
-    fn is_plain(&self, at: u32, size: Size, kind: Kind) -> bool {
+    fn is_plain(&self, at: PhysAddr, size: Size, kind: Kind) -> bool {
         self.flat.is_plain(at, size, kind)
     }
 
     #[inline(always)]
-    fn peek(&self, at: u32) -> u32 {
+    fn peek(&self, at: PhysAddr) -> u32 {
         self.flat.peek(at)
     }
 
     #[inline(always)]
     #[tactic(auto, using(crate::proofs::Watching::touched_watched))]
-    fn fetch(&mut self, at: u32) -> u32 {
+    fn fetch(&mut self, at: PhysAddr) -> u32 {
         self.flat.fetch(at)
     }
 
     #[inline(always)]
     #[tactic(auto, using(crate::proofs::Watching::loaded_watched))]
-    fn load(&mut self, at: u32, size: Size) -> u32 {
+    fn load(&mut self, at: PhysAddr, size: Size) -> u32 {
         self.flat.load(at, size)
     }
 
     #[inline(always)]
-    fn load_plain(&self, at: u32, size: Size) -> u32 {
+    fn load_plain(&self, at: PhysAddr, size: Size) -> u32 {
         self.flat.load_plain(at, size)
     }
 
     #[inline(always)]
     #[tactic(auto, using(crate::proofs::Watching::plain_there, crate::proofs::Watching::plain_watched))]
-    fn store_plain(&mut self, at: u32, size: Size, value: u32) {
-        self.marks.mark(page_of(at));
+    fn store_plain(&mut self, at: PhysAddr, size: Size, value: u32) {
+        self.marks.mark(at.page());
         self.flat.store_plain(at, size, value);
     }
 
@@ -215,13 +215,13 @@ impl PhysBus for WatchedBus {
         self.flat.lines()
     }
 
-    fn look(&self, at: u32) -> u8 {
+    fn look(&self, at: PhysAddr) -> u8 {
         self.flat.look(at)
     }
 
     #[inline(always)]
     #[tactic(auto, using(crate::proofs::Watching::store_watched))]
-    fn store(&mut self, at: u32, size: Size, value: u32) {
+    fn store(&mut self, at: PhysAddr, size: Size, value: u32) {
         mark_stored(&mut self.marks, at, value);
         self.flat.store(at, size, value);
     }

@@ -3,7 +3,7 @@ ghost use Rattle.std.specs.Prelude.{◌≡◌, ◌+◌, ◌*◌, ◌≤◌, ◌^
 ghost use Rattle.word32.specs.Words.{patched};
 ghost use Rattle.elf32.specs.Images.{FitsPages};
 ghost use Rattle.machine.specs.Board.{page_bytes};
-ghost use Rattle.machine.specs.Boot.{boot_machine_as};
+ghost use Rattle.machine.specs.Boot.{boot_machine};
 ghost use Rattle.machine.specs.Step.{machine_with};
 ghost use Rattle.reset_machine.specs.Watched.{HasPages};
 
@@ -47,9 +47,9 @@ impl Home {
     ) -> Result<Home, AllocError>
         requires fits { FitsPages image.now pages }
         requires few { pages ≤ 2 ^ 20 }
-        ensures { IfOk result (λ h. h ≡ boot_machine_as profile image.now pages) }
+        ensures { IfOk result (λ h. h ≡ boot_machine profile image.now pages) }
     {
-        let cpu = Cpu::boot_as(profile, image.entry);
+        let cpu = Cpu::boot(profile, image.entry);
         let bus = FlatBus::boot(alloc, image, pages)?;
         Ok(Home { cpu, bus, pages })
     }

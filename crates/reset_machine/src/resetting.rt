@@ -1,8 +1,10 @@
 //! The machine that goes back to its home.
-ghost use Rattle.std.specs.Prelude.{◌≡◌, ◌*◌, ◌<◌, ◌≤◌, ◌^◌, None, IfOk, OnOk, OnErr, length};
+ghost use Rattle.std.specs.Prelude.{◌≡◌, ℕ, ◌*◌, ◌<◌, ◌≤◌, ◌^◌, None, IfOk, OnOk, OnErr, length};
 ghost use Rattle.items.specs.declared.item.What.TheVariants.{In};
 ghost use Rattle.machine.specs.Items.{after};
 ghost use Rattle.machine.specs.Step.{step};
+ghost use Rattle.mips_fast.specs.Runs.{KeepsStatus};
+ghost use Rattle.runs.specs.Endings.{IsPassed};
 ghost use Rattle.runs.specs.Runs.{after_steps};
 
 use crate::{Home, WatchedBus};
@@ -11,7 +13,7 @@ use guest_log::Stop;
 use machine::{Rejection, StepOut};
 use mips_fast::RunCache;
 use mips_step::{Cpu, Unreached, View, debug};
-use runs::{NoPlace, Runnable};
+use runs::{NoPlace, Runnable, Until};
 use std::alloc::{AllocError, Global};
 use std::marker::Model;
 use std::sync::Arc;
@@ -111,6 +113,7 @@ impl ResetMachine {
     fn run_quietly(&mut self, count: u32) -> u32
         ensures few { result ≤ count }
         ensures machine { self.new.machine ≡ after_steps result self.old.machine }
+        ensures status { KeepsStatus result self.old.machine }
         ensures home { self.new.home ≡ self.old.home }
     {
         mips_fast::run(&mut self.cpu, &mut self.bus, &mut self.cache, count)
@@ -155,6 +158,20 @@ impl Runnable for ResetMachine {
             self.many_steps(count);
         }
         (count, None)
+    }
+
+    // A run of many steps at once enters no exception; of a loop, and of the addresses that it comes to, it tells nothing.
+    #[tactic(auto, using(crate::proofs::Stepping::past_steps))]
+    fn steps_past(&mut self, count: u32, until: &Until) -> u32
+        ensures few { result ≤ count }
+        ensures state { self.new.machine ≡ after_steps result self.old.machine }
+        ensures passed { (k : ℕ) → k < result → IsPassed until.now (after_steps k self.old.machine) }
+        ensures home { self.new.home ≡ self.old.home }
+    {
+        if count < FEW || until.loops || !until.addresses.is_empty() {
+            return 0;
+        }
+        self.run_quietly(count)
     }
 
     fn feed(&mut self, byte: u8) -> Result<(), Stop>

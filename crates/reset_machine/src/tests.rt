@@ -8,13 +8,13 @@ use masm::assemble_image;
 use mips_cp0::Profile;
 use mips_instr::Reg;
 use mips_step::Cpu;
-use mips_tlb::Entry;
+use mips_tlb::{Entry, KSEG0};
 use runs::{Runnable, Table};
 use std::process::Abort;
 use std::sync::Arc;
 use std::test::Fail;
 use std::thread::for_each_mut;
-use word32::Ppn;
+use word32::{PAGE_SIZE, Ppn};
 
 /// How many pages each machine has: its memory ends at 80010000.
 const PAGES: u32 = 16;
@@ -160,7 +160,7 @@ fn push_bytes<R: AllocGlobal + Abort, M: Runnable>(
 {
     let mut bytes = [0; 256];
     for page in 0..PAGES {
-        let read = machine.read(0x8000_0000 + page * 4096 + offset, &mut bytes);
+        let read = machine.read(KSEG0 + page * PAGE_SIZE + offset, &mut bytes);
         expect(rt, "the bytes", "a page", read.is_ok());
         memory.extend_from_slice(&bytes)?;
     }

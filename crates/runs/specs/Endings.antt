@@ -1,7 +1,7 @@
 -- Where a run ends that is to end at the first state of some kinds.
 use Rattle.std.specs.Prelude.{◌≡◌, ◌<◌, ℕ, zero, suc, Bool, ◌==◌, ◌&&◌, ◌/◌, ◌%◌, if◌then◌else◌, List, [], Option, Some, None, IfSome, true, false}
 use Rattle.std.specs.List.{list_any}
-use Rattle.machine.specs.Step.{Machine}
+use Rattle.machine.specs.Step.{Machine, step}
 use Rattle.runs.specs.declared.ending.Ending.{Ending}
 use Rattle.runs.specs.declared.ending.Ending.TheVariants.{Loop, Exception, Address}
 use Rattle.runs.specs.declared.ending.Until.{Until}
@@ -31,6 +31,12 @@ step_ending until before now =
 abbrev pub ending_after : Until → Machine → ℕ → Option Ending
 ending_after until m zero = state_ending until m
 ending_after until m (suc k) = step_ending until (after_steps k m) (after_steps (suc k) m)
+
+-- a run goes past a state, and need not look at the next for an exception: it doesn't end at the state, whatever was before it, and the step
+-- from there enters no exception
+pub record IsPassed (until : Until) (m : Machine) : Type 0 where
+  pub nowhere : state_ending until m ≡ None
+  pub no_entry : has_entered m (step m) ≡ false
 
 -- a run of steps from a machine ended at the first state that it was to end at, if it came to one: at none of those before, and
 -- where the machine did not stop there, it is said whether and why it ends at the last

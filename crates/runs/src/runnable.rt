@@ -1,12 +1,14 @@
 //! Machines that make steps.
-ghost use Rattle.std.specs.Prelude.{◌≡◌, ◌<◌, ◌≤◌, None, Some, length, IfErr, IfSome, OnOk, OnErr};
+ghost use Rattle.std.specs.Prelude.{◌≡◌, ℕ, ◌<◌, ◌≤◌, None, Some, length, IfErr, IfSome, OnOk, OnErr};
 ghost use Rattle.items.specs.declared.item.What.TheVariants.{In};
 ghost use Rattle.machine.specs.Step.{Machine as State};
 ghost use Rattle.machine.specs.Items.{after};
 ghost use Rattle.machine.specs.Replies.{bytes_at};
 ghost use Rattle.guest_log.specs.declared.stop.Stop.{Stop};
+ghost use Rattle.runs.specs.Endings.{IsPassed};
 ghost use Rattle.runs.specs.Runs.{after_steps};
 
+use crate::Until;
 use guest_log::Stop;
 use mips_step::View;
 
@@ -36,6 +38,18 @@ pub trait Runnable {
         ensures state { state self.new ≡ after_steps result.0 (state self.old) }
         ensures kept { kept self.new ≡ kept self.old }
         ensures reason { IfSome result.1 (may_stop self.new) };
+
+    /// Makes steps, at most `count`, for a run that is to end at the first state of some kinds, and answers how many: it goes past each
+    /// state that it makes one from. It may end anywhere, and may well answer 0; a machine that can't tell such states while it makes many
+    /// steps at once makes none.
+    fn steps_past(&mut self, count: u32, _until: &Until) -> u32
+        ensures few { result ≤ count }
+        ensures state { state self.new ≡ after_steps result (state self.old) }
+        ensures passed { (k : ℕ) → k < result → IsPassed _until.now (after_steps k (state self.old)) }
+        ensures kept { kept self.new ≡ kept self.old }
+    {
+        0
+    }
 
     /// Takes a byte of console input, for which the console has room, or says why it stops; then the state is as before.
     fn feed(&mut self, byte: u8) -> Result<(), Stop>

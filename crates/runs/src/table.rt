@@ -3,7 +3,7 @@ ghost use Rattle.std.specs.Prelude.{◌≡◌, ◌≤◌, ◌^◌, ◌<◌, None
 ghost use Rattle.elf32.specs.Images.{FitsPages};
 ghost use Rattle.items.specs.declared.item.What.TheVariants.{In};
 ghost use Rattle.machine.specs.Step.{step};
-ghost use Rattle.machine.specs.Boot.{boot_machine_as};
+ghost use Rattle.machine.specs.Boot.{boot_machine};
 ghost use Rattle.machine.specs.Items.{after};
 ghost use Rattle.runs.specs.Runs.{after_steps};
 
@@ -44,10 +44,10 @@ impl Table {
     ) -> Result<Table, AllocError>
         requires fits { FitsPages image.now pages }
         requires few { pages ≤ 2 ^ 20 }
-        ensures { IfOk result (λ t. t ≡ boot_machine_as profile image.now pages) }
+        ensures { IfOk result (λ t. t ≡ boot_machine profile image.now pages) }
     {
         Ok(Table {
-            cpu: Cpu::boot_as(profile, image.entry),
+            cpu: Cpu::boot(profile, image.entry),
             bus: FlatBus::boot(alloc, image, pages)?,
         })
     }

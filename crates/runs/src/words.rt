@@ -4,7 +4,7 @@ ghost use Rattle.runs.specs.Loops as spec;
 
 use crate::{NoPlace, Runnable};
 use machine::Kind;
-use word32::{page_of, word_at};
+use word32::word_at;
 
 /// The word that a fetch at a virtual address would give, where it would raise no exception and touch no page that is given to the balloon.
 pub fn fetched_word<M: Runnable>(machine: &M, address: u32) -> Option<u32>
@@ -21,7 +21,7 @@ pub fn fetched_word<M: Runnable>(machine: &M, address: u32) -> Option<u32>
     else {
         return None;
     };
-    if view.devices.is_given(page_of(at)) {
+    if view.devices.is_given(at.page()) {
         return None;
     }
     word_read(machine, address)

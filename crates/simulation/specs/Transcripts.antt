@@ -7,7 +7,7 @@ use Rattle.world.specs.All.{AllStay, AreBooted, AreHeldByDigest, GuestPage, Happ
 use Rattle.rand_core.specs.Steps.{stream_of, steps_u32}
 use Rattle.rand_core.specs.Pcg32Seed.{pcg32_seed}
 use Rattle.rand_pcg.specs.Pcg.{pcg32, pcg32_of_seed}
-use Rattle.machine.specs.Boot.{boot_machine_as}
+use Rattle.machine.specs.Boot.{boot_machine}
 use Rattle.swapstore.specs.Memories.{Inverts}
 use Rattle.reclaim.specs.declared.level.Level.TheVariants.{High}
 use Rattle.dump.specs.Dumps.{dump_text}
@@ -144,7 +144,7 @@ AllShow any boots logs (e ∷ es) (s ∷ ss) =
 
 -- the machine that a guest's image boots in a memory of its own
 abbrev pub machine_of : NewGuest → Machine
-machine_of guest = boot_machine_as guest.profile guest.image.value guest.pages
+machine_of guest = boot_machine guest.profile guest.image.value guest.pages
 
 -- ---- the whole
 

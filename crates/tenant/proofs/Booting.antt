@@ -21,7 +21,7 @@ use Rattle.machine.specs.Items.{run}
 use Rattle.guest_bus.specs.Buses.{GuestBusIs}
 use Rattle.machine.proofs.Clearing.{length-zeros}
 use Rattle.mips_cp0.specs.declared.profile.Profile.{Profile}
-use Rattle.machine.specs.Boot.{placed, boot_memory, boot_machine_as}
+use Rattle.machine.specs.Boot.{placed, boot_memory, boot_machine}
 use Rattle.guest_pages.specs.declared.page.Page.{Page}
 use Rattle.guest_pages.specs.declared.page.Page.TheVariants as page
 use Rattle.guest_pages.specs.declared.page.PageKind.TheVariants as kind
@@ -304,10 +304,10 @@ boot_length : (image : Image) (count : ℕ) → FitsPages image count → length
 boot_length image count fits = fold_size image.segments.items (zeros (count * 4096)) (count * 4096) (length-zeros (count * 4096)) (λ k d h. fits k d h)
 
 pub booted_run : (held : ℕ → Option (List ℕ)) (profile : Profile) (image : Image) (count : ℕ) (g : GuestIs) → FitsPages image count → length g.bus.pages ≡ count
-    → g.boot ≡ boot_machine_as profile image count → g.log.items ≡ [] → g.cpu ≡ g.boot.cpu → g.bus.devices ≡ g.boot.board.devices
+    → g.boot ≡ boot_machine profile image count → g.log.items ≡ [] → g.cpu ≡ g.boot.cpu → g.bus.devices ≡ g.boot.board.devices
     → AreLoaded held image count count g.bus.pages → Intact g × Kept held (pages_seen (view_of g)) g.bus.pages
 booted_run held profile image count g fits size boot none cpu devices loaded =
-    let view : view_of g ≡ boot_machine_as profile image count = ap (λ (items : List Item). run items g.boot) none ∙ boot in
+    let view : view_of g ≡ boot_machine profile image count = ap (λ (items : List Item). run items g.boot) none ∙ boot in
     let faithful : Faithful (boot_page image count) g.bus.pages = λ p inside. loaded.faithful p (omega (arith, inside, size)) inside in (
       booted_intact g none cpu devices
           (ap (λ (m : Machine). length m.board.memory) boot ∙ boot_length image count fits ∙ sym (ap (λ (n : ℕ). n * 4096) size))
@@ -319,12 +319,12 @@ booted_run held profile image count g fits size boot none cpu devices loaded =
     )
 
 pub loaded_run : (held : ℕ → Option (List ℕ)) (profile : Profile) (image its_image loaded_image : Image) (count : ℕ) (g g' : GuestIs) → FitsPages image count → its_image ≡ image → loaded_image ≡ image
-    → g.cpu ≡ g.boot.cpu → g.bus ≡ record { pages = replicate count page.Zero; devices = fresh_devices count; waiting = None } → g.boot ≡ boot_machine_as profile its_image count → g.log.items ≡ []
+    → g.cpu ≡ g.boot.cpu → g.bus ≡ record { pages = replicate count page.Zero; devices = fresh_devices count; waiting = None } → g.boot ≡ boot_machine profile its_image count → g.log.items ≡ []
     → without_pages g' ≡ without_pages g → length g'.bus.pages ≡ length g.bus.pages
     → AreLoaded held loaded_image (length g.bus.pages) (length g.bus.pages) g'.bus.pages → Intact g' × Kept held (pages_seen (view_of g')) g'.bus.pages
 loaded_run held profile image its_image loaded_image count g g' fits its same cpu bus boot none beside size loaded =
     let counted : length g.bus.pages ≡ count = ap (λ (b : GuestBusIs). length b.pages) bus ∙ length-replicate count page.Zero in
-    let boots : g'.boot ≡ boot_machine_as profile image count = ap (λ (h : GuestIs). h.boot) beside ∙ boot ∙ ap (λ (i : Image). boot_machine_as profile i count) its in
+    let boots : g'.boot ≡ boot_machine profile image count = ap (λ (h : GuestIs). h.boot) beside ∙ boot ∙ ap (λ (i : Image). boot_machine profile i count) its in
     booted_run held profile image count g' fits (size ∙ counted) boots (ap (λ (h : GuestIs). h.log.items) beside ∙ none)
     (ap (λ (h : GuestIs). h.cpu) beside ∙ cpu ∙ sym (ap (λ (h : GuestIs). h.boot.cpu) beside))
     (ap (λ (h : GuestIs). h.bus.devices) beside ∙ ap (λ (b : GuestBusIs). b.devices) bus ∙ sym (ap (λ (m : Machine). m.board.devices) boots))

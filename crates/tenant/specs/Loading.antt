@@ -4,7 +4,7 @@ use Rattle.frames.specs.FreeList.{FreeList}
 use Rattle.elf32.specs.declared.image.Image.{Image}
 use Rattle.machine.specs.Board.{page_bytes}
 use Rattle.mips_cp0.specs.declared.profile.Profile.{Profile}
-use Rattle.machine.specs.Boot.{boot_machine_as, boot_memory}
+use Rattle.machine.specs.Boot.{boot_machine, boot_memory}
 use Rattle.guest_pages.specs.declared.page.Page.{Page}
 use Rattle.guest_pages.specs.declared.page.Page.TheVariants.{Zero}
 use Rattle.guest_pages.specs.declared.page.PageKind.TheVariants.{Private, Swapped}
@@ -24,7 +24,7 @@ boot_page image count p = page_bytes p (boot_memory image count)
 -- A guest of a profile is at the boot of an image in a memory of its own of so many pages, with a log of at most so many runs, and nothing has happened
 -- to it; it has no seat, and a page that the image doesn't reach was never touched.
 pub record IsAtBoot (profile : Profile) (image : Image) (count log_runs : ℕ) (g : GuestIs) : Type 0 where
-  pub boot : g.boot ≡ boot_machine_as profile image count
+  pub boot : g.boot ≡ boot_machine profile image count
   pub items : g.log.items ≡ []
   pub limit : g.log.limit ≡ log_runs
   pub seats : g.seats ≡ 0

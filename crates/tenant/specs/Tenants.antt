@@ -5,7 +5,7 @@ use Rattle.items.specs.declared.item.Item.{Item}
 use Rattle.items.specs.Entries.{steps_of}
 use Rattle.elf32.specs.declared.image.Image.{Image}
 use Rattle.mips_cp0.specs.declared.profile.Profile.{Profile}
-use Rattle.machine.specs.Boot.{boot_machine_as}
+use Rattle.machine.specs.Boot.{boot_machine}
 use Rattle.guest_pages.specs.declared.page.Page.{Page}
 use Rattle.guest_pages.specs.declared.page.Page.TheVariants.{Zero}
 use Rattle.guest_pages.specs.Pages.{page_at}
@@ -89,7 +89,7 @@ pub record NothingHappens (t t' : TenantIs) : Type 0 where
 
 -- it is of a profile and at the boot of an image in a memory of its own of so many pages, and nothing has happened to it
 pub record IsBooted (profile : Profile) (image : Image) (count shares minimum log_runs : ℕ) (t : TenantIs) : Type 0 where
-  pub boot : t.guest.boot ≡ boot_machine_as profile image count
+  pub boot : t.guest.boot ≡ boot_machine profile image count
   pub items : t.guest.log.items ≡ []
   pub limit : t.guest.log.limit ≡ log_runs
   pub shares_are : t.shares ≡ shares

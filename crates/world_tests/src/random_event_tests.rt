@@ -227,7 +227,7 @@ fn compare(rt: &impl Abort, alloc: Global, world: &World<MemStore>, g: usize) {
     if !image.fits(PAGES) {
         panic!(rt; "the image has no room");
     }
-    let Ok(mut flat) = Flat::boot(alloc, &image, PAGES) else {
+    let Ok(mut flat) = Flat::boot(alloc, Profile::One, &image, PAGES) else {
         panic!(rt; "no memory for the reference machine");
     };
     replay(rt, &mut flat, guest.log());

@@ -188,7 +188,8 @@ static STATES: [State; 4] = [
 
 fn check_probes(rt: &impl Abort, flat: &Flat, state: &str, probes: &[(u32, Option<u32>)]) {
     for (address, place) in probes {
-        expect(rt, (state, *address), flat.probe(*address), *place);
+        let found = flat.probe(*address).map(|at| at.number());
+        expect(rt, (state, *address), found, *place);
     }
 }
 

@@ -51,7 +51,7 @@ impl Table {
     ) -> Result<Table, Fail> {
         assert!(rt; image.fits(PAGES), "{name}");
         Ok(Table {
-            cpu: Cpu::boot_as(profile, image.entry),
+            cpu: Cpu::boot(profile, image.entry),
             bus: FlatBus::boot(rt.alloc(), image, PAGES)?,
         })
     }

@@ -127,7 +127,7 @@ pub fn boot_table_machine<R: AllocGlobal + Abort>(
     pages: u32,
 ) -> Result<Flat, Fail> {
     assert!(rt; image.fits(pages) && pages <= MOST_PAGES, "{name}");
-    Ok(Flat::boot_as(rt.alloc(), profile, image, pages)?)
+    Ok(Flat::boot(rt.alloc(), profile, image, pages)?)
 }
 
 /// A world of one guest of a profile and of so many pages, at least 2, which have to hold the image. It has a frame for each of them and one more, and

@@ -1,6 +1,6 @@
 //! Tables of the registers, of exception entry, of the timer and of the interrupts.
 use super::expect;
-use mips_cp0::{Coprocessor, Cp0, Exc};
+use mips_cp0::{Coprocessor, Cp0, Exc, Profile};
 use std::process::Abort;
 
 // Number, select, and what a read gives at boot, after a write of FFFFFFFF, and after one of 00000000.
@@ -27,7 +27,7 @@ static REGISTERS: [(u32, u32, u32, u32, u32); 18] = [
 
 // What a register reads as at boot, after a write of FFFFFFFF, and after one of 00000000.
 fn reads(number: u32, select: u32) -> (u32, u32, u32) {
-    let mut cp0 = Cp0::boot();
+    let mut cp0 = Cp0::boot(Profile::One);
     let boot = cp0.read(number, select, 0);
     cp0.write(number, select, 0xffff_ffff);
     let ones = cp0.read(number, select, 0);
@@ -75,7 +75,7 @@ fn registers_are_untouched(rt: &impl Abort, cp0: &Cp0) {
 
 #[test]
 fn other_numbers_read_zero(rt: HostRuntime) {
-    let mut cp0 = Cp0::boot();
+    let mut cp0 = Cp0::boot(Profile::One);
     for number in 0..32 {
         others_read_zero(&rt, &mut cp0, number);
     }
@@ -94,7 +94,7 @@ static LINES: [(u8, u32); 6] = [
 
 #[test]
 fn cause_shows_the_lines(rt: HostRuntime) {
-    let mut cp0 = Cp0::boot();
+    let mut cp0 = Cp0::boot(Profile::One);
     for row in &LINES {
         let (lines, shown) = *row;
         expect(&rt, ("lines", lines), cp0.read(13, 0, lines), shown);
@@ -224,7 +224,7 @@ static EXCEPTIONS: [(Exc, u32, u32, u32, Option<u32>, bool); 18] = [
 // The registers after an exception in the delay slot at 80001000 that names coprocessor 2, within its handler or after
 // the return from it.
 fn after_an_exception(nested: bool, bootstrap: bool) -> Cp0 {
-    let mut cp0 = Cp0::boot();
+    let mut cp0 = Cp0::boot(Profile::One);
     cp0.write(12, 0, if bootstrap { 0x0040_0000 } else { 0 });
     cp0.write(4, 0, 0xabff_ffff);
     cp0.write(10, 0, 0xffff_ffff);
@@ -329,7 +329,7 @@ fn interrupts_have_a_vector(rt: HostRuntime) {
         (Exc::Syscall, 0, 0x0080_0000, 0x8000_0180),
         (Exc::Syscall, 0x0040_0000, 0x0080_0000, 0xbfc0_0380),
     ] {
-        let mut cp0 = Cp0::boot();
+        let mut cp0 = Cp0::boot(Profile::One);
         cp0.write(12, 0, status);
         cp0.write(13, 0, cause);
         expect(
@@ -348,7 +348,7 @@ fn refill_of_user_mode(rt: HostRuntime) {
         address: 0x0040_3004,
         refill: true,
     };
-    let mut cp0 = Cp0::boot();
+    let mut cp0 = Cp0::boot(Profile::One);
     cp0.write(12, 0, 0x10);
     let vector = cp0.enter(exc, 0x0040_0000, false);
     expect(&rt, "vector", vector, 0x8000_0000);
@@ -366,7 +366,7 @@ fn refill_of_user_mode(rt: HostRuntime) {
         ],
     );
 
-    let mut nested = Cp0::boot();
+    let mut nested = Cp0::boot(Profile::One);
     nested.write(12, 0, 0x12);
     nested.write(14, 0, 0x1234_5678);
     let vector = nested.enter(exc, 0x0040_0000, false);
@@ -382,7 +382,7 @@ fn eret_returns(rt: HostRuntime) {
         (0x0000_0006, 0x0000_0002, 0x8000_2000),
         (0x0000_0014, 0x0000_0010, 0x8000_2000),
     ] {
-        let mut cp0 = Cp0::boot();
+        let mut cp0 = Cp0::boot(Profile::One);
         cp0.write(12, 0, status);
         cp0.write(14, 0, 0x8000_1000);
         cp0.write(30, 0, 0x8000_2000);
@@ -394,7 +394,7 @@ fn eret_returns(rt: HostRuntime) {
 // Compare is 6 and the timer's interrupt is enabled by the fourth instruction; the sixth is not begun.
 #[test]
 fn timer_interrupts(rt: HostRuntime) {
-    let mut cp0 = Cp0::boot();
+    let mut cp0 = Cp0::boot(Profile::One);
     timer_is_not_due(&rt, &mut cp0);
     timer_is_due(&rt, &mut cp0);
     timer_is_cleared(&rt, &mut cp0);
@@ -494,7 +494,7 @@ static SOURCES: [(u32, u8, u32); 5] = [
 fn interrupts_are_enabled(rt: HostRuntime) {
     for row in &SOURCES {
         let (source, lines, mask) = *row;
-        let mut cp0 = Cp0::boot();
+        let mut cp0 = Cp0::boot(Profile::One);
         cp0.write(13, 0, source);
         enabled_by_its_mask(&rt, &mut cp0, lines, mask);
         cp0.write(12, 0, 0x0000_ff01);
@@ -523,7 +523,7 @@ fn goes_round_twice(rt: &impl Abort, cp0: &mut Cp0, wired: u32) {
 
 #[test]
 fn random_goes_round(rt: HostRuntime) {
-    let mut cp0 = Cp0::boot();
+    let mut cp0 = Cp0::boot(Profile::One);
     cp0.tick();
     expect(&rt, "one instruction after boot", cp0.read(1, 0, 0), 14);
     for wired in [0, 5, 15] {
@@ -533,7 +533,7 @@ fn random_goes_round(rt: HostRuntime) {
 
 // Whether a Status is of user mode, and which of the three coprocessors it makes usable.
 fn mode_of(status: u32) -> (bool, [bool; 3]) {
-    let mut cp0 = Cp0::boot();
+    let mut cp0 = Cp0::boot(Profile::One);
     cp0.write(12, 0, status);
     (
         cp0.is_user_mode(),
@@ -599,7 +599,7 @@ fn entry_registers(cp0: &Cp0) -> ([u32; 3], u8) {
 
 #[test]
 fn registers_of_the_tlb(rt: HostRuntime) {
-    let mut cp0 = Cp0::boot();
+    let mut cp0 = Cp0::boot(Profile::One);
     index_is_kept(&rt, &mut cp0);
     cp0.set_entry(0x0040_2005, 0x83, 0x01);
     let entry = ([0x0040_2005, 0x83, 0x01], 5);

@@ -3,6 +3,7 @@ use super::expect;
 use super::sparse::Sparse;
 use items::DebugRegister;
 use machine::StepOut;
+use mips_cp0::Profile;
 use mips_isa::Reg;
 use mips_step::Cpu;
 use std::process::Abort;
@@ -73,7 +74,7 @@ fn writes_in_turn(rt: &impl Abort, cpu: &mut Cpu, start: State, writes: &[(u8, u
 #[test]
 fn a_debugger_writes_each_register(rt: HostRuntime) -> Result<(), Fail> {
     let mut bus = Sparse::new(&rt, &WORDS)?;
-    let mut cpu = Cpu::boot(0x8000_0000);
+    let mut cpu = Cpu::boot(Profile::One, 0x8000_0000);
     let slot = Some(0x8000_0008);
     let branched = (cpu.step(&mut bus), cpu.slot());
     expect(&rt, "the branch", branched, (StepOut::Done, slot));
@@ -85,7 +86,7 @@ fn a_debugger_writes_each_register(rt: HostRuntime) -> Result<(), Fail> {
 #[test]
 fn a_debugger_writes_after_an_exception(rt: HostRuntime) -> Result<(), Fail> {
     let mut bus = Sparse::new(&rt, &WORDS)?;
-    let mut cpu = Cpu::boot(0x8000_0000);
+    let mut cpu = Cpu::boot(Profile::One, 0x8000_0000);
     let steps = (cpu.step(&mut bus), cpu.step(&mut bus));
     expect(&rt, "the steps", steps, (StepOut::Done, StepOut::Done));
     writes_in_turn(&rt, &mut cpu, AFTER_THE_LOAD, &WRITES_AFTER_THE_LOAD);

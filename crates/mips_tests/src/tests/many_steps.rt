@@ -9,6 +9,7 @@ mod pages;
 use super::expect;
 use super::sparse::Sparse;
 use case::Case;
+use mips_cp0::Profile;
 use mips_fast::{RunCache, run};
 use mips_isa::Reg;
 use mips_step::Cpu;
@@ -26,7 +27,7 @@ struct Machine {
 /// The machine of a case, after the steps that are made first.
 fn booted(rt: &impl AllocGlobal, case: &Case) -> Result<Machine, Fail> {
     let mut machine = Machine {
-        cpu: Cpu::boot(0x8000_0000),
+        cpu: Cpu::boot(Profile::One, 0x8000_0000),
         bus: Sparse::new(rt, case.words)?,
     };
     step_by_step(&mut machine, case.before);

@@ -22,10 +22,10 @@ fn profiles_have_their_numbers(rt: HostRuntime) {
         let got = (numbers.number, numbers.entries, numbers.most_pages);
         expect(&rt, number, got, (number, last + 1, pages));
         expect(&rt, number, Profile::of_number(number), Some(profile));
-        let cp0 = Cp0::boot_as(profile);
+        let cp0 = Cp0::boot(profile);
         let shown = [cp0.read(1, 0, 0), cp0.read(16, 0, 0), cp0.read(16, 1, 0)];
         expect(&rt, number, shown, [last, 0x8000_0082, config1]);
-        expect(&rt, number, Tlb::boot_as(profile).len() as u32, last + 1);
+        expect(&rt, number, Tlb::boot(profile).len() as u32, last + 1);
     }
     for number in [0, 3, 0xffff_ffff] {
         expect(&rt, number, Profile::of_number(number), None);
@@ -34,7 +34,7 @@ fn profiles_have_their_numbers(rt: HostRuntime) {
 
 /// What MTC0 leaves in Index and Wired, and Random after it.
 fn masks(profile: Profile, value: u32) -> [u32; 3] {
-    let mut cp0 = Cp0::boot_as(profile);
+    let mut cp0 = Cp0::boot(profile);
     cp0.tick();
     cp0.write(0, 0, value);
     cp0.write(6, 0, value);
@@ -60,8 +60,8 @@ fn index_and_wired_have_their_masks(rt: HostRuntime) {
 /// Random so many instructions after a write of Wired, and the entry that TLBWR writes then, by a search for its address.
 #[tactic(auto, using(mips_tlb::proofs::Used::boot_together))]
 fn written_at_random(profile: Profile, wired: u32, ticks: u32) -> (u32, Option<usize>) {
-    let mut tlb = Tlb::boot_as(profile);
-    let mut cp0 = Cp0::boot_as(profile);
+    let mut tlb = Tlb::boot(profile);
+    let mut cp0 = Cp0::boot(profile);
     cp0.write(6, 0, wired);
     cp0.advance(ticks);
     cp0.write(10, 0, 0x0040_0000);
@@ -98,7 +98,7 @@ fn entries_are_written_at_random(rt: HostRuntime) {
 /// Register 1 after `mfc0 $1,$1,0`, the first step of a profile.
 fn random_read<R: AllocGlobal>(rt: &R, profile: Profile) -> Result<u32, Fail> {
     let mut bus = Sparse::new(rt, &[(0, 0x4001_0800)])?;
-    let mut cpu = Cpu::boot_as(profile, 0x8000_0000);
+    let mut cpu = Cpu::boot(profile, 0x8000_0000);
     cpu.step(&mut bus);
     Ok(cpu.reg(Reg::new(1)))
 }
@@ -121,7 +121,7 @@ static OVERFLOWS: [(u32, u32); 4] = [
 #[test]
 fn snapshot_goes_on_alike(rt: HostRuntime) -> Result<(), Fail> {
     let mut bus = Sparse::new(&rt, &OVERFLOWS)?;
-    let mut cpu = Cpu::boot_as(Profile::Two, 0x8000_0000);
+    let mut cpu = Cpu::boot(Profile::Two, 0x8000_0000);
     for _ in 0..3 {
         cpu.step(&mut bus);
     }

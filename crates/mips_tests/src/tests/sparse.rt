@@ -7,14 +7,16 @@ ghost use Rattle.machine.specs.Bus.{ready_answer};
 ghost use Rattle.machine.specs.declared.access.Why.TheVariants.{First};
 
 use devices::{DeviceRegister, Devices};
-use machine::{Kind, PhysBus, Ppn, Refusal, Size, Why};
+use machine::{Kind, PhysAddr, PhysBus, Ppn, Refusal, Size, Why};
 use mips_alu::{store_left, store_right};
 use std::marker::Model;
 use std::test::Fail;
-use word32::{half_at, page_of, put_half, put_word, word_at};
+use word32::{PAGE_SIZE, half_at, put_half, put_word, word_at};
 
 /// How many bytes the memory has: two pages.
-const SIZE: usize = 8192;
+const SIZE: usize = 2 * PAGE_BYTES;
+/// How many bytes of the memory a page has.
+const PAGE_BYTES: usize = PAGE_SIZE as usize;
 
 /// Two pages of memory with their devices. One page may be absent.
 #[derive(Drop)]
@@ -76,7 +78,7 @@ fn put_words(bytes: &mut [u8], words: &[(u32, u32)])
 }
 
 /// The first byte that an access reaches, and how many bytes there are.
-fn reached(size: Size, at: u32) -> (u32, usize)
+fn reached(size: Size, at: PhysAddr) -> (PhysAddr, usize)
     ensures first { result.0 ≡ first_byte size at }
     ensures count { result.1 ≡ bytes_of size }
 {
@@ -84,16 +86,16 @@ fn reached(size: Size, at: u32) -> (u32, usize)
         Size::Byte => (at, 1),
         Size::Half => (at, 2),
         Size::Word => (at, 4),
-        Size::Left | Size::Right => (at / 4 * 4, 4),
+        Size::Left | Size::Right => (at.word(), 4),
     }
 }
 
 /// Whether an access outside memory is answered.
-fn ready_outside(at: u32, size: Size, kind: Kind) -> Result<(), Refusal>
+fn ready_outside(at: PhysAddr, size: Size, kind: Kind) -> Result<(), Refusal>
     ensures { result ≡ ready_answer (device_reach kind size at) None (page_number at) }
 {
     match (kind, size) {
-        (Kind::Load | Kind::Store, Size::Word) => match DeviceRegister::at(at) {
+        (Kind::Load | Kind::Store, Size::Word) => match DeviceRegister::at(at.number()) {
             Some(_) => Ok(()),
             None => Err(Refusal::Bus),
         },
@@ -101,36 +103,36 @@ fn ready_outside(at: u32, size: Size, kind: Kind) -> Result<(), Refusal>
     }
 }
 
-fn value_at(bytes: &[u8], size: Size, at: u32) -> u32
+fn value_at(bytes: &[u8], size: Size, at: PhysAddr) -> u32
     requires { first_byte size at + bytes_of size ≤ length bytes.now }
     ensures value { result ≡ value_in bytes.now size at }
     ensures small { result < limit_of size }
 {
     match size {
-        Size::Byte => u32::from(bytes[at as usize]),
-        Size::Half => u32::from(half_at(bytes, at as usize)),
-        Size::Word => word_at(bytes, at as usize),
-        Size::Left | Size::Right => word_at(bytes, (at / 4 * 4) as usize),
+        Size::Byte => u32::from(bytes[at.index()]),
+        Size::Half => u32::from(half_at(bytes, at.index())),
+        Size::Word => word_at(bytes, at.index()),
+        Size::Left | Size::Right => word_at(bytes, at.word().index()),
     }
 }
 
-fn put_value(bytes: &mut [u8], size: Size, at: u32, value: u32)
+fn put_value(bytes: &mut [u8], size: Size, at: PhysAddr, value: u32)
     requires { first_byte size at + bytes_of size ≤ length bytes.old }
     ensures value { bytes.new ≡ bytes_after size value at bytes.old }
     ensures length { length bytes.new ≡ length bytes.old }
 {
     match size {
-        Size::Byte => bytes[at as usize] = (value % 0x100) as u8,
-        Size::Half => put_half(bytes, at as usize, (value % 0x1_0000) as u16),
-        Size::Word => put_word(bytes, at as usize, value),
+        Size::Byte => bytes[at.index()] = (value % 0x100) as u8,
+        Size::Half => put_half(bytes, at.index(), (value % 0x1_0000) as u16),
+        Size::Word => put_word(bytes, at.index(), value),
         Size::Left => {
-            let first = (at / 4 * 4) as usize;
-            let word = store_left(word_at(bytes, first), value, at % 4);
+            let first = at.word().index();
+            let word = store_left(word_at(bytes, first), value, at.byte_of_word());
             put_word(bytes, first, word);
         }
         Size::Right => {
-            let first = (at / 4 * 4) as usize;
-            let word = store_right(word_at(bytes, first), value, at % 4);
+            let first = at.word().index();
+            let word = store_right(word_at(bytes, first), value, at.byte_of_word());
             put_word(bytes, first, word);
         }
     }
@@ -148,8 +150,8 @@ fn clear_page(bytes: &mut [u8], page: Ppn)
     ensures cleared { bytes.new ≡ page_cleared page bytes.old }
     ensures length { length bytes.new ≡ length bytes.old }
 {
-    let start = page.number() as usize * 4096;
-    clear(&mut bytes[start..start + 4096]);
+    let start = page.number() as usize * PAGE_BYTES;
+    clear(&mut bytes[start..start + PAGE_BYTES]);
 }
 
 impl PhysBus for Sparse {
@@ -163,10 +165,10 @@ impl PhysBus for Sparse {
 
     ghost waiting = { λ s page. Unit {0} };
 
-    fn ready(&self, at: u32, size: Size, kind: Kind) -> Result<(), Refusal> {
+    fn ready(&self, at: PhysAddr, size: Size, kind: Kind) -> Result<(), Refusal> {
         let (first, count) = reached(size, at);
-        let page = page_of(at);
-        if first as usize + count > self.bytes.len() {
+        let page = at.page();
+        if first.index() + count > self.bytes.len() {
             ready_outside(at, size, kind)
         } else if page.number() == self.absent {
             Err(Refusal::Need(page, Why::First))
@@ -175,42 +177,42 @@ impl PhysBus for Sparse {
         }
     }
 
-    fn is_plain(&self, at: u32, size: Size, _kind: Kind) -> bool {
+    fn is_plain(&self, at: PhysAddr, size: Size, _kind: Kind) -> bool {
         let (first, count) = reached(size, at);
-        let page = page_of(at);
-        first as usize + count <= self.bytes.len()
+        let page = at.page();
+        first.index() + count <= self.bytes.len()
             && page.number() != self.absent
             && !self.devices.is_given(page)
     }
 
-    fn peek(&self, at: u32) -> u32 {
-        word_at(&self.bytes, at as usize)
+    fn peek(&self, at: PhysAddr) -> u32 {
+        word_at(&self.bytes, at.index())
     }
 
-    fn fetch(&mut self, at: u32) -> u32 {
-        self.devices.touch(page_of(at));
-        word_at(&self.bytes, at as usize)
+    fn fetch(&mut self, at: PhysAddr) -> u32 {
+        self.devices.touch(at.page());
+        word_at(&self.bytes, at.index())
     }
 
-    fn load(&mut self, at: u32, size: Size) -> u32 {
+    fn load(&mut self, at: PhysAddr, size: Size) -> u32 {
         let (first, count) = reached(size, at);
-        if first as usize + count <= self.bytes.len() {
-            self.devices.touch(page_of(at));
+        if first.index() + count <= self.bytes.len() {
+            self.devices.touch(at.page());
             value_at(&self.bytes, size, at)
         } else {
-            match DeviceRegister::at(at) {
+            match DeviceRegister::at(at.number()) {
                 Some(register) => self.devices.load(register),
                 None => unreachable!(),
             }
         }
     }
 
-    fn load_plain(&self, at: u32, size: Size) -> u32 {
+    fn load_plain(&self, at: PhysAddr, size: Size) -> u32 {
         value_at(&self.bytes, size, at)
     }
 
     #[tactic(auto, using(machine::proofs::Plain::plain_memory_stored))]
-    fn store_plain(&mut self, at: u32, size: Size, value: u32) {
+    fn store_plain(&mut self, at: PhysAddr, size: Size, value: u32) {
         put_value(&mut self.bytes, size, at, value);
     }
 
@@ -218,16 +220,16 @@ impl PhysBus for Sparse {
         self.devices.lines()
     }
 
-    fn look(&self, at: u32) -> u8 {
-        self.bytes[at as usize]
+    fn look(&self, at: PhysAddr) -> u8 {
+        self.bytes[at.index()]
     }
 
-    fn store(&mut self, at: u32, size: Size, value: u32) {
+    fn store(&mut self, at: PhysAddr, size: Size, value: u32) {
         let (first, count) = reached(size, at);
-        if first as usize + count <= self.bytes.len() {
-            self.devices.touch(page_of(at));
+        if first.index() + count <= self.bytes.len() {
+            self.devices.touch(at.page());
             put_value(&mut self.bytes, size, at, value);
-        } else if let Some(register) = DeviceRegister::at(at) {
+        } else if let Some(register) = DeviceRegister::at(at.number()) {
             if let Some(page) = self.devices.store(register, value) {
                 clear_page(&mut self.bytes, page);
             }

@@ -2,7 +2,7 @@
 use super::expect;
 use super::sparse::Sparse;
 use machine::{Ppn, StepOut, Why};
-use mips_cp0::SystemRegister;
+use mips_cp0::{Profile, SystemRegister};
 use mips_isa::Reg;
 use mips_step::Cpu;
 use std::process::Abort;
@@ -56,7 +56,7 @@ fn steps_stop(rt: &impl Abort, cpu: &mut Cpu, bus: &mut Sparse) {
 #[test]
 fn a_lacking_page_stops_a_step_before_anything_changes(rt: HostRuntime) -> Result<(), Fail> {
     let mut bus = Sparse::new(&rt, &WORDS)?;
-    let mut cpu = Cpu::boot(0x8000_0000);
+    let mut cpu = Cpu::boot(Profile::One, 0x8000_0000);
     steps_stop(&rt, &mut cpu, &mut bus);
     let after = (0x8000_0010, 0x1234_5678, Some(0x1234_5678));
     expect(&rt, "after the steps", state(&cpu, &bus), after);
@@ -71,7 +71,7 @@ fn exception(cpu: &Cpu) -> [u32; 4] {
 
 /// Past memory no page is lacking, whatever the bus says of its number.
 fn past_memory(rt: &impl Abort, bus: &mut Sparse) {
-    let mut cpu = Cpu::boot(0x8000_2000);
+    let mut cpu = Cpu::boot(Profile::One, 0x8000_2000);
     let got = (cpu.need(bus), cpu.step(bus), exception(&cpu));
     let registers = [0x8000_0180, 0x8000_2000, 6 << 2, 0];
     expect(rt, "past memory", got, (None, StepOut::Done, registers));
@@ -79,7 +79,7 @@ fn past_memory(rt: &impl Abort, bus: &mut Sparse) {
 
 /// An address that is not aligned, before its page is asked for.
 fn not_aligned(rt: &impl Abort, bus: &mut Sparse) {
-    let mut cpu = Cpu::boot(0x8000_0000);
+    let mut cpu = Cpu::boot(Profile::One, 0x8000_0000);
     bus.leave_out(0);
     let need = Some((Ppn::new(0), Why::First));
     expect(rt, "the fetch's page", cpu.need(bus), need);
@@ -134,7 +134,7 @@ fn slot_is_left(rt: &impl Abort, cpu: &mut Cpu, bus: &mut Sparse) {
 #[test]
 fn a_lacking_page_leaves_the_delay_slot_and_count(rt: HostRuntime) -> Result<(), Fail> {
     let mut bus = Sparse::new(&rt, &SLOT_WORDS)?;
-    let mut cpu = Cpu::boot(0x8000_0000);
+    let mut cpu = Cpu::boot(Profile::One, 0x8000_0000);
     let branched = (cpu.step(&mut bus), cpu.slot(), cpu.need(&bus));
     let slot = Some(0x8000_0008);
     expect(&rt, "the branch", branched, (StepOut::Done, slot, None));
@@ -159,7 +159,7 @@ static GIVING_WORDS: [(u32, u32); 8] = [
 #[test]
 fn a_page_is_given_by_a_store_and_taken_by_a_load(rt: HostRuntime) -> Result<(), Fail> {
     let mut bus = Sparse::new(&rt, &GIVING_WORDS)?;
-    let mut cpu = Cpu::boot(0x8000_0000);
+    let mut cpu = Cpu::boot(Profile::One, 0x8000_0000);
     for step in 0..7 {
         expect(&rt, step, cpu.step(&mut bus), StepOut::Done);
     }

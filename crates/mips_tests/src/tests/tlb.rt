@@ -2,7 +2,7 @@
 ghost use Rattle.std.specs.Prelude.{◌≡◌, length};
 
 use super::expect;
-use mips_cp0::{Cp0, Exc};
+use mips_cp0::{Cp0, Exc, Profile};
 use mips_tlb::{Entry, Kind, PageHalf, Tlb};
 use std::process::Abort;
 
@@ -19,7 +19,7 @@ const HANDLER: u32 = 0x12;
 fn registers(status: u32, asid: u32) -> Cp0
     ensures { result.last_entry ≡ 15 }
 {
-    let mut cp0 = Cp0::boot();
+    let mut cp0 = Cp0::boot(Profile::One);
     cp0.write(12, 0, status);
     cp0.write(10, 0, asid);
     cp0
@@ -30,7 +30,7 @@ fn with_entry(tlb: &mut Tlb, index: u32, entry_hi: u32, entry_lo0: u32, entry_lo
     requires { length tlb.old ≡ 16 }
     ensures { length tlb.new ≡ 16 }
 {
-    let mut cp0 = Cp0::boot();
+    let mut cp0 = Cp0::boot(Profile::One);
     cp0.write(0, 0, index);
     cp0.write(10, 0, entry_hi);
     cp0.write(2, 0, entry_lo0);
@@ -38,14 +38,24 @@ fn with_entry(tlb: &mut Tlb, index: u32, entry_hi: u32, entry_lo0: u32, entry_lo
     tlb.write_indexed(&cp0);
 }
 
+// The number of the physical address that translation gives, or its exception.
+fn translate(tlb: &Tlb, cp0: &Cp0, address: u32, kind: Kind) -> Result<u32, Exc> {
+    tlb.translate(cp0, address, kind).map(|at| at.number())
+}
+
+// The number of the physical address that a probe gives.
+fn probe(tlb: &Tlb, cp0: &Cp0, address: u32) -> Option<u32> {
+    tlb.probe(cp0, address).map(|at| at.number())
+}
+
 // What a load, a fetch and a probe of an address give in address space 1, by the entries at boot.
 fn at_boot(status: u32, address: u32) -> (Result<u32, Exc>, Result<u32, Exc>, Option<u32>) {
-    let tlb = Tlb::boot();
+    let tlb = Tlb::boot(Profile::One);
     let cp0 = registers(status, 1);
     (
-        tlb.translate(&cp0, address, Kind::Load),
-        tlb.translate(&cp0, address, Kind::Fetch),
-        tlb.probe(&cp0, address),
+        translate(&tlb, &cp0, address, Kind::Load),
+        translate(&tlb, &cp0, address, Kind::Fetch),
+        probe(&tlb, &cp0, address),
     )
 }
 
@@ -103,7 +113,7 @@ static AT_BOOT: [(u32, Kind, Result<u32, Exc>); 1] = [(
 // At boot each entry is that of the pair at 0 in address space 0, with no page valid.
 #[test]
 fn boot_entries_are_not_valid(rt: HostRuntime) {
-    let tlb = Tlb::boot();
+    let tlb = Tlb::boot(Profile::One);
     let cp0 = registers(KERNEL, 0);
     translations(&rt, &tlb, &cp0, &AT_BOOT);
     for (address, asid, index) in [(0x1fff, 0, Some(0)), (0x2000, 0, None), (0, 1, None)] {
@@ -115,7 +125,7 @@ fn boot_entries_are_not_valid(rt: HostRuntime) {
 fn translations(rt: &impl Abort, tlb: &Tlb, cp0: &Cp0, rows: &[(u32, Kind, Result<u32, Exc>)]) {
     for row in rows {
         let (address, kind, answer) = *row;
-        let translated = tlb.translate(cp0, address, kind);
+        let translated = translate(tlb, cp0, address, kind);
         expect(rt, (address, kind), translated, answer);
     }
 }
@@ -204,7 +214,7 @@ static BY_KINDS: [(u32, Kind, Result<u32, Exc>); 12] = [
 
 #[test]
 fn kinds_raise_their_exceptions(rt: HostRuntime) {
-    let mut tlb = Tlb::boot();
+    let mut tlb = Tlb::boot(Profile::One);
     with_entry(&mut tlb, 0, 0x0040_0000, 0x0000_0082, 0x0000_00c4);
     let cp0 = registers(USER, 0);
     translations(&rt, &tlb, &cp0, &BY_KINDS);
@@ -222,13 +232,13 @@ fn probes_answer(rt: &impl Abort, tlb: &Tlb, status: u32) {
     let cp0 = registers(status, 0);
     for row in &PROBES {
         let (address, answer) = *row;
-        expect(rt, (address, status), tlb.probe(&cp0, address), answer);
+        expect(rt, (address, status), probe(tlb, &cp0, address), answer);
     }
 }
 
 #[test]
 fn probe_is_a_kernel_load(rt: HostRuntime) {
-    let mut tlb = Tlb::boot();
+    let mut tlb = Tlb::boot(Profile::One);
     with_entry(&mut tlb, 0, 0xc040_0000, 0x0000_0082, 0x0000_00c4);
     for status in [KERNEL, USER, HANDLER] {
         probes_answer(&rt, &tlb, status);
@@ -254,8 +264,8 @@ fn refill_enters_by(rt: &impl Abort, tlb: &Tlb, cp0: &mut Cp0, vector: u32, epc:
         refill: true,
     };
     let translated = [
-        tlb.translate(cp0, 0x0040_0000, Kind::Fetch),
-        tlb.translate(cp0, 0x0040_3004, Kind::Load),
+        translate(tlb, cp0, 0x0040_0000, Kind::Fetch),
+        translate(tlb, cp0, 0x0040_3004, Kind::Load),
     ];
     let wanted = [Ok(0x0000_2000), Err(exc)];
     expect(rt, ("translations", vector), translated, wanted);
@@ -276,7 +286,7 @@ fn refill_enters_by(rt: &impl Abort, tlb: &Tlb, cp0: &mut Cp0, vector: u32, epc:
 // general one within a handler.
 #[test]
 fn refill_enters(rt: HostRuntime) {
-    let mut tlb = Tlb::boot();
+    let mut tlb = Tlb::boot(Profile::One);
     with_entry(&mut tlb, 0, 0x0040_0000, 0x0000_0083, 0x0000_0001);
     for (status, epc_before, vector, epc) in [
         (0x10, 0, 0x8000_0000, 0x0040_0000),
@@ -290,13 +300,13 @@ fn refill_enters(rt: HostRuntime) {
 
 #[test]
 fn store_to_a_page_not_dirty_enters(rt: HostRuntime) {
-    let mut tlb = Tlb::boot();
+    let mut tlb = Tlb::boot(Profile::One);
     with_entry(&mut tlb, 3, 0x0000_2000, 0x0000_0102, 0x0000_0102);
     let mut cp0 = registers(KERNEL, 0);
     let exc = Exc::Modified {
         address: 0x0000_2000,
     };
-    let stored = tlb.translate(&cp0, 0x0000_2000, Kind::Store);
+    let stored = translate(&tlb, &cp0, 0x0000_2000, Kind::Store);
     expect(&rt, "store", stored, Err(exc));
     let vector = cp0.enter(exc, 0x8000_0000, false);
     expect(&rt, "vector", vector, 0x8000_0180);
@@ -305,11 +315,11 @@ fn store_to_a_page_not_dirty_enters(rt: HostRuntime) {
 
 #[test]
 fn least_index_decides(rt: HostRuntime) {
-    let mut tlb = Tlb::boot();
+    let mut tlb = Tlb::boot(Profile::One);
     with_entry(&mut tlb, 9, 0x0000_2000, 0x0000_0142, 0x0000_0142);
     with_entry(&mut tlb, 3, 0x0000_2000, 0x0000_0102, 0x0000_0102);
     let mut cp0 = registers(KERNEL, 0);
-    let loaded = tlb.translate(&cp0, 0x0000_2000, Kind::Load);
+    let loaded = translate(&tlb, &cp0, 0x0000_2000, Kind::Load);
     let found = (loaded, tlb.find(0x0000_2000, 0));
     expect(&rt, "load and entry", found, (Ok(0x0000_4000), Some(3)));
     cp0.write(10, 0, 0x0000_2000);
@@ -321,8 +331,8 @@ fn least_index_decides(rt: HostRuntime) {
 fn loads(tlb: &Tlb, asid: u32) -> [Result<u32, Exc>; 2] {
     let cp0 = registers(KERNEL, asid);
     [
-        tlb.translate(&cp0, 0x0000_2abc, Kind::Load),
-        tlb.translate(&cp0, 0x0000_3abc, Kind::Load),
+        translate(tlb, &cp0, 0x0000_2abc, Kind::Load),
+        translate(tlb, &cp0, 0x0000_3abc, Kind::Load),
     ]
 }
 
@@ -351,7 +361,7 @@ static GLOBALS: [(u32, u32, bool); 4] = [
 // The loads in an address space by an entry of address space 7 of a row.
 fn space_loads(rt: &impl Abort, row: &(u32, u32, bool), asid: u32) {
     let (lo0, lo1, is_global) = *row;
-    let mut tlb = Tlb::boot();
+    let mut tlb = Tlb::boot(Profile::One);
     with_entry(&mut tlb, 15, 0x0000_2007, lo0, lo1);
     let wanted = if is_global || asid == 7 {
         FOUND
@@ -372,7 +382,7 @@ fn address_spaces(rt: HostRuntime) {
 
 #[test]
 fn halves_and_ends_of_a_pair(rt: HostRuntime) {
-    let mut tlb = Tlb::boot();
+    let mut tlb = Tlb::boot(Profile::One);
     with_entry(&mut tlb, 1, 0xffff_e000, 0x03ff_ffc3, 0x0000_0003);
     let cp0 = registers(KERNEL, 0x33);
     for (address, answer) in [
@@ -388,7 +398,7 @@ fn halves_and_ends_of_a_pair(rt: HostRuntime) {
         (0xffff_f000, Ok(0x0000_0000)),
         (0xffff_ffff, Ok(0x0000_0fff)),
     ] {
-        let loaded = tlb.translate(&cp0, address, Kind::Load);
+        let loaded = translate(&tlb, &cp0, address, Kind::Load);
         expect(&rt, address, loaded, answer);
     }
 }
@@ -397,8 +407,8 @@ fn halves_and_ends_of_a_pair(rt: HostRuntime) {
 fn written(hi: u32, lo0: u32, lo1: u32) -> Tlb
     ensures { length result ≡ 16 }
 {
-    let mut tlb = Tlb::boot();
-    let mut cp0 = Cp0::boot();
+    let mut tlb = Tlb::boot(Profile::One);
+    let mut cp0 = Cp0::boot(Profile::One);
     cp0.write(10, 0, hi);
     cp0.write(2, 0, lo0);
     cp0.write(3, 0, lo1);
@@ -464,7 +474,7 @@ fn entries_are_written_and_read(rt: HostRuntime) {
 
 #[test]
 fn probe_fails_where_none_matches(rt: HostRuntime) {
-    let tlb = Tlb::boot();
+    let tlb = Tlb::boot(Profile::One);
     for (hi, index) in [
         (0x0000_0000, 0),
         (0x0000_2000, 0x8000_0000),
@@ -487,7 +497,7 @@ fn words_of(entry: &Entry) -> (u32, u32, u32) {
 
 #[test]
 fn entries_by_index(rt: HostRuntime) {
-    let mut tlb = Tlb::boot();
+    let mut tlb = Tlb::boot(Profile::One);
     let even = PageHalf::in_entry_lo(0x0000_009e);
     let first = tlb.read(0);
     let entry = Entry {

@@ -10,10 +10,11 @@ use Rattle.guest_bus.proofs.accesses.fill.Goals as goal
 pub write_byte-requires-clause-private : goal.write_byte-requires-clause-private
 write_byte-requires-clause-private c =
     let p = page_number (c.args.at + c.loop-k.k) in
-    sym (outline_kind c.loop-k.map p)
+    rw c.number-first.ensures
+    (sym (outline_kind c.loop-k.map p)
     ∙ ap (λ (pages : List Page). kind_at pages p) c.loop-k.invariant.outline
     ∙ outline_kind c.args.map.now p
-    ∙ c.requires.private c.loop-k.k c.loop-k-test.true
+    ∙ c.requires.private c.loop-k.k c.loop-k-test.true)
 
 pub loop-k-preserved : goal.loop-k-preserved
 loop-k-preserved c =
@@ -21,6 +22,7 @@ loop-k-preserved c =
     let memory = memory_of c.args.map.now in
     record {
       memory = c.write_byte.ensures.memory
+          ∙ ap (λ (first : ℕ). set (memory_of c.loop-k.map) (first + k) (get_or c.args.bytes.now k 0)) c.number-first.ensures
           ∙ ap (λ (bytes : List ℕ). set bytes (c.args.at + k) (get_or c.args.bytes.now k 0)) c.loop-k.invariant.memory
           ∙ fill_more memory c.args.bytes.now c.args.at k (omega (arith, c.len-pages.ensures.memory, c.requires.inside, c.loop-k-test.true)) c.loop-k-test.true;
       outline = c.write_byte.ensures.outline ∙ c.loop-k.invariant.outline;

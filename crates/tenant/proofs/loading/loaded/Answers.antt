@@ -2,7 +2,7 @@ use Rattle.std.proofs.Common.{◌≡◌, List, [], length, replicate, sym, ap, s
 use Rattle.std.proofs.lemmas.List.{length-replicate}
 use Rattle.elf32.specs.declared.image.Image.{Image}
 use Rattle.elf32.specs.Images.{FitsPages}
-use Rattle.machine.specs.Boot.{boot_machine_as}
+use Rattle.machine.specs.Boot.{boot_machine}
 use Rattle.guest_pages.specs.declared.page.Page.{Page}
 use Rattle.guest_pages.specs.declared.page.Page.TheVariants.{Zero}
 use Rattle.page_moves.specs.Moves.{Conserves, Reads}
@@ -42,7 +42,7 @@ returns-in-Ok-load-clause-booted g c =
     let rest = c.load.ensures.rest in
     let b = c.in-Ok-boot.ensures in
     record {
-      boot = ap (λ (h : GuestIs). h.boot) rest ∙ b.boot ∙ ap (λ (i : Image). boot_machine_as c.args.profile i c.args.pages) c.in-Ok.ensures;
+      boot = ap (λ (h : GuestIs). h.boot) rest ∙ b.boot ∙ ap (λ (i : Image). boot_machine c.args.profile i c.args.pages) c.in-Ok.ensures;
       items = ap (λ (h : GuestIs). h.log.items) rest ∙ b.log;
       limit = ap (λ (h : GuestIs). h.log.limit) rest ∙ b.limit;
       seats = ap (λ (h : GuestIs). h.seats) rest ∙ b.seats;

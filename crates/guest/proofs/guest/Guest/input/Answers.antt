@@ -1,7 +1,7 @@
 use Rattle.std.proofs.Common.{◌≡◌, ℕ, List, [], ◌∷◌, ◌++◌, Option, sym, ap, subst, ◌∙◌}
 use Rattle.items.specs.declared.item.Item.{Item}
 use Rattle.machine.specs.Step.{Machine}
-use Rattle.machine.specs.Boot.{boot_machine_as}
+use Rattle.machine.specs.Boot.{boot_machine}
 use Rattle.machine.specs.Items.{after}
 use Rattle.page_moves.specs.Faith.{Kept}
 use Rattle.guest.specs.Guests.{GuestIs, guest_of, view_of, Intact}
@@ -12,7 +12,7 @@ use Rattle.guest.proofs.guest.Guest.input.Goals as goal
 pub returns-in-Ok-clause-moves : goal.returns-in-Ok-clause-moves
 returns-in-Ok-clause-moves c =
     let g = c.self.inside in
-    let boot = boot_machine_as g.profile g.image.value g.pages in
+    let boot = boot_machine g.profile g.image.value g.pages in
     let after_item = guest_of c.input_pages.new.cpu c.input_pages.new.bus boot c.add.new.self in
     let items = c.add.ensures.adds.items ∙ ap (λ (xs : List Item). xs ++ c.args.item ∷ []) c.make_item_room.ensures.taken.items in
     subst (λ (g : GuestIs). view_of after_item ≡ after c.args.item.what (view_of g)) c.self.view_is
@@ -21,7 +21,7 @@ returns-in-Ok-clause-moves c =
 pub returns-in-Ok-clause-intact : goal.returns-in-Ok-clause-intact
 returns-in-Ok-clause-intact c =
     let g = c.self.inside in
-    let boot = boot_machine_as g.profile g.image.value g.pages in
+    let boot = boot_machine g.profile g.image.value g.pages in
     let now = guest_of g.cpu g.bus boot g.owned_log in
     let after_item = guest_of c.input_pages.new.cpu c.input_pages.new.bus boot c.add.new.self in
     let items = c.add.ensures.adds.items ∙ ap (λ (xs : List Item). xs ++ c.args.item ∷ []) c.make_item_room.ensures.taken.items in
@@ -35,7 +35,7 @@ returns-in-Ok-clause-intact c =
 pub returns-in-Ok-clause-kept : goal.returns-in-Ok-clause-kept
 returns-in-Ok-clause-kept c =
     let g = c.self.inside in
-    let boot = boot_machine_as g.profile g.image.value g.pages in
+    let boot = boot_machine g.profile g.image.value g.pages in
     let now = guest_of g.cpu g.bus boot g.owned_log in
     let after_item = guest_of c.input_pages.new.cpu c.input_pages.new.bus boot c.add.new.self in
     let items = c.add.ensures.adds.items ∙ ap (λ (xs : List Item). xs ++ c.args.item ∷ []) c.make_item_room.ensures.taken.items in

@@ -1,5 +1,5 @@
 use Rattle.std.proofs.Common.{ℕ, List, Option, refl, subst}
-use Rattle.machine.specs.Boot.{boot_machine_as}
+use Rattle.machine.specs.Boot.{boot_machine}
 use Rattle.page_moves.specs.Faith.{Kept}
 use Rattle.guest.specs.Guests.{GuestIs, guest_of, view_of, LogsOnly, Intact}
 use Rattle.guest.specs.Views.{pages_seen}
@@ -9,7 +9,7 @@ use Rattle.guest.proofs.guest.Guest.log_room.Goals as goal
 pub returns-clause-intact : goal.returns-clause-intact
 returns-clause-intact c =
     let g = c.self.inside in
-    let boot = boot_machine_as g.profile g.image.value g.pages in
+    let boot = boot_machine g.profile g.image.value g.pages in
     let now = guest_of g.cpu g.bus boot g.owned_log in
     let after = guest_of g.cpu g.bus boot c.make_room.new.self in
     let told = c.make_room.ensures in
@@ -19,7 +19,7 @@ returns-clause-intact c =
 pub returns-clause-kept : goal.returns-clause-kept
 returns-clause-kept c =
     let g = c.self.inside in
-    let boot = boot_machine_as g.profile g.image.value g.pages in
+    let boot = boot_machine g.profile g.image.value g.pages in
     let now = guest_of g.cpu g.bus boot g.owned_log in
     let after = guest_of g.cpu g.bus boot c.make_room.new.self in
     let told = c.make_room.ensures in

@@ -3,7 +3,7 @@ use Rattle.items.specs.Entries.{steps_of}
 use Rattle.machine.specs.Accesses.{accesses, first_lack}
 use Rattle.machine.specs.Given.{step_given}
 use Rattle.machine.specs.Step.{Machine}
-use Rattle.machine.specs.Boot.{boot_machine_as}
+use Rattle.machine.specs.Boot.{boot_machine}
 use Rattle.machine.specs.Items.{run}
 use Rattle.page_moves.specs.Faith.{Kept}
 use Rattle.machine.specs.declared.access.Why.{Why}
@@ -20,7 +20,7 @@ use Rattle.guest.proofs.guest.Guest.run.Goals as goal
 pub returns-then-progress-gt0-clause-need : goal.returns-then-progress-gt0-clause-need
 returns-then-progress-gt0-clause-need c =
     let g = c.self.inside in
-    let boot = boot_machine_as g.profile g.image.value g.pages in
+    let boot = boot_machine g.profile g.image.value g.pages in
     let now = guest_of g.cpu g.bus boot g.owned_log in
     let after = guest_of c.run_pages-progress.new.cpu c.run_pages-progress.new.bus boot c.steps.new.self in
     let moves = run_on g.owned_log.log.items c.steps.new.self.log.items (steps_of c.args.seat.now.number c.run_pages-progress.result.steps) boot c.steps.ensures.adds.items in
@@ -34,7 +34,7 @@ returns-then-progress-gt0-clause-need c =
 pub returns-then-progress-gt0-clause-moves : goal.returns-then-progress-gt0-clause-moves
 returns-then-progress-gt0-clause-moves c =
     let g = c.self.inside in
-    let boot = boot_machine_as g.profile g.image.value g.pages in
+    let boot = boot_machine g.profile g.image.value g.pages in
     let now = guest_of g.cpu g.bus boot g.owned_log in
     let after = guest_of c.run_pages-progress.new.cpu c.run_pages-progress.new.bus boot c.steps.new.self in
     let moves = run_on g.owned_log.log.items c.steps.new.self.log.items (steps_of c.args.seat.now.number c.run_pages-progress.result.steps) boot c.steps.ensures.adds.items in
@@ -43,7 +43,7 @@ returns-then-progress-gt0-clause-moves c =
 pub returns-then-progress-gt0-clause-intact : goal.returns-then-progress-gt0-clause-intact
 returns-then-progress-gt0-clause-intact c =
     let g = c.self.inside in
-    let boot = boot_machine_as g.profile g.image.value g.pages in
+    let boot = boot_machine g.profile g.image.value g.pages in
     let now = guest_of g.cpu g.bus boot g.owned_log in
     let after = guest_of c.run_pages-progress.new.cpu c.run_pages-progress.new.bus boot c.steps.new.self in
     let moves = run_on g.owned_log.log.items c.steps.new.self.log.items (steps_of c.args.seat.now.number c.run_pages-progress.result.steps) boot c.steps.ensures.adds.items in
@@ -59,7 +59,7 @@ returns-then-progress-gt0-clause-intact c =
 pub returns-then-progress-gt0-clause-kept : goal.returns-then-progress-gt0-clause-kept
 returns-then-progress-gt0-clause-kept c =
     let g = c.self.inside in
-    let boot = boot_machine_as g.profile g.image.value g.pages in
+    let boot = boot_machine g.profile g.image.value g.pages in
     let now = guest_of g.cpu g.bus boot g.owned_log in
     let after = guest_of c.run_pages-progress.new.cpu c.run_pages-progress.new.bus boot c.steps.new.self in
     let moves = run_on g.owned_log.log.items c.steps.new.self.log.items (steps_of c.args.seat.now.number c.run_pages-progress.result.steps) boot c.steps.ensures.adds.items in
@@ -71,7 +71,7 @@ returns-then-progress-gt0-clause-kept c =
 pub returns-else-progress-gt0-clause-need : goal.returns-else-progress-gt0-clause-need
 returns-else-progress-gt0-clause-need c =
     let g = c.self.inside in
-    let boot = boot_machine_as g.profile g.image.value g.pages in
+    let boot = boot_machine g.profile g.image.value g.pages in
     let now = guest_of g.cpu g.bus boot g.owned_log in
     let after = guest_of c.run_pages-progress.new.cpu c.run_pages-progress.new.bus boot g.owned_log in
     let none : c.run_pages-progress.result.steps ≡ 0 = omega (arith, c.if-progress-gt0.false) in
@@ -87,7 +87,7 @@ returns-else-progress-gt0-clause-need c =
 pub returns-else-progress-gt0-clause-moves : goal.returns-else-progress-gt0-clause-moves
 returns-else-progress-gt0-clause-moves c =
     let g = c.self.inside in
-    let boot = boot_machine_as g.profile g.image.value g.pages in
+    let boot = boot_machine g.profile g.image.value g.pages in
     let now = guest_of g.cpu g.bus boot g.owned_log in
     let after = guest_of c.run_pages-progress.new.cpu c.run_pages-progress.new.bus boot g.owned_log in
     let none : c.run_pages-progress.result.steps ≡ 0 = omega (arith, c.if-progress-gt0.false) in
@@ -104,7 +104,7 @@ returns-then-progress-gt0-clause-room c = λ p why is full.
 pub returns-then-progress-gt0-clause-quiet : goal.returns-then-progress-gt0-clause-quiet
 returns-then-progress-gt0-clause-quiet c =
     let g = c.self.inside in
-    let boot = boot_machine_as g.profile g.image.value g.pages in
+    let boot = boot_machine g.profile g.image.value g.pages in
     let now = guest_of g.cpu g.bus boot g.owned_log in
     let progress = c.run_pages-progress in
     let told = progress.ensures in
@@ -115,7 +115,7 @@ returns-then-progress-gt0-clause-quiet c =
 pub returns-then-progress-gt0-clause-gives_last : goal.returns-then-progress-gt0-clause-gives_last
 returns-then-progress-gt0-clause-gives_last c =
     let g = c.self.inside in
-    let boot = boot_machine_as g.profile g.image.value g.pages in
+    let boot = boot_machine g.profile g.image.value g.pages in
     let now = guest_of g.cpu g.bus boot g.owned_log in
     let progress = c.run_pages-progress in
     let told = progress.ensures in
@@ -126,7 +126,7 @@ returns-then-progress-gt0-clause-gives_last c =
 pub returns-then-progress-gt0-clause-given : goal.returns-then-progress-gt0-clause-given
 returns-then-progress-gt0-clause-given c =
     let g = c.self.inside in
-    let boot = boot_machine_as g.profile g.image.value g.pages in
+    let boot = boot_machine g.profile g.image.value g.pages in
     let now = guest_of g.cpu g.bus boot g.owned_log in
     let progress = c.run_pages-progress in
     let told = progress.ensures in
@@ -137,7 +137,7 @@ returns-then-progress-gt0-clause-given c =
 pub returns-then-progress-gt0-clause-paused : goal.returns-then-progress-gt0-clause-paused
 returns-then-progress-gt0-clause-paused c =
     let g = c.self.inside in
-    let boot = boot_machine_as g.profile g.image.value g.pages in
+    let boot = boot_machine g.profile g.image.value g.pages in
     let now = guest_of g.cpu g.bus boot g.owned_log in
     let progress = c.run_pages-progress in
     let told = progress.ensures in
@@ -147,7 +147,7 @@ returns-then-progress-gt0-clause-paused c =
 pub returns-else-progress-gt0-clause-quiet : goal.returns-else-progress-gt0-clause-quiet
 returns-else-progress-gt0-clause-quiet c =
     let g = c.self.inside in
-    let boot = boot_machine_as g.profile g.image.value g.pages in
+    let boot = boot_machine g.profile g.image.value g.pages in
     let now = guest_of g.cpu g.bus boot g.owned_log in
     let progress = c.run_pages-progress in
     let told = progress.ensures in
@@ -158,7 +158,7 @@ returns-else-progress-gt0-clause-quiet c =
 pub returns-else-progress-gt0-clause-gives_last : goal.returns-else-progress-gt0-clause-gives_last
 returns-else-progress-gt0-clause-gives_last c =
     let g = c.self.inside in
-    let boot = boot_machine_as g.profile g.image.value g.pages in
+    let boot = boot_machine g.profile g.image.value g.pages in
     let now = guest_of g.cpu g.bus boot g.owned_log in
     let progress = c.run_pages-progress in
     let told = progress.ensures in
@@ -169,7 +169,7 @@ returns-else-progress-gt0-clause-gives_last c =
 pub returns-else-progress-gt0-clause-given : goal.returns-else-progress-gt0-clause-given
 returns-else-progress-gt0-clause-given c =
     let g = c.self.inside in
-    let boot = boot_machine_as g.profile g.image.value g.pages in
+    let boot = boot_machine g.profile g.image.value g.pages in
     let now = guest_of g.cpu g.bus boot g.owned_log in
     let progress = c.run_pages-progress in
     let told = progress.ensures in
@@ -180,7 +180,7 @@ returns-else-progress-gt0-clause-given c =
 pub returns-else-progress-gt0-clause-paused : goal.returns-else-progress-gt0-clause-paused
 returns-else-progress-gt0-clause-paused c =
     let g = c.self.inside in
-    let boot = boot_machine_as g.profile g.image.value g.pages in
+    let boot = boot_machine g.profile g.image.value g.pages in
     let now = guest_of g.cpu g.bus boot g.owned_log in
     let progress = c.run_pages-progress in
     let told = progress.ensures in

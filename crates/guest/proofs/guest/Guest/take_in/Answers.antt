@@ -2,7 +2,7 @@ use Rattle.std.proofs.Common.{◌≡◌, ℕ, true, List, Option, sym, subst}
 use Rattle.items.specs.declared.item.Item.{Item}
 use Rattle.items.specs.declared.item.What.TheVariants.{In}
 use Rattle.machine.specs.Step.{Machine}
-use Rattle.machine.specs.Boot.{boot_machine_as}
+use Rattle.machine.specs.Boot.{boot_machine}
 use Rattle.machine.specs.Items.{accepts, after}
 use Rattle.page_moves.specs.Faith.{Kept}
 use Rattle.guest_bus.specs.Buses.{GuestBusIs}
@@ -15,7 +15,7 @@ use Rattle.guest.proofs.guest.Guest.take_in.Goals as goal
 pub returns-clause-moves : goal.returns-clause-moves
 returns-clause-moves c =
     let g = c.self.inside in
-    let boot = boot_machine_as g.profile g.image.value g.pages in
+    let boot = boot_machine g.profile g.image.value g.pages in
     let fed = guest_of g.cpu c.take_in.new.self boot c.add.new.self in
     let item : Item = record { seat = c.number.result; what = In c.args.byte } in
     subst (λ (g : GuestIs). view_of fed ≡ after (In c.args.byte) (view_of g)) c.self.view_is
@@ -24,7 +24,7 @@ returns-clause-moves c =
 pub returns-clause-intact : goal.returns-clause-intact
 returns-clause-intact c =
     let g = c.self.inside in
-    let boot = boot_machine_as g.profile g.image.value g.pages in
+    let boot = boot_machine g.profile g.image.value g.pages in
     let now = guest_of g.cpu g.bus boot g.owned_log in
     let fed = guest_of g.cpu c.take_in.new.self boot c.add.new.self in
     let item : Item = record { seat = c.number.result; what = In c.args.byte } in
@@ -41,7 +41,7 @@ returns-clause-intact c =
 pub returns-clause-kept : goal.returns-clause-kept
 returns-clause-kept c =
     let g = c.self.inside in
-    let boot = boot_machine_as g.profile g.image.value g.pages in
+    let boot = boot_machine g.profile g.image.value g.pages in
     let now = guest_of g.cpu g.bus boot g.owned_log in
     let fed = guest_of g.cpu c.take_in.new.self boot c.add.new.self in
     let item : Item = record { seat = c.number.result; what = In c.args.byte } in

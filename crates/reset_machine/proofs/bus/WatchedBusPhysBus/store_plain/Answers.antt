@@ -13,4 +13,4 @@ invariant_of-self c =
     let same : b.flat ≡ c.args.self.now.board = ap (λ (w : WatchedBoard). w.board) c.self.view_is in
     let plain = subst (λ (w : Board). IsPlain w (λ (page : ℕ) (kind : Kind). None) Store c.args.size c.args.at) (sym same) c.requires.plain in
     plain_watched (λ (page : ℕ) (kind : Kind). None) c.args.size c.args.value c.args.at b.flat c.store_plain.new.self b.marks.marked c.mark.new.self.marked b.home.value.board.memory
-    plain c.requires.aligned c.self.invariant (c.mark.ensures ∙ ap (λ (p : ℕ). set b.marks.marked p true) c.page_of.ensures) c.store_plain.ensures.board
+    plain c.requires.aligned c.self.invariant (c.mark.ensures ∙ ap (λ (p : ℕ). set b.marks.marked p true) c.page.ensures) c.store_plain.ensures.board
