@@ -62,7 +62,8 @@ enum Answer {
 /// Does what the words of the command line ask for, and gives the status to exit with. The name of the program is not
 /// among the words. `input` is read by the commands `run` and `fuzz` alone, and `watch` is told how far a run of `exec` is.
 ///
-/// At least one of `out` and `err` stays as it was, but where a word begins with `--until`, or is `sim`, `run` or `fuzz`: with `run` both get lines,
+/// At least one of `out` and `err` stays as it was, but where `out` could not be written, or a word begins with `--until`, or is `sim`, `run` or
+/// `fuzz`: where it could not be written what it took stands in it, and `err` has the line `vmhost: output`; with `run` both get lines,
 /// as `run_order` has it; with `--until` `err` may have the line
 /// `vmhost: ended: ` with the state that a run ended at, beside what is printed; with `sim` the replies to the first events of a
 /// script may stand in `out` where `err` says that there was no memory for more, and with `fuzz` the lines of the first inputs where `err` says
@@ -94,7 +95,7 @@ where
     ensures usage { result ≡ 2 → out.new ≡ out.old }
     ensures done { result ≡ 0 → HasNoUntil words.now → HasNoRun words.now → err.new ≡ err.old }
     ensures stopped { result ≡ 3 → HasNoRun words.now → err.new ≡ err.old }
-    ensures one_output { HasNoUntil words.now → HasNoSim words.now → HasNoRun words.now → HasNoFuzz words.now → (out.new ≡ out.old) ⊎ (err.new ≡ err.old) }
+    ensures one_output { result ≢ 1 → HasNoUntil words.now → HasNoSim words.now → HasNoRun words.now → HasNoFuzz words.now → (out.new ≡ out.old) ⊎ (err.new ≡ err.old) }
 {
     let tells = Tells {
         ending: mentions_until(words),
@@ -110,9 +111,29 @@ where
     };
     let status = match written {
         Ok(status) => status,
-        Err(_) => Status::Refused,
+        Err(_) => tell_unprinted(err),
     };
     status.code()
+}
+
+/// Says that not all could be printed, where that can be said.
+fn tell_unprinted<E: Write>(err: &mut E) -> Status
+    ensures { code_of result ≡ 1 }
+{
+    // where neither output takes more the status alone tells it
+    match write_unprinted(err) {
+        Ok(()) | Err(_) => Status::Refused,
+    }
+}
+
+/// Writes that not all could be printed, and words for it.
+fn write_unprinted<E: Write>(err: &mut E) -> io::Result<()> {
+    writeln!(err, "vmhost: output")?;
+    writeln!(
+        err,
+        "  standard output takes no more, as where its disk is full or its reader has ended; what stands there may be cut off"
+    )?;
+    err.flush()
 }
 
 /// What may be told in `err` although something is printed.
@@ -182,6 +203,7 @@ where
         Ok(RunStatus::Done) => Ok(Status::Done),
         Ok(RunStatus::Stopped) => Ok(Status::Stopped),
         Ok(RunStatus::Unwritten) => Ok(Status::Refused),
+        Ok(RunStatus::Unprinted) => Err(io::Error::from(ErrorKind::Other)),
         Err(RunFault::Command(fault)) => write_refusal(rt, Subject::Run(order), &fault, err),
         Err(RunFault::Port(port)) => write_port(port, err),
     }

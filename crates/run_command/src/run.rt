@@ -1,5 +1,5 @@
 //! The command `run`.
-ghost use Rattle.std.specs.Prelude.{◌≡◌, ◌≢◌, IfErr, IfOk, OnErr, codes, false, true};
+ghost use Rattle.std.specs.Prelude.{◌≡◌, ◌≢◌, ◌⊎◌, IfErr, IfOk, OnErr, codes, false, true};
 ghost use Rattle.std.specs.Io.KnownBytes.{Appends};
 ghost use Rattle.run_command.specs.Faults.{IsRunFault, MayBoot};
 
@@ -28,8 +28,10 @@ pub enum RunStatus {
     Done,
     /// The last slice of a guest ended by a stop.
     Stopped,
-    /// A log could not be written, and its fault is told; or a reply could not be.
+    /// A log could not be written, and its fault is told.
     Unwritten,
+    /// A reply could not be written.
+    Unprinted,
 }
 
 /// Runs the guests of an order, on a thread each, until a line of `input` says `quit` or the input ends; the replies to its lines come to `out`. A line in
@@ -105,7 +107,7 @@ fn end<S: Drop, R: Files + AllocGlobal, O: Write, E: Write>(
 ) -> RunStatus
     ensures done { result ≡ RunStatus.Done → left.stopped ≡ false }
     ensures stopped { result ≡ RunStatus.Stopped → left.stopped ≡ true }
-    ensures failed { left.leave ≡ Leave.OutputFailed → result ≡ RunStatus.Unwritten }
+    ensures failed { left.leave ≡ Leave.OutputFailed → (result ≡ RunStatus.Unwritten) ⊎ (result ≡ RunStatus.Unprinted) }
     ensures silent { left.leave ≢ Leave.Quit → out.new ≡ out.old }
 {
     let RunEnd {
@@ -125,7 +127,7 @@ fn end<S: Drop, R: Files + AllocGlobal, O: Write, E: Write>(
         return RunStatus::Unwritten;
     }
     if !take_leave(leave, out) {
-        return RunStatus::Unwritten;
+        return RunStatus::Unprinted;
     }
     if stopped {
         RunStatus::Stopped
