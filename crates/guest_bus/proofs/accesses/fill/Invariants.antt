@@ -7,6 +7,6 @@ use Rattle.guest_bus.proofs.accesses.fill.Given as goal
 -- the bytes so far are written
 abbrev pub invariant-loop-k : goal.invariant-loop-k
 invariant-loop-k l = record {
-  memory : memory_of l.map ≡ patched (memory_of l.fn.map) l.at (take l.k l.bytes) l.k;
+  memory : memory_of l.map ≡ patched (memory_of l.fn.map) l.fn.at (take l.k l.bytes) l.k;
   outline : outline l.map ≡ outline l.fn.map;
 }
