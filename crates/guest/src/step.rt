@@ -31,7 +31,7 @@ use guest_bus::{GuestBus, InputError};
 use guest_pages::Returned;
 use items::What;
 use machine::{Ppn, Reply, StepOut, Why};
-use mips_fast::RunCache;
+use mips_fast::{Everything, RunCache};
 use mips_step::{Cpu, Unreached, debug};
 
 // The page that a step gave leaves its place.
@@ -181,7 +181,7 @@ fn run_quietly(cpu: &mut Cpu, bus: &mut GuestBus, cache: &mut RunCache, count: u
     ensures settled { IsSettled bus.new }
 {
     whole(bus);
-    let made = mips_fast::run(cpu, bus, cache, count);
+    let made = mips_fast::run(cpu, bus, cache, &Everything, count);
     whole(bus);
     made
 }

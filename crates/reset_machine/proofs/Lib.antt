@@ -1,4 +1,5 @@
 mod Homes
 mod Marking
+mod Passing
 mod Stepping
 mod Watching

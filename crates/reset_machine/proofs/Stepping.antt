@@ -1,16 +1,15 @@
 -- Steps after steps.
-use Rattle.std.proofs.Common.{ℕ, zero, suc, ◌≡◌, ◌+◌, ◌<◌, ◌≤◌, ◌==◌, ◌&&◌, not, if◌then◌else◌, Bool, true, false, List, [], Option, Some, None, refl, sym, ap, ◌∙◌, arith, add-one}
-use Rattle.std.specs.List.{list_any}
+use Rattle.std.proofs.Common.{ℕ, zero, suc, ◌≡◌, ◌+◌, ◌<◌, ◌≤◌, ◌&&◌, not, Bool, true, false, refl, sym, ap, subst, ◌∙◌, arith, add-one}
 use Rattle.mips_cp0.specs.Bits.{has_bits}
 use Rattle.mips_cp0.specs.Status.{status_exl}
 use Rattle.machine.specs.Step.{Machine, step}
-use Rattle.mips_fast.specs.Runs.{steps, KeepsStatus}
-use Rattle.runs.specs.declared.ending.Ending.TheVariants.{Loop, Address}
+use Rattle.mips_fast.specs.Runs.{steps, AreAdmitted, IsAdmitted, KeepsStatus}
 use Rattle.runs.specs.declared.ending.Until.{Until}
-use Rattle.runs.specs.Endings.{IsPassed, state_ending}
+use Rattle.runs.specs.Endings.{IsPassed}
 use Rattle.runs.specs.Entries.{has_entered, is_vector}
-use Rattle.runs.specs.Loops.{is_loop}
 use Rattle.runs.specs.Runs.{after_steps}
+use Rattle.reset_machine.specs.Passing.{goes_past}
+use Rattle.reset_machine.proofs.Passing.{not_ended}
 
 -- the steps of a run are those that a machine makes
 pub same_steps : (count : ℕ) (m : Machine) → steps count m ≡ after_steps count m
@@ -32,12 +31,6 @@ one_step_more made m old new before now = now ∙ ap step before ∙ ap (λ (n :
 
 -- ---- steps that go past states
 
--- where neither a loop nor an address is looked for, no state is one whatever was before it
-nowhere : (until : Until) (m : Machine) → until.loops ≡ false → until.addresses.items ≡ [] → state_ending until m ≡ None
-nowhere until m loops addresses =
-    ap (λ (b : Bool). if b && is_loop m then Some (Loop m.cpu.pc) else if list_any (λ address. address == m.cpu.pc) until.addresses.items then Some (Address m.cpu.pc) else None) loops
-    ∙ ap (λ (xs : List ℕ). if list_any (λ address. address == m.cpu.pc) xs then Some (Address m.cpu.pc) else None) addresses
-
 -- where Status stays, no exception is entered
 no_entry : (before now : Machine) → now.cpu.cp0.status ≡ before.cpu.cp0.status → has_entered before now ≡ false
 no_entry before now same =
@@ -48,13 +41,13 @@ no_entry before now same =
     never true vector = refl
     never false vector = refl
 
-pub past_steps : (until : Until) (count : ℕ) (m : Machine) → until.loops ≡ false → until.addresses.items ≡ [] → KeepsStatus count m
+pub past_steps : (until : Until) (count : ℕ) (m : Machine) → AreAdmitted (goes_past until) count m → KeepsStatus count m
     → (k : ℕ) → k < count → IsPassed until (after_steps k m)
-past_steps until count m loops addresses kept k below =
+past_steps until count m admitted kept k below =
     let here : k ≤ count = omega (arith, below) in
     let next : suc k ≤ count = omega (arith, below) in
     record {
-      nowhere = nowhere until (after_steps k m) loops addresses;
+      nowhere = not_ended until (after_steps k m) (subst (λ (x : Machine). IsAdmitted (goes_past until) x) (same_steps k m) (admitted k below));
       no_entry = no_entry (after_steps k m) (step (after_steps k m))
           (ap (λ (x : Machine). (step x).cpu.cp0.status) (sym (same_steps k m)) ∙ kept (suc k) next ∙ sym (kept k here) ∙ ap (λ (x : Machine). x.cpu.cp0.status) (same_steps k m));
     }

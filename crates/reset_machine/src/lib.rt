@@ -12,11 +12,13 @@
 pub mod bus;
 pub mod home;
 pub mod marks;
+pub mod passing;
 pub mod resetting;
 
 pub use bus::WatchedBus;
 pub use home::Home;
 pub use marks::Marks;
+pub use passing::Passing;
 pub use resetting::ResetMachine;
 
 #[cfg(test)]

@@ -3,15 +3,15 @@ ghost use Rattle.std.specs.Prelude.{◌≡◌, ℕ, ◌*◌, ◌<◌, ◌≤◌,
 ghost use Rattle.items.specs.declared.item.What.TheVariants.{In};
 ghost use Rattle.machine.specs.Items.{after};
 ghost use Rattle.machine.specs.Step.{step};
-ghost use Rattle.mips_fast.specs.Runs.{KeepsStatus};
+ghost use Rattle.mips_fast.specs.Runs.{AreAdmitted, KeepsStatus};
 ghost use Rattle.runs.specs.Endings.{IsPassed};
 ghost use Rattle.runs.specs.Runs.{after_steps};
 
-use crate::{Home, WatchedBus};
+use crate::{Home, Passing, WatchedBus};
 use flatvm::Flat;
 use guest_log::Stop;
 use machine::{Rejection, StepOut};
-use mips_fast::RunCache;
+use mips_fast::{Everything, Filter, RunCache};
 use mips_step::{Cpu, Unreached, View, debug};
 use runs::{NoPlace, Runnable, Until};
 use std::alloc::{AllocError, Global};
@@ -107,16 +107,17 @@ impl ResetMachine {
         }
     }
 
-    /// Steps, at most `count`, as `mips_fast::run` makes them, and how many.
+    /// Steps, at most `count`, as `mips_fast::run` makes them of the instructions that a filter admits, and how many.
     #[inline(always)]
     #[tactic(auto, using(crate::proofs::Stepping::same_steps))]
-    fn run_quietly(&mut self, count: u32) -> u32
+    fn run_quietly<F: Filter>(&mut self, filter: &F, count: u32) -> u32
         ensures few { result ≤ count }
         ensures machine { self.new.machine ≡ after_steps result self.old.machine }
+        ensures admitted { AreAdmitted (F.admits filter.now) result self.old.machine }
         ensures status { KeepsStatus result self.old.machine }
         ensures home { self.new.home ≡ self.old.home }
     {
-        mips_fast::run(&mut self.cpu, &mut self.bus, &mut self.cache, count)
+        mips_fast::run(&mut self.cpu, &mut self.bus, &mut self.cache, filter, count)
     }
 
     /// `count` steps: many at once, and one by itself wherever that ends.
@@ -126,7 +127,7 @@ impl ResetMachine {
     {
         let mut made: u32 = 0;
         while made < count {
-            made += self.run_quietly(count - made);
+            made += self.run_quietly(&Everything, count - made);
             if made < count {
                 self.step();
                 made += 1;
@@ -160,7 +161,7 @@ impl Runnable for ResetMachine {
         (count, None)
     }
 
-    // A run of many steps at once enters no exception; of a loop, and of the addresses that it comes to, it tells nothing.
+    // A run of many steps at once enters no exception, and makes none from a state that this one is to end at.
     #[tactic(auto, using(crate::proofs::Stepping::past_steps))]
     fn steps_past(&mut self, count: u32, until: &Until) -> u32
         ensures few { result ≤ count }
@@ -168,10 +169,10 @@ impl Runnable for ResetMachine {
         ensures passed { (k : ℕ) → k < result → IsPassed until.now (after_steps k self.old.machine) }
         ensures home { self.new.home ≡ self.old.home }
     {
-        if count < FEW || until.loops || !until.addresses.is_empty() {
+        if count < FEW {
             return 0;
         }
-        self.run_quietly(count)
+        self.run_quietly(&Passing::new(until), count)
     }
 
     fn feed(&mut self, byte: u8) -> Result<(), Stop>

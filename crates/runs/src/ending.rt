@@ -29,7 +29,7 @@ impl Until {
     }
 
     /// Whether PC at this address is one of them.
-    fn has_address(&self, pc: u32) -> bool
+    pub fn has_address(&self, pc: u32) -> bool
         ensures { result ≡ spec.has_address self.now pc }
     {
         self.addresses.contains(&pc)

@@ -10,7 +10,7 @@ use super::expect;
 use super::sparse::Sparse;
 use case::Case;
 use mips_cp0::Profile;
-use mips_fast::{RunCache, run};
+use mips_fast::{Everything, RunCache, run};
 use mips_isa::Reg;
 use mips_step::Cpu;
 use mips_tlb::Tlb;
@@ -91,17 +91,17 @@ fn check_split<R: AllocGlobal + Abort>(
     let (mut machine, mut twin) = (booted(rt, case)?, booted(rt, case)?);
     let Machine { cpu, bus } = &mut machine;
     let asked = (
-        run(cpu, bus, cache, first),
+        run(cpu, bus, cache, &Everything, first),
         case.count.saturating_sub(first),
     );
-    let others = run(cpu, bus, cache, asked.1);
+    let others = run(cpu, bus, cache, &Everything, asked.1);
     let made = case.made.saturating_sub(first);
     expect(rt, (case.name, first), (asked.0, others), (first, made));
     step_by_step(&mut twin, case.made);
     check_same(rt, case.name, &machine, &twin);
     if case.made < case.count {
         let Machine { cpu, bus } = &mut machine;
-        expect(rt, case.name, run(cpu, bus, cache, 1), 0);
+        expect(rt, case.name, run(cpu, bus, cache, &Everything, 1), 0);
         check_same(rt, case.name, &machine, &twin);
         let stepped = machine.cpu.step(&mut machine.bus);
         expect(rt, case.name, stepped, twin.cpu.step(&mut twin.bus));

@@ -1,0 +1,60 @@
+//! What a run goes past that is to end at the first state of some kinds.
+ghost use Rattle.std.specs.Prelude.{◌≡◌};
+ghost use Rattle.mips_fast.specs.Decoding.{instr_of};
+ghost use Rattle.reset_machine.specs.Passing as spec;
+
+use mips_fast::{Decoded, Filter};
+use mips_instr::{Instr, branch_target_of, jump_target_of};
+use runs::Until;
+
+/// Admits the instructions that a run goes past which is to end at the first state of some kinds: a run of those alone comes to no loop
+/// and no address that it is to end at.
+pub struct Passing<'a> {
+    until: &'a Until,
+}
+
+impl Passing<'_> {
+    pub fn new(until: &Until) -> Passing<'_>
+        ensures { result.until.now ≡ until.now }
+    {
+        Passing { until }
+    }
+}
+
+impl Filter for Passing<'_> {
+    ghost admits = { λ filter pc instr. spec.goes_past filter.until.now pc instr };
+
+    fn is_admitted(&self, pc: u32, decoded: &Decoded) -> bool {
+        !(self.until.loops && targets_itself(pc, decoded)) && !self.until.has_address(pc)
+    }
+}
+
+/// Whether the target of a branch or jump at an address is that address.
+fn targets_itself(pc: u32, decoded: &Decoded) -> bool
+    ensures { result ≡ spec.targets_itself pc (instr_of decoded.now) }
+{
+    match *decoded {
+        Decoded::Beq { offset, .. }
+        | Decoded::Bne { offset, .. }
+        | Decoded::Bltz { offset, .. }
+        | Decoded::Bgez { offset, .. }
+        | Decoded::Blez { offset, .. }
+        | Decoded::Bgtz { offset, .. } => branch_target_of(pc, offset) == pc,
+        Decoded::J { target } | Decoded::Jal { target } => jump_target_of(pc, target) == pc,
+        Decoded::Other { instr } => instr_targets_itself(pc, instr),
+        _ => false,
+    }
+}
+
+/// `targets_itself` of an instruction without a form of its own.
+fn instr_targets_itself(pc: u32, instr: Instr) -> bool
+    ensures { result ≡ spec.targets_itself pc instr }
+{
+    match instr {
+        Instr::Branch { offset, .. } | Instr::BranchZero { offset, .. } => {
+            branch_target_of(pc, offset) == pc
+        }
+        Instr::Jump { target, .. } => jump_target_of(pc, target) == pc,
+        _ => false,
+    }
+}
