@@ -7,6 +7,7 @@
 //! that no exception that is entered while EXL is clear is missed.
 #![tactic(auto)]
 
+pub mod again;
 pub mod ending;
 mod entry;
 mod feeding;
@@ -18,6 +19,7 @@ pub mod table;
 pub mod watch;
 mod words;
 
+pub use again::run_again;
 pub use ending::{Ending, Until};
 pub use runnable::{NoPlace, Runnable};
 pub use running::{Ran, run};

@@ -59,7 +59,12 @@ pub fn run<M: Runnable, W: Watch>(
 }
 
 /// Makes `count` steps, or fewer where the machine stops before.
-fn make_all<M: Runnable, W: Watch>(machine: &mut M, taken: usize, count: u32, watch: &mut W) -> Ran
+pub(crate) fn make_all<M: Runnable, W: Watch>(
+    machine: &mut M,
+    taken: usize,
+    count: u32,
+    watch: &mut W,
+) -> Ran
     ensures taken { result.taken ≡ taken }
     ensures made { result.steps ≤ count }
     ensures all { result.stop ≡ None → result.steps ≡ count }
