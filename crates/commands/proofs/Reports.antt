@@ -1,5 +1,5 @@
 -- Reports of runs of the image in a file, and what replays print.
-use Rattle.std.proofs.Common.{ℕ, ◌≡◌, ◌%◌, ◌^◌, ◌∙◌, ap, subst, List, Option, Some, None, IfSome}
+use Rattle.std.proofs.Common.{ℕ, ◌≡◌, ◌%◌, ◌^◌, ◌∙◌, ap, subst, length, take, take_all, le_refl, List, Option, Some, None, IfSome}
 use Rattle.sha2.specs.Sha256.{sha256}
 use Rattle.elf32.specs.declared.image.Image.{Image}
 use Rattle.items.specs.declared.entry.Entry.{Entry}
@@ -15,6 +15,9 @@ use Rattle.commands.specs.declared.order.Replay.{Replay}
 use Rattle.dump.specs.Dumps.{dump_text}
 use Rattle.inspection.specs.declared.extras.Extras.{Extras}
 use Rattle.runs.specs.declared.ending.Until.{Until}
+use Rattle.runs.specs.declared.running.Ran.{Ran}
+use Rattle.runs.specs.Endings.{IsFirst}
+use Rattle.runs.specs.Runs.{fed}
 use Rattle.dump.specs.Steps.{step_count}
 use Rattle.commands.specs.Replays.{IsReplay}
 use Rattle.commands.specs.Runs.{IsImageOf, IsReport, IsReportOf}
@@ -43,3 +46,8 @@ replay_of_files all log order profile pages image entries flat after steps text 
       printed ∙ ap (λ (m : Machine). dump_text m steps None) (ran ∙ ap (run (items_of entries)) booted)
       ∙ ap (λ (n : ℕ). dump_text (run (items_of entries) (boot_machine profile image pages)) n None) counted;
 }
+
+-- where all of the input was taken
+pub first_of_all : (until : Until) (input : List ℕ) (m : Machine) (ran : Ran) → ran.taken ≡ length input → IsFirst until (fed (take ran.taken input) m) ran → IsFirst until (fed input m) ran
+first_of_all until input m ran all first =
+    subst (λ (bytes : List ℕ). IsFirst until (fed bytes m) ran) (ap (λ (n : ℕ). take n input) all ∙ take_all (length input) input (le_refl (length input))) first

@@ -8,7 +8,8 @@ ghost use Rattle.machine.specs.Boot.{boot_machine};
 ghost use Rattle.commands.specs.Faults.{IsElfRunFault, IsExecFault, IsImageFault, IsRunFault, IsWant};
 ghost use Rattle.commands.specs.Raw.{IsPageCount};
 ghost use Rattle.commands.specs.Runs.{IsImageOf, IsReport, IsReportOf, report_text};
-ghost use Rattle.runs.specs.Runs.{after_run};
+ghost use Rattle.runs.specs.Endings.{IsFirst};
+ghost use Rattle.runs.specs.Runs.{after_run, fed, IsCount};
 
 use crate::fault::{Fault, LogRefusal, of_boot, of_file};
 use crate::hosted::HostedGuest;
@@ -18,11 +19,13 @@ use crate::order::{ConsoleInput, Exec, Format, MachineKind};
 use dump::dump;
 use inspection::{Extras, push_extras};
 use output_file::is_one_file;
-use runs::{Ran, Runnable, Table, Until, Watch, run};
+use reset_machine::{Home, ResetMachine};
+use runs::{Ran, Runnable, Table, Until, Watch, run, run_again};
 use std::alloc::{AllocError, Global};
 use std::fs::File;
 use std::io::Read;
 use std::rt::Files;
+use std::sync::Arc;
 use tenant::BootError;
 
 /// What a run prints, and how it went.
@@ -123,8 +126,8 @@ pub fn run_file<'a, F: Read + Drop, W: Watch>(
     }
 }
 
-/// Boots a guest of the image, and runs it. An error is `Boot` where the boot was refused memory, and `Memory` where another
-/// request was.
+/// Boots a guest of the image, and runs it; where the run is to end at some state, so many steps as a rehearsal makes to the first. An error is
+/// `Boot` where the boot was refused memory, and `Memory` where another request was.
 fn run_guest<'a, W: Watch>(
     alloc: Global,
     loaded: Loaded,
@@ -144,14 +147,47 @@ fn run_guest<'a, W: Watch>(
     ensures faults { IfErr result IsWant }
 {
     let Loaded { image, digest } = loaded;
-    let mut runner = of_boot(HostedGuest::boot(alloc, order.profile, image, order.pages))?;
-    let ran = run(&mut runner, input.as_slice(), order.steps, until, watch);
+    let image = Arc::new(alloc, image)?;
+    let found = if until.is_never() {
+        None
+    } else {
+        Some(rehearse(alloc, order, &image, input, until, watch)?)
+    };
+    let booted = HostedGuest::boot_shared(alloc, order.profile, image, order.pages);
+    let mut runner = of_boot(booted)?;
+    let ran = match found {
+        Some(found) => run_again(&mut runner, input.as_slice(), found),
+        None => run(&mut runner, input.as_slice(), order.steps, until, watch),
+    };
     let report = report_of(alloc, &runner, ran, extras)?;
     Ok(Done {
         report,
         runner: Some(runner),
         digest,
     })
+}
+
+/// How the run of an image from its boot goes to its end, by one on a machine without a log: that is told whether the steps that it makes at once
+/// come to a state that the run is to end at, where a guest would be looked at after each. An error says that a request for memory was refused.
+#[tactic(auto, using(crate::proofs::Reports::first_of_all))]
+fn rehearse<W: Watch>(
+    alloc: Global,
+    order: Exec<'_>,
+    image: &elf32::Image,
+    input: &ConsoleInput,
+    until: &Until,
+    watch: &mut W,
+) -> Result<Ran, AllocError>
+    requires fits { FitsPages image.now order.pages }
+    requires legal { IsPageCount order.profile order.pages }
+    ensures whole { IfOk result (λ ran. ran.stop ≡ None) }
+    ensures count { IfOk result (IsCount input.now order.entry.steps) }
+    ensures first { IfOk result (IsFirst until.now (fed input.now (boot_machine order.entry.profile image.now order.entry.pages))) }
+{
+    let home = Home::boot(alloc, order.profile, image, order.pages)?;
+    let home = Arc::new(alloc, home)?;
+    let mut machine = ResetMachine::new(alloc, home)?;
+    Ok(run(&mut machine, input.as_slice(), order.steps, until, watch))
 }
 
 /// Boots the reference machine with the image, and runs it. The errors are those of `run_guest`.
