@@ -1,3 +1,4 @@
+mod Covered
 pub mod Ends
 mod Entered
 mod Fetches

@@ -1,5 +1,6 @@
 //! Console input, a byte after another.
 ghost use Rattle.std.specs.Prelude.{◌≡◌, ◌+◌, ◌≤◌, None, length, take, IfSome};
+ghost use Rattle.runs.specs.Coverage.{IsCovered};
 ghost use Rattle.runs.specs.Runs.{fed};
 
 use crate::Runnable;
@@ -13,6 +14,7 @@ pub fn feed_all<M: Runnable>(machine: &mut M, bytes: &[u8]) -> (usize, Option<St
     ensures all { result.1 ≡ None → result.0 ≡ length bytes.now }
     ensures state { M.state machine.new ≡ fed (take result.0 bytes.now) (M.state machine.old) }
     ensures kept { M.kept machine.new ≡ M.kept machine.old }
+    ensures covered { IsCovered (M.coverage machine.old) (M.coverage machine.new) 0 (M.state machine.old) }
     ensures reason { IfSome result.1 (M.may_stop machine.new) }
 {
     let mut taken = 0;

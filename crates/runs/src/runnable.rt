@@ -5,6 +5,7 @@ ghost use Rattle.machine.specs.Step.{Machine as State};
 ghost use Rattle.machine.specs.Items.{after};
 ghost use Rattle.machine.specs.Replies.{bytes_at};
 ghost use Rattle.guest_log.specs.declared.stop.Stop.{Stop};
+ghost use Rattle.runs.specs.Coverage.{CoverageIs, IsCovered};
 ghost use Rattle.runs.specs.Endings.{IsPassed};
 ghost use Rattle.runs.specs.Runs.{after_steps};
 
@@ -30,6 +31,9 @@ pub trait Runnable {
     /// What no call changes: whatever its owner has to find again after a run.
     ghost kept: { Self → Self.Kept };
 
+    /// Its coverage: whether it keeps the addresses that PC stands at before its steps, and which it has.
+    ghost coverage: { Self → CoverageIs };
+
     /// Makes `count` steps, or fewer where it stops before: how many, and why no more.
     fn steps(&mut self, count: u32) -> (u32, Option<Stop>)
         ensures few { result.0 ≤ count }
@@ -37,16 +41,19 @@ pub trait Runnable {
         ensures fewer { IfSome result.1 (λ stop. result.0 < count) }
         ensures state { state self.new ≡ after_steps result.0 (state self.old) }
         ensures kept { kept self.new ≡ kept self.old }
+        ensures covered { IsCovered (coverage self.old) (coverage self.new) result.0 (state self.old) }
         ensures reason { IfSome result.1 (may_stop self.new) };
 
     /// Makes steps, at most `count`, for a run that is to end at the first state of some kinds, and answers how many: it goes past each
     /// state that it makes one from. It may end anywhere, and may well answer 0; a machine that can't tell such states while it makes many
     /// steps at once makes none.
+    #[tactic(auto, using(crate::proofs::Covered::none_covered))]
     fn steps_past(&mut self, count: u32, _until: &Until) -> u32
         ensures few { result ≤ count }
         ensures state { state self.new ≡ after_steps result (state self.old) }
         ensures passed { (k : ℕ) → k < result → IsPassed _until.now (after_steps k (state self.old)) }
         ensures kept { kept self.new ≡ kept self.old }
+        ensures covered { IsCovered (coverage self.old) (coverage self.new) result (state self.old) }
     {
         0
     }
@@ -57,6 +64,7 @@ pub trait Runnable {
         ensures fed { OnOk result (state self.new ≡ after (In byte) (state self.old)) }
         ensures stopped { OnErr result (state self.new ≡ state self.old) }
         ensures kept { kept self.new ≡ kept self.old }
+        ensures covered { IsCovered (coverage self.old) (coverage self.new) 0 (state self.old) }
         ensures reason { IfErr result (may_stop self.new) };
 
     /// What is seen of it beside its memory.

@@ -67,6 +67,8 @@ impl Table {
 
 /// The reference machine never stops.
 impl Runnable for Table {
+    ghost use Rattle.runs.specs.Coverage.{no_coverage};
+
     ghost state = { λ t. t };
 
     ghost may_stop = { λ t stop. ⊥ };
@@ -75,6 +77,10 @@ impl Runnable for Table {
 
     ghost kept = { λ t. tt };
 
+    // It keeps none.
+    ghost coverage = { λ t. no_coverage };
+
+    #[tactic(auto, using(crate::proofs::Covered::uncovered))]
     fn steps(&mut self, count: u32) -> (u32, Option<Stop>)
         ensures all { result.0 ≡ count }
         ensures state { self.new ≡ after_steps count self.old }
@@ -88,6 +94,7 @@ impl Runnable for Table {
         (count, None)
     }
 
+    #[tactic(auto, using(crate::proofs::Covered::uncovered))]
     fn feed(&mut self, byte: u8) -> Result<(), Stop> {
         match self.bus.input(&mut self.cpu, &What::In(byte)) {
             Ok(_) => Ok(()),

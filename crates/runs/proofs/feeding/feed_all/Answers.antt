@@ -1,4 +1,5 @@
 use Rattle.std.proofs.Common.{◌∙◌, arith, ap, ◌+◌}
+use Rattle.runs.proofs.Covered.{none_then}
 use Rattle.runs.proofs.InputFed.{fed_step, fed_waits}
 use Rattle.runs.proofs.feeding.feed_all.Goals as goal
 
@@ -8,5 +9,7 @@ loop-byte-preserved g c = record {
   few = omega (arith, c.loop-byte-test.true);
   state = fed_step c.loop-byte.byte-index c.args.bytes.now _ _ _ (omega (arith, c.loop-byte-test.true)) c.loop-byte.invariant.state c.in_default.ensures.fed;
   kept = c.in_default.ensures.kept ∙ c.loop-byte.invariant.kept;
+  covered = none_then (g.M.Runnable.coverage c.args.machine.now) (g.M.Runnable.coverage c.loop-byte.machine) (g.M.Runnable.coverage c.feed.new.self) (g.M.Runnable.state c.args.machine.now)
+      (g.M.Runnable.state c.loop-byte.machine) c.loop-byte.invariant.covered c.in_default.ensures.covered;
   room = omega (arith, fed_waits _ _ _ c.in_default.ensures.fed, c.loop-byte.invariant.room, c.loop-byte-test.true);
 }

@@ -1,4 +1,5 @@
 use Rattle.std.proofs.Common.{◌≡◌, ◌≤◌, ◌+◌, ◌-◌, length, take}
+use Rattle.runs.specs.Coverage.{IsCovered}
 use Rattle.runs.specs.Runs.{fed}
 use Rattle.runs.proofs.feeding.feed_all.Given as goal
 
@@ -9,5 +10,6 @@ invariant-loop-byte g l = record {
   few : l.byte-index ≤ length l.bytes;
   state : g.M.Runnable.state l.machine ≡ fed (take l.byte-index l.bytes) (g.M.Runnable.state l.fn.machine);
   kept : g.M.Runnable.kept l.machine ≡ g.M.Runnable.kept l.fn.machine;
+  covered : IsCovered (g.M.Runnable.coverage l.fn.machine) (g.M.Runnable.coverage l.machine) 0 (g.M.Runnable.state l.fn.machine);
   room : length (g.M.Runnable.state l.machine).board.devices.console.input + (length l.bytes - l.byte-index) ≤ 256;
 }
