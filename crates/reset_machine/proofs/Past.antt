@@ -22,7 +22,7 @@ use Rattle.runs.specs.declared.ending.Ending.TheVariants.{Loop, Address}
 use Rattle.runs.specs.declared.ending.Until.{Until}
 use Rattle.runs.specs.Endings.{has_address, state_ending}
 use Rattle.runs.specs.Loops.{is_answered, is_loop, is_number, is_quiet, fetched_word, jumped_to, leads_back, led_to, taken_to, word_at_place, word_leads}
-use Rattle.reset_machine.specs.Passing.{goes_past, targets_itself}
+use Rattle.reset_machine.specs.Past.{goes_past, targets_itself}
 
 taken_elsewhere : (pc target : ℕ) (taken : Bool) → (target == pc) ≡ false → is_number pc (taken_to taken target) ≡ false
 taken_elsewhere pc target true no = no
