@@ -1,5 +1,5 @@
 mod Homes
 mod Marking
-mod Passing
+mod Past
 mod Stepping
 mod Watching

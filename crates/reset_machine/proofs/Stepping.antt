@@ -8,8 +8,8 @@ use Rattle.runs.specs.declared.ending.Until.{Until}
 use Rattle.runs.specs.Endings.{IsPassed}
 use Rattle.runs.specs.Entries.{has_entered, is_vector}
 use Rattle.runs.specs.Runs.{after_steps}
-use Rattle.reset_machine.specs.Passing.{goes_past}
-use Rattle.reset_machine.proofs.Passing.{not_ended}
+use Rattle.reset_machine.specs.Past.{goes_past}
+use Rattle.reset_machine.proofs.Past.{not_ended}
 
 -- the steps of a run are those that a machine makes
 pub same_steps : (count : ℕ) (m : Machine) → steps count m ≡ after_steps count m

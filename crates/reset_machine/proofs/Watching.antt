@@ -1,5 +1,5 @@
 -- A memory whose changes are watched: what a store changes is marked, and a page that is put back is as it was at first.
-use Rattle.std.proofs.Common.{ℕ, ◌≡◌, ◌⊎◌, inl, inr, ◌+◌, ◌-◌, ◌*◌, ◌/◌, ◌%◌, ◌^◌, ◌<◌, ◌≤◌, Bool, true, false, nat_le, if◌then◌else◌, All, fold, List, [], ◌∷◌, length, set, get_or, replicate, Option, Some, None, suc, refl, sym, ap, subst, ◌∙◌, arith, length-set, le-leb}
+use Rattle.std.proofs.Common.{ℕ, ◌≡◌, ◌⊎◌, inl, inr, ◌+◌, ◌-◌, ◌*◌, ◌/◌, ◌%◌, ◌<◌, ◌≤◌, Bool, true, false, nat_le, if◌then◌else◌, List, length, set, get_or, replicate, Option, Some, None, refl, sym, ap, subst, ◌∙◌, arith, length-set, le-leb}
 use Rattle.std.proofs.lemmas.Bool.{cases_lt, cases_eq, true≢false}
 use Rattle.std.proofs.lemmas.List.{same_lists, length-replicate}
 use Rattle.word32.specs.Pages.{page_number}
@@ -16,7 +16,7 @@ use Rattle.machine.specs.Board.{Board, Reach, reach, page_bytes, first_byte, byt
 use Rattle.machine.specs.Board.Reach.{InMemory, AtRegister, Nowhere}
 use Rattle.machine.specs.Places.{alignment}
 use Rattle.machine.proofs.Boards.{reach_fits, within_memory, given_away_size}
-use Rattle.machine.proofs.Clearing.{length-zeros, other_page_cleared}
+use Rattle.machine.proofs.Clearing.{other_page_cleared}
 use Rattle.machine.proofs.Pages.{Stored, patched_stored, length-page, page_place, same_page, same_place}
 use Rattle.machine.proofs.Stores.{length-after, other_page}
 use Rattle.reset_machine.specs.Marks.{is_marked, Grows}

@@ -1,3 +1,3 @@
 pub mod Marks
-pub mod Passing
+pub mod Past
 pub mod Watched

@@ -1,7 +1,7 @@
 //! What a run goes past that is to end at the first state of some kinds.
 ghost use Rattle.std.specs.Prelude.{◌≡◌};
 ghost use Rattle.mips_fast.specs.Decoding.{instr_of};
-ghost use Rattle.reset_machine.specs.Passing as spec;
+ghost use Rattle.reset_machine.specs.Past as spec;
 
 use mips_fast::{Decoded, Filter};
 use mips_instr::{Instr, branch_target_of, jump_target_of};
@@ -9,6 +9,7 @@ use runs::Until;
 
 /// Admits the instructions that a run goes past which is to end at the first state of some kinds: a run of those alone comes to no loop
 /// and no address that it is to end at.
+#[derive(Clone, Copy)]
 pub struct Passing<'a> {
     until: &'a Until,
 }

@@ -162,7 +162,6 @@ impl Runnable for ResetMachine {
     }
 
     // A run of many steps at once enters no exception, and makes none from a state that this one is to end at.
-    #[tactic(auto, using(crate::proofs::Stepping::past_steps))]
     fn steps_past(&mut self, count: u32, until: &Until) -> u32
         ensures few { result ≤ count }
         ensures state { self.new.machine ≡ after_steps result self.old.machine }

@@ -1,4 +1,4 @@
-use Rattle.std.proofs.Common.{◌≡◌, false, None, ap, ◌∙◌}
+use Rattle.std.proofs.Common.{◌≡◌, None, ap, ◌∙◌}
 use Rattle.machine.specs.Board.{Board}
 use Rattle.reset_machine.proofs.Watching.{page_back, all_back}
 use Rattle.reset_machine.proofs.bus.reload.Goals as goal
