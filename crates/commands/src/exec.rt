@@ -147,7 +147,7 @@ fn run_guest<'a, W: Watch>(
     ensures faults { IfErr result IsWant }
 {
     let Loaded { image, digest } = loaded;
-    let image = Arc::new(alloc, image)?;
+    let image = shared(alloc, image)?;
     let found = if until.is_never() {
         None
     } else {
@@ -165,6 +165,13 @@ fn run_guest<'a, W: Watch>(
         runner: Some(runner),
         digest,
     })
+}
+
+/// An image that several may have.
+fn shared(alloc: Global, image: elf32::Image) -> Result<Arc<elf32::Image, Global>, AllocError>
+    ensures { IfOk result (λ a. a.value ≡ image) }
+{
+    Ok(Arc::new(alloc, image)?)
 }
 
 /// How the run of an image from its boot goes to its end, by one on a machine without a log: that is told whether the steps that it makes at once

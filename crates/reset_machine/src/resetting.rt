@@ -21,6 +21,13 @@ use std::sync::Arc;
 /// Fewer steps than this are made one by one, since what it takes to begin a run is more than that.
 const FEW: u32 = 16;
 
+/// A run that is to go past states and ends after fewer steps than this came to a branch or jump to itself that is no loop, mostly: a wait that counts
+/// in its delay slot. Then states are looked at one by one for a while.
+const SHORT: u32 = 2;
+
+/// How often they are.
+const PAUSE: u32 = 16;
+
 /// A machine that begins as its home is, and goes back to that by the pages that were written since. In clauses it is the machine as it stands and
 /// its home, `Resettable`.
 #[derive(Drop)]
@@ -28,6 +35,8 @@ pub struct ResetMachine {
     cpu: Cpu,
     bus: WatchedBus,
     cache: RunCache,
+    // how often `steps_past` is yet to make no step
+    pause: u32,
 }
 
 impl Model for ResetMachine {
@@ -48,14 +57,24 @@ impl ResetMachine {
         let cpu = home.processor();
         let cache = RunCache::new(alloc)?;
         let bus = WatchedBus::new(alloc, home)?;
-        Ok(ResetMachine { cpu, bus, cache })
+        Ok(ResetMachine {
+            cpu,
+            bus,
+            cache,
+            pause: 0,
+        })
     }
 
     /// The machine as it stands, for others to begin as: it has no home any more.
     pub fn into_home(self) -> Home
         ensures { result ≡ self.machine }
     {
-        let ResetMachine { cpu, bus, cache } = self;
+        let ResetMachine {
+            cpu,
+            bus,
+            cache,
+            pause: _,
+        } = self;
         drop(cache);
         let (flat, pages) = bus.into_flat();
         Home::of_parts(cpu, flat, pages)
@@ -171,7 +190,13 @@ impl Runnable for ResetMachine {
         if count < FEW {
             return 0;
         }
-        self.run_quietly(&Passing::new(until), count)
+        if self.pause > 0 {
+            self.pause -= 1;
+            return 0;
+        }
+        let made = self.run_quietly(&Passing::new(until), count);
+        self.pause = if made < SHORT { PAUSE } else { 0 };
+        made
     }
 
     fn feed(&mut self, byte: u8) -> Result<(), Stop>

@@ -8,5 +8,5 @@ use Rattle.reset_machine.proofs.resetting.ResetMachineRunnable.steps_past.Goals 
 pub returns-clause-passed : goal.returns-clause-passed
 returns-clause-passed c =
     let first = c.args.self.now.machine in
-    let made = c.run_quietly.result in
-    past_steps c.args.until.now made first (subst (λ (until : Until). AreAdmitted (goes_past until) made first) c.new.ensures c.run_quietly.ensures.admitted) c.run_quietly.ensures.status
+    let made = c.run_quietly-made.result in
+    past_steps c.args.until.now made first (subst (λ (until : Until). AreAdmitted (goes_past until) made first) c.new.ensures c.run_quietly-made.ensures.admitted) c.run_quietly-made.ensures.status
