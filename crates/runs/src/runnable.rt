@@ -31,7 +31,7 @@ pub trait Runnable {
     /// What no call changes: whatever its owner has to find again after a run.
     ghost kept: { Self → Self.Kept };
 
-    /// Its coverage: whether it keeps the addresses that PC stands at before its steps, and which it has.
+    /// Its coverage: whether it keeps the words of memory that PC leads to before its steps, by their numbers, and which it has.
     ghost coverage: { Self → CoverageIs };
 
     /// Makes `count` steps, or fewer where it stops before: how many, and why no more.
