@@ -14,6 +14,7 @@ ghost use Rattle.commands.specs.Hosted.{first_pages, hosted_of, IsAlone, IsLacki
 ghost use Rattle.commands.specs.Raw.{IsPageCount};
 ghost use Rattle.commands.specs.Runs.{MayStop};
 ghost use Rattle.machine.specs.Replies.{bytes_at};
+ghost use Rattle.runs.specs.Coverage.{covered, no_coverage};
 ghost use Rattle.runs.specs.Runs.{after_steps};
 
 use elf32::Image;
@@ -115,11 +116,16 @@ impl Runnable for HostedGuest {
 
     ghost kept = { λ h. tt };
 
+    // It keeps none.
+    ghost coverage = { λ h. no_coverage };
+
+    #[tactic(auto, using(runs::proofs::Covered::uncovered))]
     fn steps(&mut self, count: u32) -> (u32, Option<Stop>)
         ensures few { result.0 ≤ count }
         ensures all { result.1 ≡ None → result.0 ≡ count }
         ensures fewer { IfSome result.1 (λ stop. result.0 < count) }
         ensures state { self.new.machine ≡ after_steps result.0 self.old.machine }
+        ensures covered { no_coverage ≡ covered result.0 self.old.machine no_coverage }
         ensures reason { IfSome result.1 (MayStop self.new.log) }
         ensures full { IfSome result.1 (λ stop. (stop ≡ Stop.LogFull) ↔ IsFull self.new.log) }
     {

@@ -1,5 +1,5 @@
 -- How many pages the memory has that an image boots.
-use Rattle.std.proofs.Common.{ℕ, ◌≡◌, ◌*◌, ◌^◌, ◌<◌, ◌≤◌, All, fold, List, [], ◌∷◌, length, suc, refl, sym, ap, subst, ◌∙◌, arith}
+use Rattle.std.proofs.Common.{ℕ, ◌≡◌, ◌*◌, ◌^◌, ◌≤◌, All, fold, List, [], ◌∷◌, length, suc, refl, sym, ap, subst, ◌∙◌, arith}
 use Rattle.word32.specs.Zeros.{zeros}
 use Rattle.elf32.specs.declared.image.Segment.{Segment}
 use Rattle.elf32.specs.declared.image.Image.{Image}

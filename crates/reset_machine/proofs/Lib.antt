@@ -1,5 +1,7 @@
+mod Covering
 mod Homes
 mod Marking
 mod Past
+mod Reaching
 mod Stepping
 mod Watching

@@ -5,9 +5,11 @@ use Rattle.mips_cp0.specs.Status.{status_exl}
 use Rattle.machine.specs.Step.{Machine, step}
 use Rattle.mips_fast.specs.Runs.{steps, AreAdmitted, IsAdmitted, KeepsStatus}
 use Rattle.runs.specs.declared.ending.Until.{Until}
+use Rattle.runs.specs.Coverage.{CoverageIs, covered, with_pc}
 use Rattle.runs.specs.Endings.{IsPassed}
 use Rattle.runs.specs.Entries.{has_entered, is_vector}
 use Rattle.runs.specs.Runs.{after_steps}
+use Rattle.runs.proofs.Covered.{covered_then}
 use Rattle.reset_machine.specs.Past.{goes_past}
 use Rattle.reset_machine.proofs.Past.{not_ended}
 
@@ -51,3 +53,7 @@ past_steps until count m admitted kept k below =
       no_entry = no_entry (after_steps k m) (step (after_steps k m))
           (ap (λ (x : Machine). (step x).cpu.cp0.status) (sym (same_steps k m)) ∙ kept (suc k) next ∙ sym (kept k here) ∙ ap (λ (x : Machine). x.cpu.cp0.status) (same_steps k m));
     }
+
+-- the coverage after one step more
+pub one_more_covered : (made : ℕ) (m old : Machine) (a b d : CoverageIs) → b ≡ covered made m a → old ≡ after_steps made m → d ≡ with_pc old b → d ≡ covered (made + 1) m a
+one_more_covered made m old a b d before at now = covered_then a b d made 1 m old before at now

@@ -13,6 +13,7 @@ targets_itself pc (instr.BranchZero op rs offset) = branch_target pc offset == p
 targets_itself pc (instr.Jump op target) = jump_target pc target == pc
 targets_itself pc other = false
 
--- which instructions it goes past: none that may be a loop, where it is to end at one, and none at an address that it is to end at
-abbrev pub goes_past : Until → ℕ → Instr → Bool
-goes_past until pc i = not (until.loops && targets_itself pc i) && not (has_address until pc)
+-- which instructions it goes past, by their virtual addresses, wherever those lead: none that may be a loop, where it is to end at one, and none
+-- at an address that it is to end at
+abbrev pub goes_past : Until → ℕ → ℕ → Instr → Bool
+goes_past until pc at i = not (until.loops && targets_itself pc i) && not (has_address until pc)

@@ -5,6 +5,7 @@ use Rattle.devices.specs.Devices.{DevicesAre}
 use Rattle.devices.specs.Registers.{device_register_at, page_to_give}
 use Rattle.machine.specs.Board.{Board, page_bytes}
 use Rattle.machine.specs.Step.{Machine}
+use Rattle.runs.specs.Coverage.{CoverageIs}
 use Rattle.reset_machine.specs.Marks.{is_marked}
 
 -- a memory with devices, the machine that it goes back to, and the pages that were written since it was that machine's
@@ -13,10 +14,11 @@ pub record WatchedBoard : Type 0 where
   pub home : Machine
   pub written : List ℕ
 
--- a machine, and the one that it goes back to
+-- a machine, the one that it goes back to, and which words of memory PC led to, where that is kept
 pub record Resettable : Type 0 where
   pub machine : Machine
   pub home : Machine
+  pub coverage : CoverageIs
 
 -- a memory of some pages, at most 2^20
 pub record HasPages (pages : ℕ) (memory : List ℕ) : Type 0 where

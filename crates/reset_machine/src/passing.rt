@@ -1,8 +1,11 @@
 //! What a run goes past that is to end at the first state of some kinds.
-ghost use Rattle.std.specs.Prelude.{◌≡◌};
+ghost use Rattle.std.specs.Prelude.{◌≡◌, ◌/◌, ◌&&◌};
 ghost use Rattle.mips_fast.specs.Decoding.{instr_of};
+ghost use Rattle.runs.specs.Coverage.{is_reached};
 ghost use Rattle.reset_machine.specs.Past as spec;
 
+use crate::Cover;
+use machine::PhysAddr;
 use mips_fast::{Decoded, Filter};
 use mips_instr::{Instr, branch_target_of, jump_target_of};
 use runs::Until;
@@ -24,10 +27,35 @@ impl Passing<'_> {
 }
 
 impl Filter for Passing<'_> {
-    ghost admits = { λ filter pc instr. spec.goes_past filter.until.now pc instr };
+    ghost admits = { λ filter pc at instr. spec.goes_past filter.until.now pc at instr };
 
-    fn is_admitted(&self, pc: u32, decoded: &Decoded) -> bool {
+    fn is_admitted(&self, pc: u32, _at: PhysAddr, decoded: &Decoded) -> bool {
         !(self.until.loops && targets_itself(pc, decoded)) && !self.until.has_address(pc)
+    }
+}
+
+/// Admits the instructions that another filter does, of the words that are reached.
+#[derive(Clone, Copy)]
+pub(crate) struct Reached<'a, F> {
+    cover: &'a Cover,
+    filter: &'a F,
+}
+
+impl<'a, F> Reached<'a, F> {
+    /// Of these words, and with this filter.
+    pub(crate) fn new(cover: &'a Cover, filter: &'a F) -> Reached<'a, F>
+        ensures cover { result.cover.now ≡ cover.now }
+        ensures filter { result.filter.now ≡ filter.now }
+    {
+        Reached { cover, filter }
+    }
+}
+
+impl<F: Filter> Filter for Reached<'_, F> {
+    ghost admits = { λ filter pc at instr. is_reached (at / 4) filter.cover.now.reached && F.admits filter.filter.now pc at instr };
+
+    fn is_admitted(&self, pc: u32, at: PhysAddr, decoded: &Decoded) -> bool {
+        self.cover.has(at) && self.filter.is_admitted(pc, at, decoded)
     }
 }
 

@@ -1,9 +1,9 @@
 -- The entry of an exception is seen.
-use Rattle.std.proofs.Common.{ℕ, ◌≡◌, ◌+◌, ◌==◌, ◌&&◌, ◌||◌, ◌⊎◌, inl, inr, not, Bool, true, false, if◌then◌else◌, refl, sym, ap, subst, ◌∙◌, arith, eq-eqb}
-use Rattle.mips_cp0.specs.Bits.{has_bits, with_bits}
+use Rattle.std.proofs.Common.{ℕ, ◌≡◌, ◌+◌, ◌==◌, ◌&&◌, ◌||◌, ◌⊎◌, inl, inr, not, Bool, true, false, if◌then◌else◌, refl, ap, ◌∙◌, arith, eq-eqb}
+use Rattle.mips_cp0.specs.Bits.{has_bits}
 use Rattle.mips_cp0.specs.Cause.{cause_iv}
 use Rattle.mips_cp0.specs.Status.{status_exl}
-use Rattle.mips_cp0.specs.Entered.{entered, refill_offset, vector_address, vector_base, vector_offset}
+use Rattle.mips_cp0.specs.Entered.{vector_base, vector_offset}
 use Rattle.mips_cp0.specs.Registers.{SystemRegisters}
 use Rattle.mips_cp0.specs.declared.exception.Exc.{Exc}
 use Rattle.mips_cp0.specs.declared.exception.Exc.TheVariants as exc

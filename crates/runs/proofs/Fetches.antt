@@ -1,5 +1,5 @@
 -- The word that is fetched, by the bytes that a debugger reads.
-use Rattle.std.proofs.Common.{ℕ, ◌≡◌, ◌+◌, ◌*◌, ◌/◌, ◌%◌, ◌^◌, ◌<◌, ◌≤◌, ◌==◌, ◌&&◌, ◌⊎◌, inl, inr, not, nat_lt, nat_le, Bool, true, false, if◌then◌else◌, List, [], ◌∷◌, ◌++◌, length, drop, get_or, find, Option, Some, None, Result, Ok, Err, refl, sym, ap, subst, ◌∙◌, arith, suc, eqb-true, eq-eqb, leb-true, drop-cons}
+use Rattle.std.proofs.Common.{ℕ, ◌≡◌, ◌+◌, ◌*◌, ◌/◌, ◌%◌, ◌^◌, ◌<◌, ◌≤◌, ◌==◌, ◌&&◌, ◌⊎◌, inl, inr, not, nat_lt, nat_le, Bool, true, false, if◌then◌else◌, List, [], ◌∷◌, length, drop, get_or, find, Option, Some, None, Result, Ok, Err, refl, sym, ap, ◌∙◌, arith, suc, eqb-true, eq-eqb, drop-cons}
 use Rattle.std.proofs.lemmas.Bool.{cases_lt}
 use Rattle.std.proofs.lemmas.Bool.Decides.{nat_tests}
 use Rattle.byteorder.specs.Endian.{little_number}
@@ -14,13 +14,12 @@ use Rattle.mips_tlb.specs.declared.kind.Kind.TheVariants.{Fetch, Load}
 use Rattle.mips_tlb.specs.declared.tlb.Entry.{Entry}
 use Rattle.mips_tlb.proofs.Pages.{translation_same}
 use Rattle.machine.specs.declared.access.Size.TheVariants.{Word}
-use Rattle.machine.specs.Processor.{Processor}
-use Rattle.machine.specs.Board.{Board, is_given_page, is_in_memory}
+use Rattle.machine.specs.Board.{is_given_page, is_in_memory}
 use Rattle.machine.specs.Places.{place}
 use Rattle.machine.specs.Step.{Machine}
 use Rattle.machine.proofs.Aligned.{passed, place_offset}
-use Rattle.machine.specs.Replies.{byte_at, byte_in, bytes_at, in_memory, probe, with_next}
-use Rattle.runs.specs.Loops.{fetched_word, is_answered, read_as_word, word_at_place, word_read}
+use Rattle.machine.specs.Replies.{byte_at, byte_in, in_memory, with_next}
+use Rattle.runs.specs.Loops.{fetched_word, read_as_word, word_at_place, word_read}
 
 -- ---- where a fetch leads, a load of kernel mode does
 

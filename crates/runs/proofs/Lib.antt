@@ -1,3 +1,4 @@
+pub mod Covered
 pub mod Ends
 mod Entered
 mod Fetches

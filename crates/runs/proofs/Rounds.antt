@@ -1,18 +1,16 @@
 -- A machine in a loop stays there.
 use Rattle.std.proofs.Common.{ℕ, zero, suc, ◌≡◌, ◌+◌, ◌/◌, ◌%◌, ◌^◌, ◌==◌, ◌&&◌, ◌⊎◌, inl, inr, not, is_none, is_some, slice_set, Bool, true, false, if◌then◌else◌, List, find, Option, Some, None, Result, Ok, Err, refl, sym, ap, subst, ◌∙◌, arith, eqb-true, add-one}
 use Rattle.std.proofs.lemmas.Bool.{and_parts}
-use Rattle.std.specs.Int.Bits.{bit_or, or_add_and}
+use Rattle.std.specs.Int.Bits.{or_add_and}
 use Rattle.std.proofs.lemmas.Nat.{and_or_self}
 use Rattle.std.proofs.lemmas.List.{set-get_or}
 use Rattle.std.proofs.lemmas.Bool.{cases_lt}
 use Rattle.word32.specs.Pages.{page_number}
-use Rattle.dev_balloon.specs.Balloon.{is_given, page_taken, BalloonIs}
-use Rattle.devices.specs.Devices.{DevicesAre, page_accessed}
 use Rattle.mips_cp0.specs.declared.exception.Exc.{Exc}
 use Rattle.mips_cp0.specs.declared.exception.Exc.TheVariants as exc
 use Rattle.mips_cp0.specs.Bits.{with_bits}
 use Rattle.mips_cp0.specs.Cause.{cause_ip7}
-use Rattle.mips_cp0.specs.Interrupts.{interrupt_taken, is_taken, ticked}
+use Rattle.mips_cp0.specs.Interrupts.{interrupt_taken, is_taken}
 use Rattle.mips_cp0.specs.Registers.{SystemRegisters}
 use Rattle.mips_cp0.specs.Time.{after_ticks}
 use Rattle.mips_instr.specs.Targets.{slot_address, branch_target, jump_target}
@@ -27,16 +25,14 @@ use Rattle.mips_tlb.specs.Entries.{matches}
 use Rattle.mips_tlb.specs.Segments.{is_mapped, is_refused, unmapped_address}
 use Rattle.mips_tlb.specs.Translation.{address_error, through_entry}
 use Rattle.mips_tlb.specs.declared.kind.Kind.TheVariants.{Fetch}
-use Rattle.mips_tlb.specs.declared.tlb.Entry.{Entry}
 use Rattle.machine.specs.declared.access.Size.TheVariants.{Word}
-use Rattle.machine.specs.Processor.{Processor, reg, jumped, skipped, after_slot, linked, next}
+use Rattle.machine.specs.Processor.{Processor, reg, jumped, next}
 use Rattle.machine.specs.Board.{Board, is_given_page, is_in_memory, lines_of, touched, value_in}
 use Rattle.machine.specs.Places.{place}
 use Rattle.machine.specs.Meaning.{branch_condition, is_likely, is_likely_zero, links, zero_condition}
-use Rattle.machine.specs.Operations.{Operation, branched, decoded, done_or_excepted, instruction_of, jumped_far, linked_if, operation_of, outside_slot, word_operation}
-use Rattle.machine.specs.Operations.Operation.{OnProcessor}
+use Rattle.machine.specs.Operations.{branched, decoded, done_or_excepted, instruction_of, jumped_far, linked_if, operation_of, outside_slot, word_operation}
 use Rattle.machine.specs.Step.{Machine, after_tick, fetched, machine_with, performed, raised, step, word_fetched}
-use Rattle.runs.specs.Loops.{at_branch, fetched_word, in_its_slot, is_answered, is_loop, is_number, is_quiet, jumped_to, leads_back, led_to, taken_to, word_at_place, word_leads}
+use Rattle.runs.specs.Loops.{at_branch, fetched_word, in_its_slot, is_loop, is_number, is_quiet, jumped_to, leads_back, led_to, taken_to, word_at_place, word_leads}
 use Rattle.runs.specs.Runs.{after_steps}
 
 -- ---- what ticks leave

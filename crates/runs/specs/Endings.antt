@@ -1,5 +1,5 @@
 -- Where a run ends that is to end at the first state of some kinds.
-use Rattle.std.specs.Prelude.{◌≡◌, ◌<◌, ℕ, zero, suc, Bool, ◌==◌, ◌&&◌, ◌/◌, ◌%◌, if◌then◌else◌, List, [], Option, Some, None, IfSome, true, false}
+use Rattle.std.specs.Prelude.{◌≡◌, ◌<◌, ℕ, zero, suc, Bool, ◌==◌, ◌&&◌, ◌/◌, ◌%◌, if◌then◌else◌, [], Option, Some, None, IfSome, false}
 use Rattle.std.specs.List.{list_any}
 use Rattle.machine.specs.Step.{Machine, step}
 use Rattle.runs.specs.declared.ending.Ending.{Ending}

@@ -1,3 +1,4 @@
+pub mod Coverage
 pub mod Endings
 pub mod Entries
 pub mod Loops

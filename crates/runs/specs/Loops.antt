@@ -1,5 +1,5 @@
 -- Where a machine goes round in one place for ever: a branch or jump to itself, with a NOP in its delay slot.
-use Rattle.std.specs.Prelude.{ℕ, Bool, true, false, ◌==◌, ◌&&◌, not, is_none, if◌then◌else◌, List, Option, Some, None, Result, Ok, Err}
+use Rattle.std.specs.Prelude.{ℕ, Bool, false, ◌==◌, ◌&&◌, not, is_none, if◌then◌else◌, List, Option, Some, None, Result, Ok, Err}
 use Rattle.mips_cp0.specs.declared.exception.Exc.{Exc}
 use Rattle.mips_cp0.specs.Bits.{with_bits}
 use Rattle.mips_cp0.specs.Cause.{cause_ip7}

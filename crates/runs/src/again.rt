@@ -1,6 +1,7 @@
 //! A run once more.
 ghost use Rattle.std.specs.Prelude.{◌≡◌, ℕ, ◌+◌, ◌≤◌, None, length, take, IfSome};
 ghost use Rattle.runs.specs.declared.ending.Until.{Until};
+ghost use Rattle.runs.specs.Coverage.{covered};
 ghost use Rattle.runs.specs.Endings.{IsFirst};
 ghost use Rattle.runs.specs.Runs.{after_run, fed, IsCount};
 
@@ -17,6 +18,7 @@ pub fn run_again<M: Runnable>(machine: &mut M, input: &[u8], found: Ran) -> Ran
     ensures state { M.state machine.new ≡ after_run result input.now (M.state machine.old) }
     ensures first { (until : Until) → IsFirst until (fed input.now (M.state machine.old)) found → IsFirst until (fed (take result.taken input.now) (M.state machine.old)) result }
     ensures kept { M.kept machine.new ≡ M.kept machine.old }
+    ensures covered { M.coverage machine.new ≡ covered result.steps (fed (take result.taken input.now) (M.state machine.old)) (M.coverage machine.old) }
     ensures reason { IfSome result.stop (M.may_stop machine.new) }
 {
     let (taken, refused) = feed_all(machine, input);

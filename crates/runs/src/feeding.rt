@@ -13,6 +13,7 @@ pub fn feed_all<M: Runnable>(machine: &mut M, bytes: &[u8]) -> (usize, Option<St
     ensures all { result.1 ≡ None → result.0 ≡ length bytes.now }
     ensures state { M.state machine.new ≡ fed (take result.0 bytes.now) (M.state machine.old) }
     ensures kept { M.kept machine.new ≡ M.kept machine.old }
+    ensures covered { M.coverage machine.new ≡ M.coverage machine.old }
     ensures reason { IfSome result.1 (M.may_stop machine.new) }
 {
     let mut taken = 0;

@@ -5,6 +5,7 @@ ghost use Rattle.machine.specs.Step.{Machine as State};
 ghost use Rattle.machine.specs.Items.{after};
 ghost use Rattle.machine.specs.Replies.{bytes_at};
 ghost use Rattle.guest_log.specs.declared.stop.Stop.{Stop};
+ghost use Rattle.runs.specs.Coverage.{CoverageIs, covered};
 ghost use Rattle.runs.specs.Endings.{IsPassed};
 ghost use Rattle.runs.specs.Runs.{after_steps};
 
@@ -30,6 +31,9 @@ pub trait Runnable {
     /// What no call changes: whatever its owner has to find again after a run.
     ghost kept: { Self → Self.Kept };
 
+    /// Its coverage: the words of memory that PC led to before its steps, if it keeps that.
+    ghost coverage: { Self → CoverageIs };
+
     /// Makes `count` steps, or fewer where it stops before: how many, and why no more.
     fn steps(&mut self, count: u32) -> (u32, Option<Stop>)
         ensures few { result.0 ≤ count }
@@ -37,6 +41,7 @@ pub trait Runnable {
         ensures fewer { IfSome result.1 (λ stop. result.0 < count) }
         ensures state { state self.new ≡ after_steps result.0 (state self.old) }
         ensures kept { kept self.new ≡ kept self.old }
+        ensures covered { coverage self.new ≡ covered result.0 (state self.old) (coverage self.old) }
         ensures reason { IfSome result.1 (may_stop self.new) };
 
     /// Makes steps, at most `count`, for a run that is to end at the first state of some kinds, and answers how many: it goes past each
@@ -47,6 +52,7 @@ pub trait Runnable {
         ensures state { state self.new ≡ after_steps result (state self.old) }
         ensures passed { (k : ℕ) → k < result → IsPassed _until.now (after_steps k (state self.old)) }
         ensures kept { kept self.new ≡ kept self.old }
+        ensures covered { coverage self.new ≡ covered result (state self.old) (coverage self.old) }
     {
         0
     }
@@ -57,6 +63,7 @@ pub trait Runnable {
         ensures fed { OnOk result (state self.new ≡ after (In byte) (state self.old)) }
         ensures stopped { OnErr result (state self.new ≡ state self.old) }
         ensures kept { kept self.new ≡ kept self.old }
+        ensures covered { coverage self.new ≡ coverage self.old }
         ensures reason { IfErr result (may_stop self.new) };
 
     /// What is seen of it beside its memory.

@@ -1,5 +1,6 @@
 //! A run: the console input, and then steps.
 ghost use Rattle.std.specs.Prelude.{◌≡◌, ℕ, ◌+◌, ◌<◌, ◌≤◌, None, length, take, IfSome};
+ghost use Rattle.runs.specs.Coverage.{covered};
 ghost use Rattle.runs.specs.Endings.{IsFirst, ending_after};
 ghost use Rattle.runs.specs.Runs.{after_run, after_steps, fed, IsCount};
 
@@ -42,6 +43,7 @@ pub fn run<M: Runnable, W: Watch>(
     ensures state { M.state machine.new ≡ after_run result input.now (M.state machine.old) }
     ensures first { IsFirst until.now (fed (take result.taken input.now) (M.state machine.old)) result }
     ensures kept { M.kept machine.new ≡ M.kept machine.old }
+    ensures covered { M.coverage machine.new ≡ covered result.steps (fed (take result.taken input.now) (M.state machine.old)) (M.coverage machine.old) }
     ensures reason { IfSome result.stop (M.may_stop machine.new) }
 {
     let ran = match feed_all(machine, input) {
@@ -71,6 +73,7 @@ pub(crate) fn make_all<M: Runnable, W: Watch>(
     ensures state { M.state machine.new ≡ after_steps result.steps (M.state machine.old) }
     ensures nowhere { result.ending ≡ None }
     ensures kept { M.kept machine.new ≡ M.kept machine.old }
+    ensures covered { M.coverage machine.new ≡ covered result.steps (M.state machine.old) (M.coverage machine.old) }
     ensures reason { IfSome result.stop (M.may_stop machine.new) }
 {
     let mut made: u32 = 0;
@@ -110,6 +113,7 @@ fn make_until<M: Runnable, W: Watch>(
     ensures state { M.state machine.new ≡ after_steps result.steps (M.state machine.old) }
     ensures first { IsFirst until.now (M.state machine.old) result }
     ensures kept { M.kept machine.new ≡ M.kept machine.old }
+    ensures covered { M.coverage machine.new ≡ covered result.steps (M.state machine.old) (M.coverage machine.old) }
     ensures reason { IfSome result.stop (M.may_stop machine.new) }
 {
     let mut made: u32 = 0;
@@ -162,6 +166,7 @@ fn next_states<M: Runnable>(machine: &mut M, count: u32, until: &Until) -> Piece
     ensures there { result.stop ≡ None → result.ending ≡ ending_after until.now (M.state machine.old) result.steps }
     ensures stopped { IfSome result.stop (λ why. result.ending ≡ None) }
     ensures kept { M.kept machine.new ≡ M.kept machine.old }
+    ensures covered { M.coverage machine.new ≡ covered result.steps (M.state machine.old) (M.coverage machine.old) }
     ensures reason { IfSome result.stop (M.may_stop machine.new) }
 {
     let past = machine.steps_past(count, until);
@@ -192,6 +197,7 @@ fn next_state<M: Runnable>(machine: &mut M, until: &Until) -> Piece
     ensures there { result.stop ≡ None → result.ending ≡ ending_after until.now (M.state machine.old) 1 }
     ensures stopped { IfSome result.stop (λ why. (result.steps ≡ 0) × (result.ending ≡ None)) }
     ensures kept { M.kept machine.new ≡ M.kept machine.old }
+    ensures covered { M.coverage machine.new ≡ covered result.steps (M.state machine.old) (M.coverage machine.old) }
     ensures reason { IfSome result.stop (M.may_stop machine.new) }
 {
     let before = machine.view().cpu.cp0().status();

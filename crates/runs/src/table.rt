@@ -5,6 +5,7 @@ ghost use Rattle.items.specs.declared.item.What.TheVariants.{In};
 ghost use Rattle.machine.specs.Step.{step};
 ghost use Rattle.machine.specs.Boot.{boot_machine};
 ghost use Rattle.machine.specs.Items.{after};
+ghost use Rattle.runs.specs.Coverage.{covered, no_coverage};
 ghost use Rattle.runs.specs.Runs.{after_steps};
 
 use crate::{NoPlace, Runnable};
@@ -75,9 +76,14 @@ impl Runnable for Table {
 
     ghost kept = { λ t. tt };
 
+    // It keeps none.
+    ghost coverage = { λ t. no_coverage };
+
+    #[tactic(auto, using(crate::proofs::Covered::uncovered))]
     fn steps(&mut self, count: u32) -> (u32, Option<Stop>)
         ensures all { result.0 ≡ count }
         ensures state { self.new ≡ after_steps count self.old }
+        ensures covered { no_coverage ≡ covered count self.old no_coverage }
         ensures never_stops { result.1 ≡ None }
     {
         for made in 0..count {

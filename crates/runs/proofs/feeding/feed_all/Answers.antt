@@ -8,5 +8,6 @@ loop-byte-preserved g c = record {
   few = omega (arith, c.loop-byte-test.true);
   state = fed_step c.loop-byte.byte-index c.args.bytes.now _ _ _ (omega (arith, c.loop-byte-test.true)) c.loop-byte.invariant.state c.in_default.ensures.fed;
   kept = c.in_default.ensures.kept ∙ c.loop-byte.invariant.kept;
+  covered = c.in_default.ensures.covered ∙ c.loop-byte.invariant.covered;
   room = omega (arith, fed_waits _ _ _ c.in_default.ensures.fed, c.loop-byte.invariant.room, c.loop-byte-test.true);
 }

@@ -9,5 +9,6 @@ invariant-loop-byte g l = record {
   few : l.byte-index ≤ length l.bytes;
   state : g.M.Runnable.state l.machine ≡ fed (take l.byte-index l.bytes) (g.M.Runnable.state l.fn.machine);
   kept : g.M.Runnable.kept l.machine ≡ g.M.Runnable.kept l.fn.machine;
+  covered : g.M.Runnable.coverage l.machine ≡ g.M.Runnable.coverage l.fn.machine;
   room : length (g.M.Runnable.state l.machine).board.devices.console.input + (length l.bytes - l.byte-index) ≤ 256;
 }

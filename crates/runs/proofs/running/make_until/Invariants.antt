@@ -1,5 +1,6 @@
 use Rattle.std.proofs.Common.{ℕ, ◌≡◌, ◌-◌, ◌<◌, ◌≤◌, None}
 use Rattle.runs.specs.Endings.{ending_after}
+use Rattle.runs.specs.Coverage.{covered}
 use Rattle.runs.specs.Runs.{after_steps}
 use Rattle.runs.proofs.running.make_until.Given as goal
 
@@ -9,6 +10,7 @@ invariant-loop-made g l = record {
   few : l.made ≤ l.count;
   state : g.M.Runnable.state l.machine ≡ after_steps l.made (g.M.Runnable.state l.fn.machine);
   kept : g.M.Runnable.kept l.machine ≡ g.M.Runnable.kept l.fn.machine;
+  covered : g.M.Runnable.coverage l.machine ≡ covered l.made (g.M.Runnable.state l.fn.machine) (g.M.Runnable.coverage l.fn.machine);
   none_before : (k : ℕ) → k < l.made → ending_after l.until (g.M.Runnable.state l.fn.machine) k ≡ None;
   here : l.ending ≡ ending_after l.until (g.M.Runnable.state l.fn.machine) l.made;
 }

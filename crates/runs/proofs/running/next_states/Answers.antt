@@ -2,6 +2,7 @@ use Rattle.std.proofs.Common.{ℕ, ◌≡◌, ◌<◌, ◌+◌, ◌∙◌, sym, 
 use Rattle.machine.specs.Step.{Machine}
 use Rattle.runs.specs.Endings.{ending_after, state_ending}
 use Rattle.runs.specs.Runs.{after_steps}
+use Rattle.runs.proofs.Covered.{covered_then}
 use Rattle.runs.proofs.Ends.{ends_from, none_between, none_passed, steps_then}
 use Rattle.runs.proofs.running.next_states.Goals as goal
 
@@ -37,3 +38,10 @@ returns-clause-there g c on =
     ∙ ap (λ (m : Machine). ending_after c.args.until.now m 1) past.ensures.state
     ∙ ends_from c.args.until.now first past.result 1 some
     ∙ ap (λ (n : ℕ). ending_after c.args.until.now first (past.result + n)) (sym one)
+
+pub returns-clause-covered : goal.returns-clause-covered
+returns-clause-covered g c =
+    let past = c.steps_past-past in
+    let next = c.next_state-next in
+    covered_then (g.M.Runnable.coverage c.args.machine.now) (g.M.Runnable.coverage past.new.self) (g.M.Runnable.coverage next.new.machine) past.result next.result.steps
+    (g.M.Runnable.state c.args.machine.now) (g.M.Runnable.state past.new.self) past.ensures.covered past.ensures.state next.ensures.covered

@@ -1,4 +1,5 @@
 use Rattle.std.proofs.Common.{◌≡◌, ◌-◌, ◌≤◌}
+use Rattle.runs.specs.Coverage.{covered}
 use Rattle.runs.specs.Runs.{after_steps}
 use Rattle.reset_machine.proofs.resetting.ResetMachine.many_steps.Given as goal
 
@@ -7,6 +8,7 @@ invariant-loop-made l = record {
   few : l.made ≤ l.count;
   machine : l.self.machine ≡ after_steps l.made l.initial.self.machine;
   home : l.self.home ≡ l.initial.self.home;
+  coverage : l.self.coverage ≡ covered l.made l.initial.self.machine l.initial.self.coverage;
 }
 
 abbrev pub decreases-loop-made : goal.decreases-loop-made
