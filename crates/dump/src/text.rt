@@ -1,10 +1,12 @@
 //! The dump of a machine.
 ghost use Rattle.std.specs.Prelude.{◌≡◌, ◌+◌, ◌<◌, ◌++◌, IfOk, OnOk, string_bytes};
 ghost use Rattle.machine.specs.Step.{Machine};
+ghost use Rattle.masm.specs.Disassembly.{hex_word};
+ghost use Rattle.mips_instr.specs.Operands.{hex_byte, hex_digit};
 ghost use Rattle.dump.specs.Dumps as spec;
 
 use guest_log::Stop;
-use masm::{HexByte, HexWord};
+use masm::HexWord;
 use mips_cp0::SystemRegister;
 use mips_instr::Reg;
 use mips_step::{Cpu, View};
@@ -135,10 +137,40 @@ pub fn push_digits(out: &mut String, bytes: &[u8]) -> Result<(), AllocError>
     ensures { OnOk result (string_bytes out.new ≡ string_bytes out.old ++ spec.digits_of bytes.now) }
 {
     for &byte in bytes {
-        let digits = HexByte(byte);
-        write!(out, "{digits}")?;
+        push_byte(out, byte)?;
     }
     Ok(())
+}
+
+/// The character of a hexadecimal digit, in lower case.
+fn digit_of(value: u8) -> char
+    requires { value < 16 }
+    ensures value { result ≡ hex_digit value }
+    ensures ascii { result < 128 }
+{
+    if value < 10 {
+        (b'0' + value) as char
+    } else {
+        (b'a' - 10 + value) as char
+    }
+}
+
+/// A byte in two hexadecimal digits.
+fn push_byte(out: &mut String, byte: u8) -> Result<(), AllocError>
+    ensures { OnOk result (string_bytes out.new ≡ string_bytes out.old ++ hex_byte byte) }
+{
+    out.push(digit_of(byte / 16))?;
+    out.push(digit_of(byte % 16))
+}
+
+/// A word in eight hexadecimal digits.
+pub fn push_word(out: &mut String, word: u32) -> Result<(), AllocError>
+    ensures { OnOk result (string_bytes out.new ≡ string_bytes out.old ++ hex_word word) }
+{
+    push_byte(out, (word >> 24) as u8)?;
+    push_byte(out, ((word >> 16) % 0x100) as u8)?;
+    push_byte(out, ((word >> 8) % 0x100) as u8)?;
+    push_byte(out, (word % 0x100) as u8)
 }
 
 /// Why a run ended before its last step, where it did.
