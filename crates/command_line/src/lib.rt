@@ -11,5 +11,6 @@ mod fuzzing;
 mod help;
 mod inputs;
 mod parsing;
+mod printer;
 pub mod program;
 pub mod progress;

@@ -6,6 +6,7 @@ ghost use Rattle.command_line.specs.Exit.{code_of, HasNoFuzz, HasNoRun, HasNoSim
 use crate::explaining::{Subject, excerpt_of, explain, explain_later};
 use crate::fuzzing::answer_fuzz;
 use crate::parsing::{Order, Settings, parse};
+use crate::printer::Printer;
 use clap::Error;
 use commands::{
     Asm, Dis, Exec, Fault, Replay, Report, Sim, SimFault, assemble_file, disassemble_file,
@@ -104,8 +105,16 @@ where
         fuzzing: mentions_fuzz(words),
     };
     let written = match parse(rt.alloc(), words) {
-        Ok(Order::Run(order)) if tells.running => answer_run(rt, &order, input, out, err),
-        Ok(Order::Fuzz(order)) if tells.fuzzing => answer_fuzz(rt, order, input, out, err),
+        Ok(Order::Run(order)) if tells.running => {
+            let mut printer = Printer::new(out);
+            let answered = answer_run(rt, &order, input, &mut printer, err);
+            printer.told(answered)
+        }
+        Ok(Order::Fuzz(order)) if tells.fuzzing => {
+            let mut printer = Printer::new(out);
+            let answered = answer_fuzz(rt, order, input, &mut printer, err);
+            printer.told(answered)
+        }
         Ok(order) => answer_order(rt, order, tells, out, err, watch),
         Err(error) => write_error(&error, out, err),
     };
@@ -116,8 +125,8 @@ where
     status.code()
 }
 
-/// Says that not all could be printed, where that can be said and is of use: not where the reader of the output has ended, nor of replies and of the lines
-/// of inputs, whose reader may end at any time.
+/// Says that not all could be printed, where that can be said and is of use: not where the reader of the output has ended, nor of a script's
+/// replies, nor where another output failed, or there was no memory.
 fn tell_unprinted<E: Write>(error: &io::Error, err: &mut E) -> Status
     ensures { code_of result ≡ 1 }
 {
