@@ -15,7 +15,7 @@ _vmhost() {
             asm | dis) words='--help' ;;
             sim) words='--lines --logs --help' ;;
             run) words='--frames --slots --swap --port --seed --logs --profile --admit --help' ;;
-            fuzz) words='--raw --profile --pages --ready --steps --until --out --logs --jobs --help' ;;
+            fuzz) words='--raw --profile --pages --ready --steps --until --out --reached --logs --coverage --jobs --help' ;;
             help) words='asm dis exec replay sim run fuzz' ;;
         esac
     fi

@@ -66,6 +66,11 @@ pub(crate) const OUT: &str = "out";
 
 pub(crate) const JOBS: &str = "jobs";
 
+/// The options of `fuzz` about the words of memory that PC led to: on the line of each run, and of all runs in a file.
+pub(crate) const REACHED: &str = "reached";
+
+pub(crate) const COVERAGE: &str = "coverage";
+
 pub(crate) const INPUTS: &str = "input";
 
 pub(crate) fn whole_command<'a>(alloc: Global) -> Result<Command<'a>, AllocError> {
@@ -181,7 +186,10 @@ fn fuzz_command<'a>(alloc: Global) -> Result<Command<'a>, AllocError> {
         )
         .after_help(LINE)
         .arg(raw_flag(alloc))?
-        .arg(flag(alloc, OUT).help("Print each output itself in place of its SHA-256 digest"))?;
+        .arg(flag(alloc, OUT).help("Print each output itself in place of its SHA-256 digest"))?
+        .arg(flag(alloc, REACHED).help(
+            "End each line with the words of memory that PC led to in the run: their addresses, in the order in which it did so first",
+        ))?;
     let command = with_numbers(alloc, command)?.arg(
         Arg::new(alloc, READY)
             .long(READY)
@@ -197,6 +205,14 @@ fn fuzz_command<'a>(alloc: Global) -> Result<Command<'a>, AllocError> {
         Arg::new(alloc, LOGS).long(LOGS).value_name("DIR").help(
             "A directory that the logs of runs that end in an exception are written to: that of input K, from 1, as K.log",
         ),
+    )?;
+    let command = command.arg(
+        Arg::new(alloc, COVERAGE)
+            .long(COVERAGE)
+            .value_name("FILE")
+            .help(
+                "A file that the words of memory to which PC led in all runs are written to: a line for each, with its address and the first input that led there",
+            ),
     )?;
     let command = command.arg(number(alloc, JOBS, "N", "1").help(
         "How many inputs are run at once, each by a thread of its own: 1 to 64; what is printed is the same with any number",

@@ -167,6 +167,11 @@ fn reason_of_fuzz<R: Files + AllocGlobal>(
     if is_input(order, name) && found.len() > MOST_INPUT {
         return Some(LONG_INPUT);
     }
+    if let Some(coverage) = order.coverage
+        && is_one_file(rt, coverage, name)
+    {
+        return Some(COVERAGE_IS_FUZZED);
+    }
     match order.logs {
         Some(_) if File::open(rt, name).is_ok() => Some(LOG_IS_FUZZED),
         _ => None,
@@ -203,6 +208,9 @@ fn is_input(order: &FuzzOrder<'_>, name: &str) -> bool {
 const MOST_INPUT: u64 = 256;
 
 const LONG_INPUT: &str = "it has more than the 256 bytes that the input of a run has at most";
+
+const COVERAGE_IS_FUZZED: &str =
+    "the words of memory that PC led to would be written over it: give them another file";
 
 const LOG_IS_FUZZED: &str =
     "the log of an input would be written over it: give the logs another directory";

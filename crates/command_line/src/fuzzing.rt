@@ -44,7 +44,9 @@ where
         ready,
         until,
         shown,
+        reached,
         logs,
+        coverage,
         inputs: _,
         jobs,
     } = order;
@@ -53,7 +55,9 @@ where
         ready,
         until,
         shown,
+        reached,
         logs,
+        coverage,
         inputs,
         jobs,
     };
@@ -77,29 +81,30 @@ where
     ensures carried_out { IfOk result (λ s. code_of s ≢ 1 → err.new ≡ err.old) }
 {
     match fuzz_order(rt, order, input, out) {
-        Ok(
-            FuzzEnd {
-                stopped: _,
-                unwritten: Some(number),
-            },
-        ) => write_unlogged(order.logs.unwrap_or(""), number, err),
-        Ok(
-            FuzzEnd {
-                stopped: true,
-                unwritten: None,
-            },
-        ) => Ok(Status::Stopped),
-        Ok(
-            FuzzEnd {
-                stopped: false,
-                unwritten: None,
-            },
-        ) => Ok(Status::Done),
+        Ok(end) => answer_end(order, end, err),
         Err(FuzzFault::Command(fault)) => write_refusal(rt, Subject::Fuzz(order), &fault, err),
         Err(FuzzFault::Output) => Err(io::Error::from(ErrorKind::Other)),
         Err(FuzzFault::Unready) => write_line_fault(FuzzFault::Unready, UNREADY_WORDS, err),
         Err(FuzzFault::Line(number)) => write_line_fault(FuzzFault::Line(number), LINE_WORDS, err),
         Err(FuzzFault::Unread) => write_line_fault(FuzzFault::Unread, UNREAD_WORDS, err),
+    }
+}
+
+/// Says how the runs went, and what could not be written.
+fn answer_end<E: Write>(order: &FuzzOrder<'_>, end: FuzzEnd, err: &mut E) -> io::Result<Status>
+    ensures usage { IfOk result (λ s. code_of s ≢ 2) }
+    ensures carried_out { IfOk result (λ s. code_of s ≢ 1 → err.new ≡ err.old) }
+{
+    if let Some(number) = end.unwritten {
+        return write_unlogged(order.logs.unwrap_or(""), number, err);
+    }
+    if !end.is_covered {
+        return write_uncovered(order.coverage.unwrap_or(""), err);
+    }
+    if end.stopped {
+        Ok(Status::Stopped)
+    } else {
+        Ok(Status::Done)
     }
 }
 
@@ -130,6 +135,19 @@ fn write_unlogged<E: Write>(directory: &str, number: usize, err: &mut E) -> io::
     writeln!(
         err,
         "  the log of input {number} can't be written; what was done is done, and the logs that can be are written"
+    )?;
+    err.flush()?;
+    Ok(Status::Refused)
+}
+
+/// Writes that the file of the words that were reached is not written, and words for it.
+fn write_uncovered<E: Write>(name: &str, err: &mut E) -> io::Result<Status>
+    ensures { IfOk result (λ s. code_of s ≡ 1) }
+{
+    writeln!(err, "vmhost: file {name}")?;
+    writeln!(
+        err,
+        "  the words of memory that PC led to can't be written there; what was done is done"
     )?;
     err.flush()?;
     Ok(Status::Refused)

@@ -1,8 +1,8 @@
 //! The command line.
 use crate::arguments::{
-    ADMIT, ALL, ASM, DIS, FRAMES, FUZZ, GUEST, INPUT, INPUTS, JOBS, LINES, LOGS, MEMORY, OUT,
-    PAGES, PORT, PROFILE, READY, REPLAY, RUN_GUESTS, SEED, SIM, SLOTS, STEPS, SWAP, UNTIL,
-    whole_command,
+    ADMIT, ALL, ASM, COVERAGE, DIS, FRAMES, FUZZ, GUEST, INPUT, INPUTS, JOBS, LINES, LOGS, MEMORY,
+    OUT, PAGES, PORT, PROFILE, REACHED, READY, REPLAY, RUN_GUESTS, SEED, SIM, SLOTS, STEPS, SWAP,
+    UNTIL, whole_command,
 };
 use clap::error::ErrorKind;
 use clap::{ArgMatches, Command, Error};
@@ -153,7 +153,9 @@ fn fuzz_of<'a>(
         ready,
         until,
         shown: shown_of(of_fuzz),
+        reached: of_fuzz.get_flag(REACHED),
         logs: of_fuzz.get_str(LOGS),
+        coverage: of_fuzz.get_str(COVERAGE),
         inputs,
         jobs,
     }))

@@ -1,5 +1,5 @@
 -- Inputs that are run at once.
-use Rattle.std.proofs.Common.{◌≡◌, refl, sym, ap, subst, ◌∙◌, ℕ, zero, suc, ◌+◌, ◌<◌, ◌≤◌, arith, Bool, false, ◌||◌, List, [], ◌∷◌, ◌++◌, All, append_assoc, length, length-append, map, take, drop, take_all, get_or, set, ◌⊎◌, inl, inr, Option, Some, None, IfSome, decimal, Result, Ok, Err, IfErr, IfOk}
+use Rattle.std.proofs.Common.{◌≡◌, refl, sym, ap, subst, ◌∙◌, ℕ, zero, suc, ◌+◌, ◌<◌, ◌≤◌, arith, Bool, false, ◌||◌, List, [], ◌∷◌, ◌++◌, All, append_assoc, length, length-append, map, take, drop, take_all, get_or, set, ◌⊎◌, inl, inr, Option, Some, None, IfSome, decimal}
 use Rattle.std.specs.Io.BufRead.{drop_through}
 use Rattle.std.specs.Io.KnownBytes.{Appends, IsAtEnd}
 use Rattle.std.specs.List.{flat_map, list_any}
@@ -18,7 +18,7 @@ use Rattle.fuzz_command.specs.declared.job.Then.{Then}
 use Rattle.fuzz_command.specs.declared.job.Then.TheVariants.{More, End, Fault}
 use Rattle.fuzz_command.specs.declared.order.InputFile.{InputFile}
 use Rattle.fuzz_command.specs.Faults.{IsFilesFault, IsTrialFault}
-use Rattle.fuzz_command.specs.Inputs.{AreBefore, AreFiles, AreFirstLines, AreInputs, BeginFiles, BeginInputs, BreakLines, IsFirstLine, IsNext, IsNoLine, input_of, first_digits, name_of}
+use Rattle.fuzz_command.specs.Inputs.{AreBefore, AreFiles, AreFirstLines, AreInputs, BeginFiles, BeginInputs, IsNext, IsNoLine, input_of, name_of}
 use Rattle.fuzz_command.specs.Jobs.{AreFirstJobs, AreJobs, BeginJobs, EndsLines, HasRun, IsBehind, IsBehindFiles, IsFirstJob, IsNextJob, IsNumbered, IsOutcome, IsOver, IsRunOf, TakesFiles, TakesLine, TakesLines, job_input, job_name}
 use Rattle.fuzz_command.specs.Lines.{IsTrial, Trial, has_stopped, line_text}
 use Rattle.fuzz_command.specs.Settings.{Setting}

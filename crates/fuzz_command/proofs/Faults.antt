@@ -1,5 +1,5 @@
 -- Faults of what was asked for.
-use Rattle.std.proofs.Common.{◌≡◌, ◌<◌, ◌⊎◌, ℕ, List, [], Some, length, get_or, inl, inr, refl, sym, subst}
+use Rattle.std.proofs.Common.{◌≡◌, ◌<◌, ℕ, List, [], Some, length, get_or, inr, refl, sym, subst}
 use Rattle.std.specs.List.{slice_get}
 use Rattle.std.proofs.lemmas.Option.{slice_get-get_or}
 use Rattle.commands.specs.declared.fault.Fault.{Fault}
@@ -9,7 +9,7 @@ use Rattle.fuzz_command.specs.declared.fault.FuzzFault.{FuzzFault}
 use Rattle.fuzz_command.specs.declared.fault.FuzzFault.TheVariants.{Command, Unready, Line, Unread, Output}
 use Rattle.fuzz_command.specs.declared.order.FuzzOrder.{FuzzOrder}
 use Rattle.fuzz_command.specs.declared.order.InputFile.{InputFile}
-use Rattle.fuzz_command.specs.Faults.{IsCommandFault, IsFileFault, IsFilesFault, IsFuzzFault, IsInput, IsLinesFault, IsReadyFault, IsSettingFault, IsTrialFault}
+use Rattle.fuzz_command.specs.Faults.{IsCommandFault, IsFileFault, IsFilesFault, IsFuzzFault, IsLinesFault, IsReadyFault, IsSettingFault, IsTrialFault}
 
 -- ---- a file
 

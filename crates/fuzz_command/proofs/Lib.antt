@@ -1,7 +1,9 @@
 mod Batches
 mod Faults
+mod Firsts
 mod Limits
 mod Orders
+mod Reached
 mod Readiness
 mod RunLogs
 mod Trials

@@ -1,8 +1,8 @@
 -- What is written for an order.
-use Rattle.std.proofs.Common.{◌≡◌, ◌⊎◌, inl, inr, refl, ℕ, Bool, List, [], ◌∷◌, ◌++◌, map, Option, Some, None, IfSome, Result, Ok, Err, IfErr, IfOk}
+use Rattle.std.proofs.Common.{inl, inr, refl, ℕ, Bool, List, [], ◌∷◌, map, Option, Some, None}
 use Rattle.fuzz_command.specs.declared.order.FuzzOrder.{FuzzOrder}
 use Rattle.fuzz_command.specs.declared.order.InputFile.{InputFile}
-use Rattle.fuzz_command.specs.Inputs.{AreBefore, AreFirstLines, AreInputs, BeginInputs, BeginLines, name_of}
+use Rattle.fuzz_command.specs.Inputs.{AreBefore, AreInputs, BeginInputs, name_of}
 use Rattle.fuzz_command.specs.Settings.{IsSettingOf, Setting}
 use Rattle.fuzz_command.specs.Writing.{Begins, HasBegun, IsBroken, IsFuzzed, IsImage, IsLeft, Writes}
 use Rattle.fuzz_command.proofs.Trials.{none_written}

@@ -1,8 +1,8 @@
 -- How a machine comes to where it is ready, and that nothing waits in its console then.
-use Rattle.std.proofs.Common.{ℕ, zero, suc, ◌≡◌, ◌<◌, ◌/◌, ◌%◌, Bool, true, false, ◌==◌, ◌&&◌, ◌||◌, if◌then◌else◌, List, [], ◌∷◌, take, drop, Option, Some, None, Result, Ok, Err, refl, sym, ap, subst, ◌∙◌, eq-eqb}
+use Rattle.std.proofs.Common.{ℕ, zero, suc, ◌≡◌, ◌/◌, ◌%◌, Bool, true, false, ◌==◌, ◌&&◌, ◌||◌, if◌then◌else◌, List, [], ◌∷◌, take, drop, Some, None, Result, Ok, Err, refl, sym, ap, subst, ◌∙◌, eq-eqb}
 use Rattle.std.specs.List.{list_any}
 use Rattle.std.proofs.lemmas.Bool.{true≢false}
-use Rattle.dev_console.specs.Console.{ConsoleIs, output_room, output_written}
+use Rattle.dev_console.specs.Console.{ConsoleIs}
 use Rattle.devices.specs.Devices.{DevicesAre}
 use Rattle.devices.specs.Registers.{device_loaded, device_stored}
 use Rattle.devices.specs.declared.register.DeviceRegister.{DeviceRegister}
@@ -20,12 +20,11 @@ use Rattle.machine.specs.Board.Reach.{InMemory, AtRegister, Nowhere}
 use Rattle.machine.specs.Operations.{Operation, word_operation}
 use Rattle.machine.specs.Operations.Operation.{OnProcessor, Loads, Stores}
 use Rattle.machine.specs.Places.{fetch_place}
-use Rattle.machine.specs.Step.{Machine, machine_with, step, load_size, load_place, loaded, loaded_from, store_size, store_place, stored, stored_to, is_given_up, performed, word_fetched, fetched, raised, after_tick}
-use Rattle.runs.specs.Endings.{IsFirst, ending_after, has_address, state_ending, step_ending}
+use Rattle.machine.specs.Step.{Machine, machine_with, step, load_size, load_place, loaded, loaded_from, store_size, store_place, stored, stored_to, is_given_up, performed, word_fetched, fetched, raised}
+use Rattle.runs.specs.Endings.{IsFirst, ending_after, has_address, state_ending}
 use Rattle.runs.specs.Entries.{has_entered}
 use Rattle.runs.specs.Loops.{is_loop}
 use Rattle.runs.specs.Runs.{after_run, after_steps, fed}
-use Rattle.runs.specs.declared.ending.Ending.{Ending}
 use Rattle.runs.specs.declared.ending.Ending.TheVariants.{Loop, Exception, Address}
 use Rattle.runs.specs.declared.ending.Until.{Until}
 use Rattle.runs.specs.declared.running.Ran.{Ran}

@@ -1,5 +1,5 @@
 -- Runs, one after another.
-use Rattle.std.proofs.Common.{◌≡◌, refl, sym, ap, subst, ◌∙◌, ℕ, ◌+◌, ◌<◌, arith, Bool, true, false, ◌||◌, is_some, List, [], ◌∷◌, ◌++◌, All, append_assoc, length, length-append, map, take, drop, take_all, get_or, ◌≤◌, length-take, Option, Some, None, IfSome, decimal, Result, Ok, Err, IfErr, IfOk}
+use Rattle.std.proofs.Common.{◌≡◌, refl, sym, ap, subst, ◌∙◌, ℕ, ◌+◌, ◌<◌, arith, Bool, true, false, ◌||◌, List, [], ◌∷◌, ◌++◌, append_assoc, length, length-append, map, take, drop, take_all, get_or, ◌≤◌, length-take, Option, Some, None, IfSome, decimal, Result, Ok, Err, IfErr, IfOk}
 use Rattle.std.specs.Io.BufRead.{drop_through}
 use Rattle.std.specs.Io.KnownBytes.{Appends, IsAtEnd, prepend_known}
 use Rattle.std.specs.List.{flat_map, list_any}
@@ -13,7 +13,7 @@ use Rattle.std.proofs.lemmas.List.Folds.{list_any-append}
 use Rattle.runs.specs.declared.running.Ran.{Ran}
 use Rattle.fuzz_command.specs.declared.fault.FuzzFault.TheVariants.{Line, Output}
 use Rattle.fuzz_command.specs.declared.order.InputFile.{InputFile}
-use Rattle.fuzz_command.specs.Inputs.{AreBefore, AreFiles, AreFirstLines, AreInputs, BeginFiles, BeginInputs, BeginLines, BreakLines, IsFirstLine, IsNext, IsNoLine, input_of, first_digits, name_of}
+use Rattle.fuzz_command.specs.Inputs.{AreBefore, AreFiles, AreFirstLines, AreInputs, BeginFiles, BeginInputs, IsFirstLine, IsNext, IsNoLine, input_of, name_of}
 use Rattle.fuzz_command.specs.Lines.{IsTrial, Trial, has_stopped, line_text}
 use Rattle.fuzz_command.specs.Settings.{Setting}
 use Rattle.fuzz_command.specs.Writing.{Begins, RunsLine, Writes, WritesLine, WritesLines}

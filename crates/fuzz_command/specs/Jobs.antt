@@ -1,5 +1,5 @@
 -- Inputs that are run at once.
-use Rattle.std.specs.Prelude.{◌≡◌, ◌<◌, ◌≤◌, ◌+◌, ℕ, List, [], ◌∷◌, ◌++◌, decimal, length, map, take, string_bytes, Option, Some, None, IfSome}
+use Rattle.std.specs.Prelude.{◌≡◌, ◌<◌, ◌≤◌, ◌+◌, ℕ, List, [], ◌∷◌, ◌++◌, decimal, drop, length, map, take, true, string_bytes, Option, Some, None, IfSome}
 use Rattle.std.specs.Io.BufRead.{drop_through}
 use Rattle.std.specs.Io.KnownBytes.{IsAtEnd}
 use Rattle.items.specs.declared.item.Item.{Item}
@@ -10,13 +10,14 @@ use Rattle.fuzz_command.specs.declared.fault.FuzzFault.TheVariants.{Line}
 use Rattle.fuzz_command.specs.declared.job.Job.{Job}
 use Rattle.fuzz_command.specs.declared.job.Outcome.{Outcome}
 use Rattle.fuzz_command.specs.declared.job.Outcome.TheVariants.{Waiting, Done, Refused}
+use Rattle.fuzz_command.specs.declared.job.RunResult.{RunResult}
 use Rattle.fuzz_command.specs.declared.job.Then.{Then}
 use Rattle.fuzz_command.specs.declared.job.Then.TheVariants.{More, End, Fault}
 use Rattle.fuzz_command.specs.declared.order.InputFile.{InputFile}
 use Rattle.fuzz_command.specs.Faults.{IsFilesFault}
 use Rattle.fuzz_command.specs.Inputs.{IsNoLine, first_digits, input_of, name_of}
-use Rattle.fuzz_command.specs.Lines.{IsTrial, Trial, line_text}
-use Rattle.fuzz_command.specs.Settings.{Setting}
+use Rattle.fuzz_command.specs.Lines.{IsTrial, Trial, line_text, reached_from}
+use Rattle.fuzz_command.specs.Settings.{Setting, coverage_with}
 
 -- ---- an input
 
@@ -28,11 +29,19 @@ job_input job = job.input
 
 -- ---- its run
 
--- what became of the run of an input of this name: its line is the one of its run, or memory was refused
+-- What the run of an input of this name gave: the line is the one of its run, and the words are those that were reached in it and not before. Where
+-- they are shown on the lines, none was reached before; else the machine knows those of the runs before that it made.
+pub record IsResult (s : Setting) (name input : List ℕ) (done : RunResult) : Type 0 where
+  pub trial : IsTrial s (record { name = name; input = input; ran = done.ran })
+  pub text : string_bytes done.text ≡ line_text s (record { name = name; input = input; ran = done.ran })
+  pub known : List ℕ
+  pub alone : s.reached ≡ true → known ≡ []
+  pub reached : done.reached.items ≡ drop (length known) (reached_from s (record { name = name; input = input; ran = done.ran }) known)
+
+-- what became of the run of an input of this name: it gave that, or memory was refused
 abbrev pub IsOutcome : Setting → List ℕ → List ℕ → Outcome → Type 0
 IsOutcome s name input Waiting = ⊥
-IsOutcome s name input (Done done) =
-    IsTrial s (record { name = name; input = input; ran = done.ran }) × (string_bytes done.text ≡ line_text s (record { name = name; input = input; ran = done.ran }))
+IsOutcome s name input (Done done) = IsResult s name input done
 IsOutcome s name input (Refused want) = Unit {0}
 
 -- an input is run
@@ -51,9 +60,21 @@ pub record IsRunOf (s : Setting) (job job' : Job) : Type 0 where
   pub input : job_input job' ≡ job_input job
   pub run : HasRun s job'
 
--- a machine that runs inputs, if there is one, goes back to where a setting's is ready
+-- a machine goes back to where a setting's is ready, and keeps a coverage of as many words
+pub record RunsAgain (s : Setting) (m : Resettable) : Type 0 where
+  pub home : m.home ≡ s.home
+  pub words : m.coverage.words ≡ (coverage_with s []).words
+
+-- so does the machine that runs inputs, if there is one
 abbrev pub IsReusable : Setting → Option Resettable → Type 0
-IsReusable s used = IfSome used (λ m. m.home ≡ s.home)
+IsReusable s used = IfSome used (RunsAgain s)
+
+-- a machine is where a setting's is ready, and goes back there; where the words that are reached are shown on the lines, none is yet
+pub record IsReadyMachine (s : Setting) (m : Resettable) : Type 0 where
+  pub machine : m.machine ≡ s.home
+  pub home : m.home ≡ s.home
+  pub words : m.coverage.words ≡ (coverage_with s []).words
+  pub alone : s.reached ≡ true → m.coverage.reached ≡ []
 
 -- the items of a log that are bytes of input by the runner's seat
 abbrev pub input_items : List ℕ → List Item

@@ -1,4 +1,5 @@
 pub mod Faults
+pub mod Firsts
 pub mod Inputs
 pub mod Jobs
 pub mod Lines

@@ -1,10 +1,12 @@
 -- The line of an input.
-use Rattle.std.specs.Prelude.{◌≡◌, ℕ, Bool, is_some, List, ◌++◌, codes, decimal, take, Option, Some, None}
+use Rattle.std.specs.Prelude.{ℕ, ◌+◌, ◌*◌, ◌%◌, ◌^◌, Bool, if◌then◌else◌, is_some, List, [], ◌∷◌, ◌++◌, codes, decimal, flat_map, take, Option, Some, None}
+use Rattle.std.specs.Borrow.{Bor}
 use Rattle.sha2.specs.Sha256.{sha256}
 use Rattle.dump.specs.Dumps.{digits_of, output_digits}
 use Rattle.guest_log.specs.declared.stop.Stop.{Stop}
 use Rattle.guest_log.specs.Stops.{stop_number}
 use Rattle.masm.specs.Disassembly.{hex_word}
+use Rattle.runs.specs.Coverage.{covered}
 use Rattle.runs.specs.Endings.{IsFirst}
 use Rattle.runs.specs.Runs.{after_run, fed, IsCount}
 use Rattle.runs.specs.declared.ending.Ending.{Ending}
@@ -12,7 +14,7 @@ use Rattle.runs.specs.declared.ending.Ending.TheVariants.{Loop, Exception, Addre
 use Rattle.runs.specs.declared.running.Ran.{Ran}
 use Rattle.fuzz_command.specs.declared.order.Shown.{Shown}
 use Rattle.fuzz_command.specs.declared.order.Shown.TheVariants.{Digest, Digits}
-use Rattle.fuzz_command.specs.Settings.{Setting}
+use Rattle.fuzz_command.specs.Settings.{Setting, coverage_with}
 
 -- an input that was run, by its name, and how its run went
 pub record Trial : Type 0 where
@@ -51,10 +53,41 @@ abbrev pub shown_text : Shown → List ℕ → List ℕ
 shown_text Digest output = digits_of (sha256 output)
 shown_text Digits output = output_digits output
 
--- the line of a run of this name with this output
-abbrev pub run_text : Shown → List ℕ → Ran → List ℕ → List ℕ
-run_text shown name ran output =
-    name ++ codes " steps " ++ decimal ran.steps ++ codes " " ++ end_text ran.stop ran.ending ++ codes " out " ++ shown_text shown output ++ codes "\n"
+-- the words of memory that were reached before a run, and behind them those that PC led to in it, each once, in the order in which it did so first
+abbrev pub reached_from : Setting → Trial → List ℕ → List ℕ
+reached_from s t known = (covered t.ran.steps (fed (take t.ran.taken t.input) s.home) (coverage_with s known)).reached
+
+-- the words that PC led to in a run, whatever was before it
+abbrev pub reached_in : Setting → Trial → List ℕ
+reached_in s t = reached_from s t []
+
+-- the address of a word of memory in kseg0, where it is the same whatever the TLB holds
+abbrev pub word_address : ℕ → ℕ
+word_address word = (2 ^ 31 + 4 * word) % 2 ^ 32
+
+abbrev pub address_text : ℕ → List ℕ
+address_text word = codes " " ++ hex_word (word_address word)
+
+-- the words that were reached, by their addresses, a dash where there is none
+abbrev pub words_text : List ℕ → List ℕ
+words_text [] = codes " -"
+words_text (word ∷ words) = flat_map address_text (word ∷ words)
+
+-- what a borrow of words has, where there is one
+abbrev pub words_of : Option (Bor (List ℕ)) → Option (List ℕ)
+words_of None = None
+words_of (Some words) = Some words.now
+
+-- nothing where they are not shown
+abbrev pub reached_text : Option (List ℕ) → List ℕ
+reached_text None = []
+reached_text (Some words) = codes " reached" ++ words_text words
+
+-- the line of a run of this name with this output, and with the words that were reached where they are shown
+abbrev pub run_text : Shown → List ℕ → Ran → List ℕ → Option (List ℕ) → List ℕ
+run_text shown name ran output reached =
+    name ++ codes " steps " ++ decimal ran.steps ++ codes " " ++ end_text ran.stop ran.ending ++ codes " out " ++ shown_text shown output
+    ++ reached_text reached ++ codes "\n"
 
 abbrev pub line_text : Setting → Trial → List ℕ
-line_text s t = run_text s.shown t.name t.ran (output_after s t)
+line_text s t = run_text s.shown t.name t.ran (output_after s t) (if s.reached then Some (reached_in s t) else None)

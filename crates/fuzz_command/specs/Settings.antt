@@ -1,8 +1,9 @@
 -- What an input is run on, and how.
-use Rattle.std.specs.Prelude.{ℕ, ◌≡◌, ◌<◌, []}
+use Rattle.std.specs.Prelude.{ℕ, ◌≡◌, ◌<◌, ◌/◌, ◌||◌, Bool, if◌then◌else◌, is_some, List, [], length}
 use Rattle.elf32.specs.declared.image.Image.{Image}
 use Rattle.machine.specs.Boot.{boot_machine}
 use Rattle.machine.specs.Step.{Machine}
+use Rattle.runs.specs.Coverage.{CoverageIs}
 use Rattle.runs.specs.Runs.{after_steps}
 use Rattle.runs.specs.declared.ending.Until.{Until}
 use Rattle.fuzz_command.specs.declared.order.FuzzOrder.{FuzzOrder}
@@ -11,16 +12,22 @@ use Rattle.fuzz_command.specs.declared.order.Ready.TheVariants.{Boot, Steps, Add
 use Rattle.fuzz_command.specs.declared.order.Shown.{Shown}
 use Rattle.fuzz_command.specs.declared.setting.Setting.{Setting as SettingCode}
 
--- the machine that takes each input, where it is ready, how many steps are to be made then, the states that a run is to end at, and how the
--- output is shown
+-- the machine that takes each input, where it is ready, how many steps are to be made then, the states that a run is to end at, how the output is
+-- shown, whether it is kept which words of memory PC led to, and whether those are shown
 pub record Setting : Type 0 where
   pub home : Machine
   pub steps : ℕ
   pub until : Until
   pub shown : Shown
+  pub covers : Bool
+  pub reached : Bool
 
 abbrev pub setting_of : SettingCode → Setting
-setting_of s = record { home = s.home.value; steps = s.steps; until = s.until.now; shown = s.shown }
+setting_of s = record { home = s.home.value; steps = s.steps; until = s.until.now; shown = s.shown; covers = s.covers; reached = s.reached }
+
+-- the coverage that a run begins with where these words are reached: of each word of memory, or of none
+abbrev pub coverage_with : Setting → List ℕ → CoverageIs
+coverage_with s known = record { words = if s.covers then length s.home.board.memory / 4 else 0; reached = known }
 
 -- no byte waits in the console, so that each input has room
 abbrev pub IsSilent : Machine → Type 0
@@ -58,3 +65,5 @@ pub record IsSettingOf (order : FuzzOrder) (image : Image) (s : Setting) : Type 
   pub steps : s.steps ≡ order.run.steps
   pub until : s.until ≡ order.until
   pub shown : s.shown ≡ order.shown
+  pub covers : s.covers ≡ (order.reached || is_some order.coverage)
+  pub reached : s.reached ≡ order.reached

@@ -10,8 +10,8 @@ use crate::fault::FuzzFault;
 use crate::job::{Batch, Job, Outcome, Then};
 use crate::jobs::Jobs;
 use crate::lines::MOST_INPUT;
-use crate::logs::CrashKeeper;
 use crate::order::InputFile;
+use crate::records::Keeper;
 use crate::setting::Setting;
 use crate::writing::try_jobs;
 use commands::fault::of_file;
@@ -123,7 +123,7 @@ fn next_files<'a, R: Files + AllocGlobal>(
 ///
 /// An error is `Command` where a file can't be read or has too many bytes, or memory was refused, and `Output` where a line could not be written:
 /// the first in the order of the inputs. Where it isn't the last, the lines of the inputs before stand.
-pub(crate) fn fuzz_files<'a, R: Files + AllocGlobal + Threads + Sync, K: CrashKeeper, O: Write>(
+pub(crate) fn fuzz_files<'a, R: Files + AllocGlobal + Threads + Sync, K: Keeper, O: Write>(
     rt: &R,
     setting: &Setting<'_>,
     at_once: &Jobs,

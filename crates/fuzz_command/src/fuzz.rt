@@ -7,12 +7,13 @@ ghost use Rattle.fuzz_command.specs.Inputs.{AreBefore, AreInputs, BeginInputs};
 ghost use Rattle.fuzz_command.specs.Settings.{CanRun, IsSettingOf, setting_of};
 ghost use Rattle.fuzz_command.specs.Writing.{Begins, IsBroken, IsFuzzed, IsImage, IsLeft, Writes};
 
+use crate::apart::outputs_are_apart;
 use crate::fault::FuzzFault;
 use crate::files::fuzz_files;
 use crate::lines::{MOST_LINE, fuzz_lines};
-use crate::logs::{CrashKeeper, CrashLogs, logs_are_apart};
 use crate::order::FuzzOrder;
 use crate::ready::make_ready;
+use crate::records::{Keeper, Records};
 use crate::setting::Setting;
 use commands::Fault;
 use commands::exec::load;
@@ -32,13 +33,15 @@ pub struct FuzzEnd {
     pub stopped: bool,
     /// The number of the first input, counted from 1, whose log could not be written.
     pub unwritten: Option<usize>,
+    /// Whether the file of the words that were reached is written, where there is to be one.
+    pub is_covered: bool,
 }
 
 /// How many bytes of lines are read ahead at least, where they have come.
 const LEAST_AHEAD: usize = 8192;
 
 // Runs the inputs of an order.
-fn run_inputs<'a, R: Files + AllocGlobal + Threads + Sync, I: BufRead, K: CrashKeeper, O: Write>(
+fn run_inputs<'a, R: Files + AllocGlobal + Threads + Sync, I: BufRead, K: Keeper, O: Write>(
     rt: &R,
     order: &FuzzOrder<'a>,
     setting: &Setting<'_>,
@@ -66,7 +69,7 @@ fn run_inputs<'a, R: Files + AllocGlobal + Threads + Sync, I: BufRead, K: CrashK
 
 /// Runs the image in a file on each of the inputs of an order, as `fuzz_order` does.
 ///
-/// An error is one of `fuzz_order`, but that the file is open and no log is in its way.
+/// An error is one of `fuzz_order`, but that the file is open and no output is in its way.
 #[tactic(auto, using(crate::proofs::Faults::of_setting))]
 pub fn fuzz_file<'a, R: Files + AllocGlobal + Threads + Sync, F: Read + Drop, I: BufRead, O: Write>(
     rt: &R,
@@ -81,12 +84,15 @@ pub fn fuzz_file<'a, R: Files + AllocGlobal + Threads + Sync, F: Read + Drop, I:
     ensures faults { IfErr result (IsFuzzFault order.now) }
 {
     let Loaded { image, digest } = load_image(rt.alloc(), file, order)?;
-    let mut logs = CrashLogs::new(rt, order)?;
+    let mut records = Records::new(rt, order)?;
     let setting = settled(rt.alloc(), order, &image, digest)?;
-    let stopped = run_inputs(rt, order, &setting, input, &mut logs, out)?;
+    let ran = run_inputs(rt, order, &setting, input, &mut records, out);
+    let is_covered = records.write_coverage();
+    let stopped = ran?;
     Ok(FuzzEnd {
         stopped,
-        unwritten: logs.unwritten(),
+        unwritten: records.unwritten(),
+        is_covered,
     })
 }
 
@@ -124,15 +130,18 @@ fn settled<'o, 'a>(
         steps: order.run.steps,
         until: &order.until,
         shown: order.shown,
+        covers: order.reached || order.coverage.is_some(),
+        reached: order.reached,
         logs: order.logs.map(|_| digest),
     })
 }
 
 /// Runs the image of an order on each of its inputs, or, where it has none, on each line that is read from `input`, of hexadecimal digits: each
 /// on a machine that is as the order makes it ready. The line of each is written as soon as its run is over: it says how far the run went, why it ended,
-/// and what the console had put out. The logs of runs that end in an exception are written into the directory of the order, if it names one.
+/// and what the console had put out. The logs of runs that end in an exception are written into the directory of the order, if it names one;
+/// and which words of memory PC led to in all runs, into the file that it names for that, also where an error ended them early.
 ///
-/// An error is `Command`: `File` where a log would be written over the image or an input's file, and then where the image's file can't be read;
+/// An error is `Command`: `File` where an output would be written over the image or an input's file, and then where the image's file can't be read;
 /// of the image `Elf`, `Raw` and `Boot` as `run_image` has them; `File` where the directory of the logs can't be made, and then where an input's
 /// file can't be read or has more than 256 bytes; `Boot` and `Memory` where a request for memory was refused. `Unready`, before any input is read, where the machine does not come to the address where it
 /// is ready: it stays in a loop for ever, or has made 2^30 steps. `Line` with the number of the first
@@ -149,7 +158,7 @@ pub fn fuzz_order<'a, R: Files + AllocGlobal + Threads + Sync, I: BufRead, O: Wr
     ensures begun { IfErr result (λ fault. fault ≢ FuzzFault.Output → IsLeft order.now None (I.remaining input.old) (O.contents out.old) (O.contents out.new)) }
     ensures faults { IfErr result (IsFuzzFault order.now) }
 {
-    logs_are_apart(rt, order)?;
+    outputs_are_apart(rt, order)?;
     let file = of_file(order.run.image, File::open(rt, order.run.image))?;
     fuzz_file(rt, file, order, input, out)
 }

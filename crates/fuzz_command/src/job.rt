@@ -42,6 +42,9 @@ pub struct RunResult {
     pub ran: Ran,
     /// The guest's log.
     pub log: CrashLog,
+    /// The words of memory that PC led to, by their numbers, each once, in the order in which it did so first, but for those to which it did in a run
+    /// before of the same machine, where the lines don't show them; none where they are not kept.
+    pub reached: Vec<u32>,
 }
 
 /// The log of a run.

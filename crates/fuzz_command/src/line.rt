@@ -1,10 +1,12 @@
 //! The line of an input.
-ghost use Rattle.std.specs.Prelude.{◌≡◌, ◌++◌, IfOk, OnOk, codes, string_bytes};
+ghost use Rattle.std.specs.Prelude.{◌≡◌, ◌++◌, IfOk, OnOk, codes, flat_map, string_bytes};
 ghost use Rattle.fuzz_command.specs.Lines as spec;
+ghost use Rattle.fuzz_command.specs.Lines.{words_of};
 
 use crate::order::Shown;
-use dump::{push_digits, push_output_digits};
+use dump::{push_digits, push_output_digits, push_word};
 use masm::HexWord;
+use mips_tlb::KSEG0;
 use runs::{Ending, Ran, Runnable};
 use sha2::{Digest, Sha256};
 use std::alloc::{AllocError, Global};
@@ -56,15 +58,49 @@ fn push_shown(out: &mut String, shown: Shown, output: &[u8]) -> Result<(), Alloc
     }
 }
 
-/// The line of a run of this name, after which the machine is this.
+/// The address of the word of memory of this number in kseg0, where it is the same whatever the TLB holds.
+pub(crate) fn address_of(word: u32) -> u32
+    ensures { result ≡ spec.word_address word }
+{
+    word.wrapping_mul(4).wrapping_add(KSEG0)
+}
+
+// The addresses of words of memory.
+fn push_addresses(out: &mut String, words: &[u32]) -> Result<(), AllocError>
+    ensures { OnOk result (string_bytes out.new ≡ string_bytes out.old ++ flat_map spec.address_text words.now) }
+{
+    for word in words {
+        out.push_str(" ")?;
+        push_word(out, address_of(*word))?;
+    }
+    Ok(())
+}
+
+// The words of memory that were reached, where they are to be shown.
+fn push_reached(out: &mut String, reached: Option<&[u32]>) -> Result<(), AllocError>
+    ensures { OnOk result (string_bytes out.new ≡ string_bytes out.old ++ spec.reached_text (words_of reached.entry)) }
+{
+    let Some(words) = reached else {
+        return Ok(());
+    };
+    out.push_str(" reached")?;
+    if words.is_empty() {
+        out.push_str(" -")
+    } else {
+        push_addresses(out, words)
+    }
+}
+
+/// The line of a run of this name, after which the machine is this; with the words of memory that were reached, where they are shown.
 pub(crate) fn line_of<M: Runnable>(
     alloc: Global,
     shown: Shown,
     name: &str,
     ran: Ran,
     machine: &M,
+    reached: Option<&[u32]>,
 ) -> Result<String, AllocError>
-    ensures { IfOk result (λ text. string_bytes text ≡ spec.run_text shown name.now ran (M.state machine.now).board.devices.console.output) }
+    ensures { IfOk result (λ text. string_bytes text ≡ spec.run_text shown name.now ran (M.state machine.now).board.devices.console.output (words_of reached.entry)) }
 {
     let output = machine.view().devices.copy_output()?;
     let mut out = String::from_str(alloc, name)?;
@@ -73,6 +109,7 @@ pub(crate) fn line_of<M: Runnable>(
     push_end(&mut out, ran)?;
     out.push_str(" out ")?;
     push_shown(&mut out, shown, &output)?;
+    push_reached(&mut out, reached)?;
     out.push_str("\n")?;
     Ok(out)
 }

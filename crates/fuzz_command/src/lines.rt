@@ -15,7 +15,7 @@ ghost use Rattle.fuzz_command.specs.Writing.{Begins, Writes};
 use crate::fault::FuzzFault;
 use crate::job::{Batch, Job, Outcome, Then};
 use crate::jobs::Jobs;
-use crate::logs::CrashKeeper;
+use crate::records::Keeper;
 use crate::setting::Setting;
 use crate::writing::try_jobs;
 use commands::{ConsoleInput, Fault};
@@ -182,13 +182,7 @@ fn next_lines<'a, B: ReadAhead>(
 /// An error is `Line` with the number of the first line that is no input, `Unread` where the lines can't be read, `Command` where memory was
 /// refused, and `Output` where a line could not be written: the first in the order of the inputs. Where it isn't the last, the lines of the inputs
 /// before stand.
-pub(crate) fn fuzz_lines<
-    'a,
-    R: AllocGlobal + Threads + Sync,
-    B: ReadAhead,
-    K: CrashKeeper,
-    O: Write,
->(
+pub(crate) fn fuzz_lines<'a, R: AllocGlobal + Threads + Sync, B: ReadAhead, K: Keeper, O: Write>(
     rt: &R,
     setting: &Setting<'_>,
     at_once: &Jobs,

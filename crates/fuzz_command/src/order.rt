@@ -14,9 +14,13 @@ pub struct FuzzOrder<'a> {
     pub until: Until,
     /// How the output is shown.
     pub shown: Shown,
+    /// Whether the line of each run ends with the words of memory that PC led to.
+    pub reached: bool,
     /// The name of the directory that the logs of runs that end in an exception are written to, if they are to be: that of the input of number K,
     /// counted from 1, as `K.log`.
     pub logs: Option<&'a str>,
+    /// The name of the file that the words of memory to which PC led in all runs are written to, if they are to be.
+    pub coverage: Option<&'a str>,
     /// The files of the inputs, in their order. Where there is none the inputs are the lines of what is read.
     pub inputs: Vec<InputFile<'a>>,
     /// How many inputs are run at once. What is printed is the same with any number.

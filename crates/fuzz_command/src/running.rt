@@ -1,7 +1,7 @@
 //! The runs of inputs.
-ghost use Rattle.std.specs.Prelude.{◌≡◌, ◌≤◌, ◌<◌, ℕ, IfOk, IfSome, length, slice_index_or, string_bytes};
-ghost use Rattle.fuzz_command.specs.Jobs.{IsOutcome, IsReusable, IsRunOf};
-ghost use Rattle.fuzz_command.specs.Lines.{IsTrial, line_text};
+ghost use Rattle.std.specs.Prelude.{◌≡◌, ◌≤◌, ◌<◌, ℕ, IfOk, IfSome, None, Some, if◌then◌else◌, drop, length, slice_index_or, string_bytes};
+ghost use Rattle.fuzz_command.specs.Jobs.{IsOutcome, IsReadyMachine, IsReusable, IsRunOf, RunsAgain};
+ghost use Rattle.fuzz_command.specs.Lines.{IsTrial, line_text, reached_from, run_text};
 ghost use Rattle.fuzz_command.specs.Logs.{IsCrashLog, IsRunLog, is_exception};
 ghost use Rattle.fuzz_command.specs.Settings.{CanRun, setting_of};
 
@@ -55,23 +55,65 @@ fn crash_log(alloc: Global, setting: &Setting<'_>, input: &[u8], ran: Ran) -> Cr
     }
 }
 
-// A machine that is ready: where there is one that has run inputs before, it goes back.
+// A machine that is ready: where there is one that has run inputs before, it goes back. Where the words that each run reaches are not shown it
+// knows those of the runs before, so that it makes steps from them many at a time.
 fn ready_machine(
     alloc: Global,
     setting: &Setting<'_>,
     used: Option<ResetMachine>,
 ) -> Result<ResetMachine, AllocError>
     requires reusable { IsReusable (setting_of setting.now) used }
-    ensures machine { IfOk result (λ m. m.machine ≡ (setting_of setting.now).home) }
-    ensures home { IfOk result (λ m. m.home ≡ (setting_of setting.now).home) }
+    ensures { IfOk result (IsReadyMachine (setting_of setting.now)) }
 {
     match used {
         Some(mut machine) => {
             machine.reset()?;
+            if setting.reached {
+                machine.forget_reached();
+            }
             Ok(machine)
         }
-        None => ResetMachine::new(alloc, setting.home.clone()?),
+        None => new_machine(alloc, setting),
     }
+}
+
+// A machine that is ready and has run no input before.
+fn new_machine(alloc: Global, setting: &Setting<'_>) -> Result<ResetMachine, AllocError>
+    ensures { IfOk result (IsReadyMachine (setting_of setting.now)) }
+{
+    let home = setting.home.clone()?;
+    if setting.covers {
+        ResetMachine::with_coverage(alloc, home)
+    } else {
+        ResetMachine::new(alloc, home)
+    }
+}
+
+// The line of a run of this name, after which the machine is this.
+fn line_after(
+    alloc: Global,
+    setting: &Setting<'_>,
+    name: &str,
+    ran: Ran,
+    machine: &ResetMachine,
+) -> Result<String, AllocError>
+    ensures { IfOk result (λ text. string_bytes text ≡ run_text setting.now.shown name.now ran machine.now.machine.board.devices.console.output
+        (if setting.now.reached then Some machine.now.coverage.reached else None)) }
+{
+    let reached = if setting.reached {
+        Some(machine.reached())
+    } else {
+        None
+    };
+    line_of(alloc, setting.shown, name, ran, machine, reached)
+}
+
+// The words that a machine has reached, but for so many first ones.
+fn words_behind(alloc: Global, machine: &ResetMachine, known: usize) -> Result<Vec<u32>, AllocError>
+    requires { known ≤ length machine.now.coverage.reached }
+    ensures { IfOk result (λ words. words.items ≡ drop known machine.now.coverage.reached) }
+{
+    machine.reached()[known..].to_vec(alloc)
 }
 
 // Runs an input on a machine that is ready.
@@ -84,16 +126,25 @@ fn run_input(
 ) -> Result<RunResult, AllocError>
     requires can { CanRun setting.now }
     requires few { length input.now ≤ 256 }
-    requires machine { machine.old.machine ≡ (setting_of setting.now).home }
+    requires machine { IsReadyMachine (setting_of setting.now) machine.old }
     ensures trial { IfOk result (λ done. IsTrial (setting_of setting.now) (record { name = name.now; input = input.now; ran = done.ran })) }
     ensures text { IfOk result (λ done. string_bytes done.text ≡ line_text (setting_of setting.now) (record { name = name.now; input = input.now; ran = done.ran })) }
     ensures log { IfOk result (λ done. IsCrashLog setting.now input.now done.ran done.log) }
-    ensures home { machine.new.home ≡ machine.old.home }
+    ensures reached { let known = machine.old.coverage.reached in
+        IfOk result (λ done. done.reached.items ≡ drop (length known) (reached_from (setting_of setting.now) (record { name = name.now; input = input.now; ran = done.ran }) known)) }
+    ensures again { RunsAgain (setting_of setting.now) machine.new }
 {
+    let known = machine.reached().len();
     let ran = run(machine, input, setting.steps, setting.until, &mut Nobody);
     let log = crash_log(alloc, setting, input, ran);
-    let text = line_of(alloc, setting.shown, name, ran, machine)?;
-    Ok(RunResult { text, ran, log })
+    let text = line_after(alloc, setting, name, ran, machine)?;
+    let reached = words_behind(alloc, machine, known)?;
+    Ok(RunResult {
+        text,
+        ran,
+        log,
+        reached,
+    })
 }
 
 // What becomes of the run of an input on a machine that is ready.
@@ -106,9 +157,9 @@ fn outcome_on(
 ) -> Outcome
     requires can { CanRun setting.now }
     requires few { length input.now ≤ 256 }
-    requires machine { machine.old.machine ≡ (setting_of setting.now).home }
+    requires machine { IsReadyMachine (setting_of setting.now) machine.old }
     ensures outcome { IsOutcome (setting_of setting.now) name.now input.now result }
-    ensures home { machine.new.home ≡ machine.old.home }
+    ensures again { RunsAgain (setting_of setting.now) machine.new }
 {
     match run_input(alloc, setting, name, input, machine) {
         Ok(done) => Outcome::Done(done),

@@ -23,6 +23,10 @@ pub struct Setting<'a> {
     pub until: &'a Until,
     /// How the output is shown.
     pub shown: Shown,
+    /// Whether a machine keeps which words of memory PC led to.
+    pub covers: bool,
+    /// Whether they are shown.
+    pub reached: bool,
     /// The digest of the image's file, where the logs of runs that end in an exception are kept.
     pub logs: Option<[u8; 32]>,
 }

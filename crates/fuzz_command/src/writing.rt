@@ -10,7 +10,7 @@ ghost use Rattle.fuzz_command.specs.Writing.{Begins, Writes, WritesLine};
 use crate::fault::FuzzFault;
 use crate::job::{Job, Outcome, RunResult};
 use crate::jobs::Jobs;
-use crate::logs::CrashKeeper;
+use crate::records::Keeper;
 use crate::running::run_jobs;
 use crate::setting::Setting;
 use reset_machine::ResetMachine;
@@ -18,9 +18,10 @@ use std::alloc::Global;
 use std::io::Write;
 use std::thread::Threads;
 
-// Hands over the log of a run, and writes its line through, so that it can be seen. The answer is whether the guest stopped.
-fn write_result<'a, K: CrashKeeper, O: Write>(
+// Hands over what the run of an input gave, and writes its line through, so that it can be seen. The answer is whether the guest stopped.
+fn write_result<'a, K: Keeper, O: Write>(
     number: usize,
+    name: &str,
     done: &RunResult,
     keeper: &mut K,
     out: &mut O,
@@ -29,7 +30,7 @@ fn write_result<'a, K: CrashKeeper, O: Write>(
     ensures stops { IfOk result (λ stopped. stopped ≡ is_some done.now.ran.stop) }
     ensures faults { IfErr result (λ fault. fault ≡ FuzzFault.Output) }
 {
-    keeper.keep(number, &done.log);
+    keeper.keep(number, name, done);
     if out.write_all(done.text.as_bytes()).is_err() || out.flush().is_err() {
         return Err(FuzzFault::Output);
     }
@@ -37,7 +38,7 @@ fn write_result<'a, K: CrashKeeper, O: Write>(
 }
 
 // The same of an input that is run.
-fn write_job<'a, K: CrashKeeper, O: Write>(
+fn write_job<'a, K: Keeper, O: Write>(
     job: &Job,
     keeper: &mut K,
     out: &mut O,
@@ -48,14 +49,14 @@ fn write_job<'a, K: CrashKeeper, O: Write>(
     ensures faults { IfErr result IsTrialFault }
 {
     match &job.outcome {
-        Outcome::Done(done) => write_result(job.number, done, keeper, out),
+        Outcome::Done(done) => write_result(job.number, &job.name, done, keeper, out),
         Outcome::Refused(want) => Err(FuzzFault::Command(want.fault())),
         Outcome::Waiting => unreachable!(),
     }
 }
 
 // Writes the lines of inputs that are run, in order. The answer is whether a guest stopped.
-fn write_jobs<'a, K: CrashKeeper, O: Write>(
+fn write_jobs<'a, K: Keeper, O: Write>(
     jobs: &[Job],
     keeper: &mut K,
     out: &mut O,
@@ -76,7 +77,7 @@ fn write_jobs<'a, K: CrashKeeper, O: Write>(
 }
 
 // Runs inputs, and then writes their lines, as `try_jobs` does.
-fn run_and_write<'a, R: Threads + Sync, K: CrashKeeper, O: Write>(
+fn run_and_write<'a, R: Threads + Sync, K: Keeper, O: Write>(
     rt: &R,
     alloc: Global,
     setting: &Setting<'_>,
@@ -103,7 +104,7 @@ fn run_and_write<'a, R: Threads + Sync, K: CrashKeeper, O: Write>(
 ///
 /// An error is that of the first input that has one: `Command` where memory was refused, and `Output` where a line could not be written. Where it
 /// isn't the last, the lines of the inputs before stand.
-pub(crate) fn try_jobs<'a, R: Threads + Sync, K: CrashKeeper, O: Write>(
+pub(crate) fn try_jobs<'a, R: Threads + Sync, K: Keeper, O: Write>(
     rt: &R,
     alloc: Global,
     setting: &Setting<'_>,

@@ -1,4 +1,4 @@
-use Rattle.std.proofs.Common.{◌≡◌, ◌≢◌, ◌||◌, Bool, subst, sym}
+use Rattle.std.proofs.Common.{◌≢◌, Bool, subst, sym}
 use Rattle.fuzz_command.specs.Inputs.{AreFiles}
 use Rattle.fuzz_command.specs.Settings.{setting_of}
 use Rattle.fuzz_command.specs.Writing.{Writes}

@@ -1,4 +1,4 @@
-use Rattle.std.proofs.Common.{◌≡◌, ◌+◌, ◌<◌, ◌≤◌, length, arith, subst, sym}
+use Rattle.std.proofs.Common.{◌≡◌, ◌+◌, ◌<◌, length, arith, subst, sym}
 use Rattle.fuzz_command.specs.declared.job.Then.{Then}
 use Rattle.fuzz_command.specs.Jobs.{IsBehindFiles}
 use Rattle.fuzz_command.proofs.Faults.{of_file}

@@ -1,4 +1,4 @@
-use Rattle.std.proofs.Common.{◌≡◌, ◌≢◌, ◌||◌, Bool, List, [], ap, sym, subst}
+use Rattle.std.proofs.Common.{◌≢◌, Bool, [], ap, sym, subst}
 use Rattle.fuzz_command.specs.Inputs.{AreInputs}
 use Rattle.fuzz_command.specs.Settings.{setting_of}
 use Rattle.fuzz_command.specs.Writing.{Writes}

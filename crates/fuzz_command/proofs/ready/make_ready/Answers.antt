@@ -1,5 +1,4 @@
-use Rattle.std.proofs.Common.{rules, ◌≡◌, ◌∙◌}
-use Rattle.runs.specs.Runs.{after_steps}
+use Rattle.std.proofs.Common.{rules, ◌∙◌}
 use Rattle.fuzz_command.specs.Settings.{IsSilent}
 use Rattle.fuzz_command.proofs.Readiness.{still_silent}
 use Rattle.fuzz_command.proofs.ready.make_ready.Goals as goal

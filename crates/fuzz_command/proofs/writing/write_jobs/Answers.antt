@@ -1,9 +1,9 @@
-use Rattle.std.proofs.Common.{◌≡◌, ◌≢◌, ◌+◌, ◌<◌, Bool, All, length, sym, subst}
+use Rattle.std.proofs.Common.{◌≢◌, ◌+◌, Bool, sym, subst}
 use Rattle.std.proofs.lemmas.List.Elements.{All-get_or}
 use Rattle.fuzz_command.specs.declared.fault.FuzzFault.{FuzzFault}
 use Rattle.fuzz_command.specs.declared.fault.FuzzFault.TheVariants.{Output}
 use Rattle.fuzz_command.specs.declared.job.Job.{Job}
-use Rattle.fuzz_command.specs.Jobs.{BeginJobs, HasRun, IsOver, job_input, job_name}
+use Rattle.fuzz_command.specs.Jobs.{BeginJobs, HasRun, job_input, job_name}
 use Rattle.fuzz_command.specs.Writing.{Begins, WritesLine}
 use Rattle.fuzz_command.proofs.Batches.{JobsSoFar, all_written, first_written, next_written, no_jobs}
 use Rattle.fuzz_command.proofs.Trials.{passed_err, when_not, when_stops}
