@@ -17,9 +17,13 @@ The lines of an input that was refused:
   vmhost: boot N         a machine, or a script's guests
   vmhost: log N          a log
   vmhost: script line L  a script: the first line that is refused
+  vmhost: ready          of fuzz: the machine does not come to the address of --ready
   vmhost: input line L   of fuzz: the first line that is no input
   vmhost: port N         no connections can be waited for at the port
   vmhost: memory         the host has no memory left
+
+The line where standard output takes no more, unless its reader has ended:
+  vmhost: output         what stands there may be cut off
 
 K, of a source:
   1  a wrong character or first word   2  an unknown mnemonic or directive
@@ -79,6 +83,7 @@ pub const LINE: &str = "\
 It prints one line for each input, in their order, as soon as its run is over, or with several jobs as soon as the runs of its batch are: a batch
 has the inputs that have come, for each job at most 256, and as many as make a million steps together:
   NAME steps N END out DIGEST
+  NAME steps N END out DIGEST reached WORD..   with --reached
 
 NAME is the input's file, behind its directory where that was given, or the number of its line, from 1. N is how many steps were made.
 
@@ -91,6 +96,10 @@ END:
 
 DIGEST is the SHA-256 digest of the console's output, or with --out the output itself, two hexadecimal digits a byte (- where there is none).
 PC, EPC and outputs are hexadecimal, N and CODE decimal.
+
+Each WORD is the address in kseg0 of a word of memory that PC led to in the run, whichever address led there, in the order in which it did so first
+(- where there is none). With --coverage the file has a line for each word that PC led to in any run, with the first input in whose run it did so:
+  WORD NAME
 
 With --ready the machine first makes the steps that the option asks for, once and without input; each input is taken there, and the machine goes
 back there behind its run. N counts the steps behind the input, the output is that since the boot. Where PC never is the address, vmhost: ready

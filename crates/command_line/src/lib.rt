@@ -14,3 +14,4 @@ mod parsing;
 mod printer;
 pub mod program;
 pub mod progress;
+mod simulating;

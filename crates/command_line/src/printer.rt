@@ -1,6 +1,7 @@
 //! A standard output, and why it takes no more.
 ghost use Rattle.std.specs.Prelude.{◌≡◌, is_ok, IfOk};
-ghost use Rattle.command_line.specs.Exit.{code_of};
+ghost use Rattle.std.specs.IoError.{error_kind};
+ghost use Rattle.command_line.specs.Exit.{AppendsFront, code_of, unprinted_text};
 
 use crate::program::Status;
 use std::io;
@@ -59,4 +60,39 @@ impl<O: Write> Write for Printer<'_, O> {
         let answered = self.out.flush();
         noted(&mut self.failed, answered)
     }
+}
+
+/// What is said of a standard output that takes no more.
+const UNPRINTED: &[u8] =
+    b"vmhost: output\n  standard output takes no more, as where its disk is full; what stands there may be cut off\n";
+
+/// Says that not all could be printed, where that is of use: not where the reader of the output has ended, nor where another output failed, or there
+/// was no memory. Where neither output takes more the status alone tells it.
+pub(crate) fn tell_unprinted<E: Write>(error: &io::Error, err: &mut E) -> Status
+    ensures status { code_of result ≡ 1 }
+    ensures silent { error_kind error.now ≡ ErrorKind.BrokenPipe → err.new ≡ err.old }
+    ensures told { AppendsFront (E.contents err.old) (E.contents err.new) unprinted_text }
+{
+    match error.kind() {
+        ErrorKind::BrokenPipe | ErrorKind::Other => {}
+        _ => write_front(err, UNPRINTED),
+    }
+    Status::Refused
+}
+
+/// Writes a text as far as it can be written.
+fn write_front<W: Write>(to: &mut W, text: &[u8])
+    ensures { AppendsFront (W.contents to.old) (W.contents to.new) text.now }
+{
+    let mut rest = text;
+    // Each turn writes a byte at least, unless it is interrupted.
+    for _ in 0..text.len() {
+        match to.write(rest) {
+            Ok(0) => break,
+            Ok(count) => rest = &rest[count..],
+            Err(error) if error.kind() == ErrorKind::Interrupted => {}
+            Err(_) => break,
+        }
+    }
+    let _ = to.flush();
 }

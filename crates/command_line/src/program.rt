@@ -1,16 +1,16 @@
 //! The program, over any files, reader and writers.
-ghost use Rattle.std.specs.Prelude.{◌≡◌, ◌≢◌, ◌<◌, ◌⊎◌, false, true, IfOk};
+ghost use Rattle.std.specs.Prelude.{◌≡◌, ◌≢◌, ◌<◌, ◌⊎◌, false, IfOk};
 ghost use Rattle.std.specs.IoError.{error_kind};
-ghost use Rattle.command_line.specs.Exit.{code_of, HasNoFuzz, HasNoRun, HasNoSim, HasNoUntil};
+ghost use Rattle.command_line.specs.Exit.{AppendsFront, code_of, HasNoFuzz, HasNoRun, HasNoSim, HasNoUntil, unprinted_text};
 
 use crate::explaining::{Subject, excerpt_of, explain, explain_later};
 use crate::fuzzing::answer_fuzz;
 use crate::parsing::{Order, Settings, parse};
-use crate::printer::Printer;
+use crate::printer::{Printer, tell_unprinted};
+use crate::simulating::answer_script;
 use clap::Error;
 use commands::{
-    Asm, Dis, Exec, Fault, Replay, Report, Sim, SimFault, assemble_file, disassemble_file,
-    replay_log, run_image, run_script, script_text,
+    Asm, Dis, Exec, Fault, Replay, Report, assemble_file, disassemble_file, replay_log, run_image,
 };
 use diagnosis::Excerpt;
 use run_command::{RunFault, RunOrder, RunStatus, run_order};
@@ -64,13 +64,15 @@ enum Answer {
 /// among the words. `input` is read by the commands `run` and `fuzz` alone, and `watch` is told how far a run of `exec` is.
 ///
 /// At least one of `out` and `err` stays as it was, but where `out` could not be written, or a word begins with `--until`, or is `sim`, `run` or
-/// `fuzz`: where it could not be written what it took stands in it, and `err` may have the line `vmhost: output`; with `run` both get lines,
-/// as `run_order` has it; with `--until` `err` may have the line
-/// `vmhost: ended: ` with the state that a run ended at, beside what is printed; with `sim` the replies to the first events of a
-/// script may stand in `out` where `err` says that there was no memory for more, and with `fuzz` the lines of the first inputs where `err` says
-/// what is wrong with the next. Status 0: done, and `out` has what the command prints. 1: an
+/// `fuzz`. Where `out` could not be written, what it took stands in it, the status is 1, and `err` gets the line `vmhost: output` and words for it, or as
+/// much of these as it takes; nothing where the reader of `out` has ended. With `run` both get lines, as `run_order` has it. With `--until` `err` may have
+/// the line `vmhost: ended: ` with the state that a run ended at, beside what is printed. With `sim` the replies to the first events of a script may
+/// stand in `out` where `err` says that there was no memory for more, or all of them where it says which log could not be written. With `fuzz` the
+/// lines of the first inputs may stand in `out` where `err` says what is wrong with the next, or all of them where it says which file could not be written.
+///
+/// Status 0: done, and `out` has what the command prints. 1: an
 /// input was refused, and the line `vmhost: ` with the fault stands in `err`, and words for it may stand behind that; or there was no memory
-/// for a script's next reply; or `out` or `err` could not be written. 2: the command line was refused, and `err` has the reason. 3: the machine
+/// for a script's next reply; or `out`, `err` or a log could not be written. 2: the command line was refused, and `err` has the reason. 3: the machine
 /// stopped before its last step, and the last line in `out` says why; or a guest of `fuzz` did, and its line says so.
 pub fn program<R, I, O, E, W>(
     rt: &R,
@@ -96,11 +98,12 @@ where
     ensures usage { result ≡ 2 → out.new ≡ out.old }
     ensures done { result ≡ 0 → HasNoUntil words.now → HasNoRun words.now → err.new ≡ err.old }
     ensures stopped { result ≡ 3 → HasNoRun words.now → err.new ≡ err.old }
-    ensures one_output { result ≢ 1 → HasNoUntil words.now → HasNoSim words.now → HasNoRun words.now → HasNoFuzz words.now → (out.new ≡ out.old) ⊎ (err.new ≡ err.old) }
+    ensures one_output { HasNoUntil words.now → HasNoSim words.now → HasNoRun words.now → HasNoFuzz words.now
+        → (out.new ≡ out.old) ⊎ ((err.new ≡ err.old) ⊎ ((result ≡ 1) × AppendsFront (E.contents err.old) (E.contents err.new) unprinted_text)) }
 {
     let tells = Tells {
         ending: mentions_until(words),
-        breaking_off: mentions_sim(words),
+        simulating: mentions_sim(words),
         running: mentions_run(words),
         fuzzing: mentions_fuzz(words),
     };
@@ -115,6 +118,11 @@ where
             let answered = answer_fuzz(rt, order, input, &mut printer, err);
             printer.told(answered)
         }
+        Ok(Order::Sim(order)) if tells.simulating => {
+            let mut printer = Printer::new(out);
+            let answered = answer_script(rt, order, &mut printer, err);
+            printer.told(answered)
+        }
         Ok(order) => answer_order(rt, order, tells, out, err, watch),
         Err(error) => write_error(&error, out, err),
     };
@@ -125,37 +133,13 @@ where
     status.code()
 }
 
-/// Says that not all could be printed, where that can be said and is of use: not where the reader of the output has ended, nor of a script's
-/// replies, nor where another output failed, or there was no memory.
-fn tell_unprinted<E: Write>(error: &io::Error, err: &mut E) -> Status
-    ensures { code_of result ≡ 1 }
-{
-    match error.kind() {
-        ErrorKind::BrokenPipe | ErrorKind::Other => Status::Refused,
-        // where neither output takes more the status alone tells it
-        _ => match write_unprinted(err) {
-            Ok(()) | Err(_) => Status::Refused,
-        },
-    }
-}
-
-/// Writes that not all could be printed, and words for it.
-fn write_unprinted<E: Write>(err: &mut E) -> io::Result<()> {
-    writeln!(err, "vmhost: output")?;
-    writeln!(
-        err,
-        "  standard output takes no more, as where its disk is full; what stands there may be cut off"
-    )?;
-    err.flush()
-}
-
 /// What may be told in `err` although something is printed.
 #[derive(Clone, Copy)]
 struct Tells {
     /// At which state a run ended.
     ending: bool,
-    /// That there was no memory for the rest of a script's replies.
-    breaking_off: bool,
+    /// That there was no memory for the rest of a script's replies, and which logs can't be written.
+    simulating: bool,
     /// Which guests run, and which of their logs can't be written.
     running: bool,
     /// Why an input isn't run, and which logs can't be written.
@@ -235,7 +219,7 @@ fn write_port<E: Write>(port: u16, err: &mut E) -> io::Result<Status>
     Ok(Status::Refused)
 }
 
-/// Whether a word is `sim`, so that a script may be broken off.
+/// Whether a word is `sim`, so that what a script says may be done.
 fn mentions_sim(words: &[String]) -> bool
     ensures { HasNoSim words.now → result ≡ false }
 {
@@ -280,10 +264,10 @@ where
     E: Write,
     W: Watch,
     ensures usage { IfOk result (λ s. code_of s ≢ 2) }
-    ensures refused { IfOk result (λ s. code_of s ≡ 1 → tells.breaking_off ≡ false → out.new ≡ out.old) }
+    ensures refused { IfOk result (λ s. code_of s ≡ 1 → out.new ≡ out.old) }
     ensures done { IfOk result (λ s. code_of s ≡ 0 → tells.ending ≡ false → err.new ≡ err.old) }
     ensures stopped { IfOk result (λ s. code_of s ≡ 3 → err.new ≡ err.old) }
-    ensures one_output { tells.ending ≡ false → tells.breaking_off ≡ false → (out.new ≡ out.old) ⊎ (err.new ≡ err.old) }
+    ensures one_output { tells.ending ≡ false → (out.new ≡ out.old) ⊎ (err.new ≡ err.old) }
 {
     match order {
         Order::Asm(order) => write_answer(rt, Subject::Asm(order), assembled(rt, order), out, err),
@@ -297,87 +281,15 @@ where
         Order::Replay(order) => {
             write_answer(rt, Subject::Replay(order), replayed(rt, order), out, err)
         }
-        Order::Sim(order) => answer_script(rt, order, tells.breaking_off, out, err),
         Order::NoProfile(number) => {
             let fault = Fault::Boot {
                 error: BootError::Limits,
             };
             write_refusal(rt, Subject::NoProfile(number), &fault, err)
         }
-        // No word is `run` or `fuzz`, so none asks for these.
-        Order::Run(_) | Order::Fuzz(_) => Ok(Status::Refused),
+        // No word is `sim`, `run` or `fuzz`, so none asks for these.
+        Order::Sim(_) | Order::Run(_) | Order::Fuzz(_) => Ok(Status::Refused),
     }
-}
-
-/// Does what a script says, whose faults name files by its text. Where `tells` says so, want of memory for the rest of the replies is told
-/// in `err`.
-fn answer_script<R, O, E>(
-    rt: &R,
-    order: Sim<'_>,
-    tells: bool,
-    out: &mut O,
-    err: &mut E,
-) -> io::Result<Status>
-where
-    R: Files + AllocGlobal,
-    O: Write,
-    E: Write,
-    ensures usage { IfOk result (λ s. code_of s ≢ 2) }
-    ensures refused { IfOk result (λ s. code_of s ≡ 1 → tells ≡ false → out.new ≡ out.old) }
-    ensures carried_out { IfOk result (λ s. code_of s ≢ 1 → err.new ≡ err.old) }
-    ensures one_output { tells ≡ false → (out.new ≡ out.old) ⊎ (err.new ≡ err.old) }
-{
-    let text = match script_text(rt, order) {
-        Ok(text) => text,
-        Err(fault) => return write_refusal(rt, Subject::ScriptFile, &fault, err),
-    };
-    match run_script(rt, order, &text, out) {
-        Ok(unwritten) => answer_logs(order.logs, unwritten, tells, err),
-        Err(SimFault::Refused(fault)) => write_refusal(
-            rt,
-            Subject::Script(&text, order.logs),
-            &fault,
-            err,
-        ),
-        Err(SimFault::Memory) if tells => {
-            write_refusal(rt, Subject::Script(&text, order.logs), &Fault::Memory, err)
-        }
-        Err(SimFault::Memory | SimFault::Output) => Err(io::Error::from(ErrorKind::Other)),
-    }
-}
-
-/// Says which log could not be written, where one could not and `tells` says so.
-fn answer_logs<E: Write>(
-    directory: Option<&str>,
-    unwritten: Option<usize>,
-    tells: bool,
-    err: &mut E,
-) -> io::Result<Status>
-    ensures usage { IfOk result (λ s. code_of s ≢ 2) }
-    ensures told { IfOk result (λ s. code_of s ≡ 1 → tells ≡ true) }
-    ensures carried_out { IfOk result (λ s. code_of s ≢ 1 → err.new ≡ err.old) }
-    ensures silent { tells ≡ false → err.new ≡ err.old }
-{
-    let Some(guest) = unwritten else {
-        return Ok(Status::Done);
-    };
-    match directory {
-        Some(directory) if tells => write_unwritten(directory, guest, err),
-        _ => Err(io::Error::from(ErrorKind::Other)),
-    }
-}
-
-/// Writes that the log of a guest, and perhaps of others behind it, is not written, and words for it.
-fn write_unwritten<E: Write>(directory: &str, guest: usize, err: &mut E) -> io::Result<Status>
-    ensures { IfOk result (λ s. code_of s ≡ 1) }
-{
-    writeln!(err, "vmhost: file {directory}/{guest}.log")?;
-    writeln!(
-        err,
-        "  the log of guest {guest} can't be written; what was done is done, and the logs that can be are written"
-    )?;
-    err.flush()?;
-    Ok(Status::Refused)
 }
 
 fn assembled<'a, R: Files + AllocGlobal>(rt: &R, order: Asm<'a>) -> Result<Answer, Fault<'a>> {

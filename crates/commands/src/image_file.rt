@@ -20,6 +20,9 @@ use tenant::BootError;
 /// The least number of pages of a machine.
 const LEAST_PAGES: u32 = 2;
 
+/// How many bytes a page has.
+const PAGE_BYTES: u64 = 4096;
+
 /// Whether a machine of a profile may have so many pages: 2 to the most of the profile, 16,384 or 32,768.
 pub fn is_page_count(profile: Profile, pages: u32) -> bool
     ensures { IsTrue result ↔ IsPageCount profile pages }
@@ -152,7 +155,7 @@ fn raw_image_within<'a, F: Read + Drop>(
     ensures raw { IfSome (F.remaining file) (λ all. IsErrOf result Fault.Raw → ¬ IsRaw (order.entry.pages * 4096) (length all)) }
     ensures faults { IfErr result (λ fault. IsRawFault order.entry fault) }
 {
-    let room = u64::from(order.pages) * 4096;
+    let room = u64::from(order.pages) * PAGE_BYTES;
     match of_file(order.image, raw_bytes(alloc, file, room))? {
         Some(bytes) => {
             let digest = image_digest(&bytes);
@@ -172,7 +175,7 @@ pub fn raw_image_in<'a>(alloc: Global, bytes: Vec<u8>, pages: u32) -> Result<Ima
     ensures raw { IsErrOf result Fault.Raw → ¬ IsRaw (pages * 4096) (length bytes.items) }
     ensures faults { IfErr result (λ fault. (fault ≡ Fault.Raw) ⊎ (fault ≡ Fault.Memory)) }
 {
-    if is_raw(bytes.len() as u64, u64::from(pages) * 4096) {
+    if is_raw(bytes.len() as u64, u64::from(pages) * PAGE_BYTES) {
         Ok(Image::raw(alloc, bytes)?)
     } else {
         Err(Fault::Raw)
@@ -184,7 +187,7 @@ fn fault_outside<'a, F: Read + Drop>(file: F, order: Exec<'a>) -> Fault<'a>
     requires { ¬ IsPageCount order.profile order.pages }
     ensures { IsRawFault order.entry result }
 {
-    let room = u64::from(order.pages) * 4096;
+    let room = u64::from(order.pages) * PAGE_BYTES;
     match of_file(order.image, length_up_to(file, room + 1)) {
         Ok(length) if is_raw(length, room) => Fault::Boot {
             error: BootError::Limits,

@@ -4,6 +4,10 @@ ghost use Rattle.diagnosis.specs.Memories.{most_pages_of, pages_of};
 
 use mips_cp0::Profile;
 use std::fmt;
+use word32::PAGE_SIZE;
+
+/// How many bytes a page has.
+pub(crate) const PAGE_BYTES: u64 = PAGE_SIZE as u64;
 
 /// How many pages `dis` reads an executable for: all of kseg0.
 pub const KSEG0_PAGES: u32 = 131_072;
@@ -61,7 +65,7 @@ impl Memory {
     pub fn most_bytes(self) -> u64
         ensures { result ≡ 4096 * most_pages_of self }
     {
-        4096 * u64::from(self.most_pages())
+        PAGE_BYTES * u64::from(self.most_pages())
     }
 
     /// Of which profile the machine is that has it, as it stands behind a noun; nothing where no machine has it.

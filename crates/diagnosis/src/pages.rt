@@ -3,7 +3,7 @@ ghost use Rattle.std.specs.Prelude.{◌≡◌, ℕ, ◌≤◌, ◌<◌, ◌-◌,
 ghost use Rattle.diagnosis.specs.Memories.{most_pages_of};
 ghost use Rattle.diagnosis.specs.Pages.{IsHeldBy};
 
-use crate::memory::Memory;
+use crate::memory::{Memory, PAGE_BYTES};
 use elf32::SEGMENT_BASE;
 use elf32::range::AddressRange;
 
@@ -24,7 +24,7 @@ pub fn least_pages(range: &AddressRange, memory: Memory) -> Option<u32>
     if range.address < SEGMENT_BASE || base + memory.most_bytes() < end {
         return None;
     }
-    let pages = (end - base + 4095) / 4096;
+    let pages = (end - base + PAGE_BYTES - 1) / PAGE_BYTES;
     Some((pages as u32).max(LEAST_PAGES))
 }
 

@@ -3,7 +3,7 @@ ghost use Rattle.std.specs.Prelude.{◌≡◌, ◌+◌, IfSome, true};
 ghost use Rattle.elf32.specs.Faults.{has_wrong_contents, is_outside, share_address};
 
 use crate::headers::is_loadable;
-use crate::memory::Memory;
+use crate::memory::{Memory, PAGE_BYTES};
 use crate::pages::{least_pages, least_pages_for};
 use crate::words::plural;
 use elf32::SEGMENT_BASE;
@@ -86,7 +86,7 @@ fn is_outside_of(range: &AddressRange, pages: u32) -> bool
     ensures { result ≡ is_outside pages range.now }
 {
     range.address < SEGMENT_BASE
-        || u64::from(SEGMENT_BASE) + 4096 * u64::from(pages) < end_of(range)
+        || u64::from(SEGMENT_BASE) + PAGE_BYTES * u64::from(pages) < end_of(range)
 }
 
 /// The first range that a memory of so many pages hasn't.
@@ -130,7 +130,7 @@ pub fn place_text(
 
 /// The address after the last of a memory.
 fn memory_end(pages: u32) -> u64 {
-    u64::from(SEGMENT_BASE) + 4096 * u64::from(pages)
+    u64::from(SEGMENT_BASE) + PAGE_BYTES * u64::from(pages)
 }
 
 /// A segment that no such memory holds, whatever its pages.

@@ -23,6 +23,9 @@ use world::{Event as Happening, World};
 /// From how many steps on an event may take so long that the replies before it are handed on first: about a tenth of a millisecond.
 const LONG: u32 = 1 << 12;
 
+/// How many bytes a reply has room for from its beginning: all that are made often are shorter.
+const LINE: usize = 128;
+
 /// Why not all is done.
 #[derive(Clone, Copy, Debug, PartialEq, Eq)]
 pub enum Interruption {
@@ -50,7 +53,7 @@ fn reply(
 ) -> Result<String, AllocError>
     ensures { IfOk result (λ text. string_bytes text ≡ number_text numbered line ++ said_text heading said.now) }
 {
-    let mut text = String::new(alloc);
+    let mut text = String::with_capacity(alloc, LINE)?;
     if numbered {
         write!(text, "{line}: ")?;
     }
