@@ -1,6 +1,7 @@
 mod Batches
 mod Faults
 mod Firsts
+mod Handing
 mod Limits
 mod Orders
 mod Reached

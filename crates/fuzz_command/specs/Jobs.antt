@@ -1,10 +1,11 @@
 -- Inputs that are run at once.
-use Rattle.std.specs.Prelude.{◌≡◌, ◌<◌, ◌≤◌, ◌+◌, ℕ, List, [], ◌∷◌, ◌++◌, decimal, drop, length, map, take, true, string_bytes, Option, Some, None, IfSome}
+use Rattle.std.specs.Prelude.{◌≡◌, ◌<◌, ◌≤◌, ◌+◌, ℕ, List, [], ◌∷◌, ◌++◌, decimal, filter, flat_map, length, map, not, take, true, string_bytes, Option, Some, None, IfSome}
 use Rattle.std.specs.Io.BufRead.{drop_through}
 use Rattle.std.specs.Io.KnownBytes.{IsAtEnd}
 use Rattle.items.specs.declared.item.Item.{Item}
 use Rattle.items.specs.declared.item.What.TheVariants.{In}
 use Rattle.reset_machine.specs.Watched.{Resettable}
+use Rattle.runs.specs.Coverage.{is_reached}
 use Rattle.fuzz_command.specs.declared.fault.FuzzFault.{FuzzFault}
 use Rattle.fuzz_command.specs.declared.fault.FuzzFault.TheVariants.{Line}
 use Rattle.fuzz_command.specs.declared.job.Job.{Job}
@@ -16,8 +17,8 @@ use Rattle.fuzz_command.specs.declared.job.Then.TheVariants.{More, End, Fault}
 use Rattle.fuzz_command.specs.declared.order.InputFile.{InputFile}
 use Rattle.fuzz_command.specs.Faults.{IsFilesFault}
 use Rattle.fuzz_command.specs.Inputs.{IsNoLine, first_digits, input_of, name_of}
-use Rattle.fuzz_command.specs.Lines.{IsTrial, Trial, line_text, reached_from}
-use Rattle.fuzz_command.specs.Settings.{Setting, coverage_with}
+use Rattle.fuzz_command.specs.Lines.{IsTrial, Trial, line_text, reached_in}
+use Rattle.fuzz_command.specs.Settings.{Setting, coverage_of}
 
 -- ---- an input
 
@@ -29,14 +30,10 @@ job_input job = job.input
 
 -- ---- its run
 
--- What the run of an input of this name gave: the line is the one of its run, and the words are those that were reached in it and not before. Where
--- they are shown on the lines, none was reached before; else the machine knows those of the runs before that it made.
+-- what the run of an input of this name gave: its line is the one of its run
 pub record IsResult (s : Setting) (name input : List ℕ) (done : RunResult) : Type 0 where
   pub trial : IsTrial s (record { name = name; input = input; ran = done.ran })
   pub text : string_bytes done.text ≡ line_text s (record { name = name; input = input; ran = done.ran })
-  pub known : List ℕ
-  pub alone : s.reached ≡ true → known ≡ []
-  pub reached : done.reached.items ≡ drop (length known) (reached_from s (record { name = name; input = input; ran = done.ran }) known)
 
 -- what became of the run of an input of this name: it gave that, or memory was refused
 abbrev pub IsOutcome : Setting → List ℕ → List ℕ → Outcome → Type 0
@@ -60,10 +57,55 @@ pub record IsRunOf (s : Setting) (job job' : Job) : Type 0 where
   pub input : job_input job' ≡ job_input job
   pub run : HasRun s job'
 
+-- ---- the words that it hands over
+
+-- some words, but for others
+abbrev pub but_for : List ℕ → List ℕ → List ℕ
+but_for others words = filter (λ word. not (is_reached word others)) words
+
+-- each of these words is one of those
+abbrev pub AreAmong : List ℕ → List ℕ → Type 0
+AreAmong words those = (word : ℕ) → is_reached word words ≡ true → is_reached word those ≡ true
+
+-- The run of an input of this name handed over the words that PC led to in it, but for some that are known. These are among the words that were
+-- handed over before; where the words of each run are shown on its line, there are none.
+pub record HandsOver (s : Setting) (before name input : List ℕ) (done : RunResult) : Type 0 where
+  pub known : List ℕ
+  pub among : AreAmong known before
+  pub alone : s.reached ≡ true → known ≡ []
+  pub reached : done.reached.items ≡ but_for known (reached_in s (record { name = name; input = input; ran = done.ran }))
+
+-- the same of what became of a run: where memory was refused, it handed over nothing
+abbrev pub HandsIn : Setting → List ℕ → List ℕ → List ℕ → Outcome → Type 0
+HandsIn s before name input (Done done) = HandsOver s before name input done
+HandsIn s before name input other = Unit {0}
+
+-- and of an input
+abbrev pub Hands : Setting → List ℕ → Job → Type 0
+Hands s before job = HandsIn s before (job_name job) (job_input job) job.outcome
+
+-- the words that were handed over
+abbrev pub handed_in : Outcome → List ℕ
+handed_in (Done done) = done.reached.items
+handed_in other = []
+
+abbrev pub handed : Job → List ℕ
+handed job = handed_in job.outcome
+
+abbrev pub handed_over : List Job → List ℕ
+handed_over jobs = flat_map handed jobs
+
+-- ---- the machine that runs inputs
+
+-- the words that it knows, if there is one
+abbrev pub known_by : Option Resettable → List ℕ
+known_by None = []
+known_by (Some m) = m.coverage.reached
+
 -- a machine goes back to where a setting's is ready, and keeps a coverage of as many words
 pub record RunsAgain (s : Setting) (m : Resettable) : Type 0 where
   pub home : m.home ≡ s.home
-  pub words : m.coverage.words ≡ (coverage_with s []).words
+  pub words : m.coverage.words ≡ (coverage_of s).words
 
 -- so does the machine that runs inputs, if there is one
 abbrev pub IsReusable : Setting → Option Resettable → Type 0
@@ -73,7 +115,7 @@ IsReusable s used = IfSome used (RunsAgain s)
 pub record IsReadyMachine (s : Setting) (m : Resettable) : Type 0 where
   pub machine : m.machine ≡ s.home
   pub home : m.home ≡ s.home
-  pub words : m.coverage.words ≡ (coverage_with s []).words
+  pub words : m.coverage.words ≡ (coverage_of s).words
   pub alone : s.reached ≡ true → m.coverage.reached ≡ []
 
 -- the items of a log that are bytes of input by the runner's seat

@@ -14,7 +14,7 @@ use Rattle.runs.specs.declared.ending.Ending.TheVariants.{Loop, Exception, Addre
 use Rattle.runs.specs.declared.running.Ran.{Ran}
 use Rattle.fuzz_command.specs.declared.order.Shown.{Shown}
 use Rattle.fuzz_command.specs.declared.order.Shown.TheVariants.{Digest, Digits}
-use Rattle.fuzz_command.specs.Settings.{Setting, coverage_with}
+use Rattle.fuzz_command.specs.Settings.{Setting, coverage_of}
 
 -- an input that was run, by its name, and how its run went
 pub record Trial : Type 0 where
@@ -53,13 +53,9 @@ abbrev pub shown_text : Shown → List ℕ → List ℕ
 shown_text Digest output = digits_of (sha256 output)
 shown_text Digits output = output_digits output
 
--- the words of memory that were reached before a run, and behind them those that PC led to in it, each once, in the order in which it did so first
-abbrev pub reached_from : Setting → Trial → List ℕ → List ℕ
-reached_from s t known = (covered t.ran.steps (fed (take t.ran.taken t.input) s.home) (coverage_with s known)).reached
-
--- the words that PC led to in a run, whatever was before it
+-- the words of memory that PC led to in a run, each once, in the order in which it did so first
 abbrev pub reached_in : Setting → Trial → List ℕ
-reached_in s t = reached_from s t []
+reached_in s t = (covered t.ran.steps (fed (take t.ran.taken t.input) s.home) (coverage_of s)).reached
 
 -- the address of a word of memory in kseg0, where it is the same whatever the TLB holds
 abbrev pub word_address : ℕ → ℕ

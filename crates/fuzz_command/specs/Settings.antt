@@ -1,5 +1,5 @@
 -- What an input is run on, and how.
-use Rattle.std.specs.Prelude.{ℕ, ◌≡◌, ◌<◌, ◌/◌, ◌||◌, Bool, if◌then◌else◌, is_some, List, [], length}
+use Rattle.std.specs.Prelude.{ℕ, ◌≡◌, ◌<◌, ◌/◌, ◌||◌, Bool, if◌then◌else◌, is_some, [], length}
 use Rattle.elf32.specs.declared.image.Image.{Image}
 use Rattle.machine.specs.Boot.{boot_machine}
 use Rattle.machine.specs.Step.{Machine}
@@ -25,9 +25,9 @@ pub record Setting : Type 0 where
 abbrev pub setting_of : SettingCode → Setting
 setting_of s = record { home = s.home.value; steps = s.steps; until = s.until.now; shown = s.shown; covers = s.covers; reached = s.reached }
 
--- the coverage that a run begins with where these words are reached: of each word of memory, or of none
-abbrev pub coverage_with : Setting → List ℕ → CoverageIs
-coverage_with s known = record { words = if s.covers then length s.home.board.memory / 4 else 0; reached = known }
+-- the coverage of a machine that ran nothing: of each word of memory, or of none
+abbrev pub coverage_of : Setting → CoverageIs
+coverage_of s = record { words = if s.covers then length s.home.board.memory / 4 else 0; reached = [] }
 
 -- no byte waits in the console, so that each input has room
 abbrev pub IsSilent : Machine → Type 0

@@ -1,7 +1,7 @@
 //! The runs of inputs.
-ghost use Rattle.std.specs.Prelude.{◌≡◌, ◌≤◌, ◌<◌, ℕ, IfOk, IfSome, None, Some, if◌then◌else◌, drop, length, slice_index_or, string_bytes};
-ghost use Rattle.fuzz_command.specs.Jobs.{IsOutcome, IsReadyMachine, IsReusable, IsRunOf, RunsAgain};
-ghost use Rattle.fuzz_command.specs.Lines.{IsTrial, line_text, reached_from, run_text};
+ghost use Rattle.std.specs.Prelude.{◌≡◌, ◌≤◌, ◌<◌, ◌++◌, ℕ, [], IfOk, IfSome, None, Some, if◌then◌else◌, drop, length, slice_index_or, string_bytes, take};
+ghost use Rattle.fuzz_command.specs.Jobs.{AreAmong, Hands, IsReadyMachine, IsReusable, IsRunOf, RunsAgain, but_for, handed, handed_over, known_by};
+ghost use Rattle.fuzz_command.specs.Lines.{IsTrial, line_text, reached_in, run_text};
 ghost use Rattle.fuzz_command.specs.Logs.{IsCrashLog, IsRunLog, is_exception};
 ghost use Rattle.fuzz_command.specs.Settings.{CanRun, setting_of};
 
@@ -57,13 +57,15 @@ fn crash_log(alloc: Global, setting: &Setting<'_>, input: &[u8], ran: Ran) -> Cr
 
 // A machine that is ready: where there is one that has run inputs before, it goes back. Where the words that each run reaches are not shown it
 // knows those of the runs before, so that it makes steps from them many at a time.
+#[tactic(auto, using(crate::proofs::Handing::among_is, crate::proofs::Handing::among_same, crate::proofs::Handing::none_among))]
 fn ready_machine(
     alloc: Global,
     setting: &Setting<'_>,
     used: Option<ResetMachine>,
 ) -> Result<ResetMachine, AllocError>
     requires reusable { IsReusable (setting_of setting.now) used }
-    ensures { IfOk result (IsReadyMachine (setting_of setting.now)) }
+    ensures ready { IfOk result (IsReadyMachine (setting_of setting.now)) }
+    ensures known { IfOk result (λ m. AreAmong m.coverage.reached (known_by used)) }
 {
     match used {
         Some(mut machine) => {
@@ -79,7 +81,8 @@ fn ready_machine(
 
 // A machine that is ready and has run no input before.
 fn new_machine(alloc: Global, setting: &Setting<'_>) -> Result<ResetMachine, AllocError>
-    ensures { IfOk result (IsReadyMachine (setting_of setting.now)) }
+    ensures ready { IfOk result (IsReadyMachine (setting_of setting.now)) }
+    ensures known { IfOk result (λ m. m.coverage.reached ≡ []) }
 {
     let home = setting.home.clone()?;
     if setting.covers {
@@ -131,7 +134,8 @@ fn run_input(
     ensures text { IfOk result (λ done. string_bytes done.text ≡ line_text (setting_of setting.now) (record { name = name.now; input = input.now; ran = done.ran })) }
     ensures log { IfOk result (λ done. IsCrashLog setting.now input.now done.ran done.log) }
     ensures reached { let known = machine.old.coverage.reached in
-        IfOk result (λ done. done.reached.items ≡ drop (length known) (reached_from (setting_of setting.now) (record { name = name.now; input = input.now; ran = done.ran }) known)) }
+        IfOk result (λ done. done.reached.items ≡ but_for known (reached_in (setting_of setting.now) (record { name = name.now; input = input.now; ran = done.ran }))) }
+    ensures known { IfOk result (λ done. machine.new.coverage.reached ≡ machine.old.coverage.reached ++ done.reached.items) }
     ensures again { RunsAgain (setting_of setting.now) machine.new }
 {
     let known = machine.reached().len();
@@ -147,27 +151,41 @@ fn run_input(
     })
 }
 
-// What becomes of the run of an input on a machine that is ready.
-fn outcome_on(
+// Runs an input on a machine that is ready, which comes back for the next one, but where memory was refused.
+#[tactic(auto, using(crate::proofs::Handing::among_is, crate::proofs::Handing::none_among, crate::proofs::Handing::hands_over))]
+fn run_on(
     alloc: Global,
     setting: &Setting<'_>,
-    name: &str,
-    input: &[u8],
-    machine: &mut ResetMachine,
-) -> Outcome
+    mut machine: ResetMachine,
+    job: &mut Job,
+) -> Option<ResetMachine>
     requires can { CanRun setting.now }
-    requires few { length input.now ≤ 256 }
-    requires machine { IsReadyMachine (setting_of setting.now) machine.old }
-    ensures outcome { IsOutcome (setting_of setting.now) name.now input.now result }
-    ensures again { RunsAgain (setting_of setting.now) machine.new }
+    requires machine { IsReadyMachine (setting_of setting.now) machine }
+    ensures run { IsRunOf (setting_of setting.now) job.old job.new }
+    ensures handed { Hands (setting_of setting.now) machine.coverage.reached job.new }
+    ensures known { AreAmong (known_by result) (machine.coverage.reached ++ handed job.new) }
+    ensures reusable { IsReusable (setting_of setting.now) result }
 {
-    match run_input(alloc, setting, name, input, machine) {
-        Ok(done) => Outcome::Done(done),
-        Err(_) => Outcome::Refused(Want::Memory),
+    match run_input(
+        alloc,
+        setting,
+        &job.name,
+        job.input.as_slice(),
+        &mut machine,
+    ) {
+        Ok(done) => {
+            job.outcome = Outcome::Done(done);
+            Some(machine)
+        }
+        Err(_) => {
+            job.outcome = Outcome::Refused(Want::Memory);
+            None
+        }
     }
 }
 
-// Runs an input on the machine that has run others before, if there is one, which comes back for the next one.
+// Runs an input on the machine that has run others before, if there is one, which comes back for the next one, but where memory was refused.
+#[tactic(auto, using(crate::proofs::Handing::wider, crate::proofs::Handing::none_among))]
 fn run_job(
     alloc: Global,
     setting: &Setting<'_>,
@@ -177,19 +195,12 @@ fn run_job(
     requires can { CanRun setting.now }
     requires reusable { IsReusable (setting_of setting.now) used }
     ensures run { IsRunOf (setting_of setting.now) job.old job.new }
+    ensures handed { Hands (setting_of setting.now) (known_by used) job.new }
+    ensures known { AreAmong (known_by result) (known_by used ++ handed job.new) }
     ensures reusable { IsReusable (setting_of setting.now) result }
 {
     match ready_machine(alloc, setting, used) {
-        Ok(mut machine) => {
-            job.outcome = outcome_on(
-                alloc,
-                setting,
-                &job.name,
-                job.input.as_slice(),
-                &mut machine,
-            );
-            Some(machine)
-        }
+        Ok(machine) => run_on(alloc, setting, machine, job),
         Err(_) => {
             job.outcome = Outcome::Refused(Want::Boot);
             None
@@ -208,6 +219,8 @@ fn run_share(
     requires reusable { IsReusable (setting_of setting.now) used }
     ensures count { length share.new ≡ length share.old }
     ensures run { (index : ℕ) (d : _) → index < length share.old → IsRunOf (setting_of setting.now) (slice_index_or share.old index d) (slice_index_or share.new index d) }
+    ensures handed { (index : ℕ) (d : _) → index < length share.old → Hands (setting_of setting.now) (known_by used ++ handed_over (take index share.new)) (slice_index_or share.new index d) }
+    ensures known { AreAmong (known_by result) (known_by used ++ handed_over share.new) }
     ensures reusable { IsReusable (setting_of setting.now) result }
 {
     let mut machine = used;
@@ -231,6 +244,8 @@ pub(crate) fn run_jobs<R: Threads + Sync>(
     requires reusable { IsReusable (setting_of setting.now) used }
     ensures count { length jobs.new ≡ length jobs.old }
     ensures run { (index : ℕ) (d : _) → index < length jobs.old → IsRunOf (setting_of setting.now) (slice_index_or jobs.old index d) (slice_index_or jobs.new index d) }
+    ensures handed { (index : ℕ) (d : _) → index < length jobs.old → Hands (setting_of setting.now) (known_by used ++ handed_over (take index jobs.new)) (slice_index_or jobs.new index d) }
+    ensures known { AreAmong (known_by result) (known_by used ++ handed_over jobs.new) }
     ensures reusable { IsReusable (setting_of setting.now) result }
 {
     let threads = at_once.threads();
@@ -239,7 +254,8 @@ pub(crate) fn run_jobs<R: Threads + Sync>(
     }
     let run = |_start: usize, share: &mut [Job]|
         requires { CanRun setting.now }
-        ensures { (index : ℕ) (d : _) → index < length share.entry.now → IsRunOf (setting_of setting.entry.now) (slice_index_or share.entry.now index d) (slice_index_or share.exit.now index d) }
+        ensures run { (index : ℕ) (d : _) → index < length share.entry.now → IsRunOf (setting_of setting.entry.now) (slice_index_or share.entry.now index d) (slice_index_or share.exit.now index d) }
+        ensures handed { (index : ℕ) (d : _) → index < length share.entry.now → Hands (setting_of setting.entry.now) (handed_over (take index share.exit.now)) (slice_index_or share.exit.now index d) }
     { run_alone(alloc, setting, share) };
     for_each_chunk_mut(rt, jobs, share_of(jobs.len(), threads), &run);
     used
@@ -250,6 +266,7 @@ fn run_alone(alloc: Global, setting: &Setting<'_>, share: &mut [Job])
     requires can { CanRun setting.now }
     ensures count { length share.new ≡ length share.old }
     ensures run { (index : ℕ) (d : _) → index < length share.old → IsRunOf (setting_of setting.now) (slice_index_or share.old index d) (slice_index_or share.new index d) }
+    ensures handed { (index : ℕ) (d : _) → index < length share.old → Hands (setting_of setting.now) (handed_over (take index share.new)) (slice_index_or share.new index d) }
 {
     let machine = run_share(alloc, setting, None, share);
     drop(machine);

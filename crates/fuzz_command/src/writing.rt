@@ -1,8 +1,8 @@
 //! The lines of inputs that are run.
-ghost use Rattle.std.specs.Prelude.{◌≡◌, ◌≢◌, All, IfErr, IfOk, OnOk, is_some, string_bytes};
+ghost use Rattle.std.specs.Prelude.{◌≡◌, ◌≢◌, ◌<◌, ◌++◌, ℕ, All, IfErr, IfOk, OnOk, is_some, length, slice_index_or, string_bytes, take};
 ghost use Rattle.std.specs.Io.KnownBytes.{Appends};
 ghost use Rattle.fuzz_command.specs.Faults.{IsTrialFault};
-ghost use Rattle.fuzz_command.specs.Jobs.{AreJobs, BeginJobs, HasRun, IsOver, IsReusable, job_input, job_name};
+ghost use Rattle.fuzz_command.specs.Jobs.{AreAmong, AreJobs, BeginJobs, Hands, HasRun, IsOver, IsReusable, handed_over, job_input, job_name, known_by};
 ghost use Rattle.fuzz_command.specs.Settings as settings;
 ghost use Rattle.fuzz_command.specs.Settings.{CanRun, setting_of};
 ghost use Rattle.fuzz_command.specs.Writing.{Begins, Writes, WritesLine};
@@ -91,6 +91,8 @@ fn run_and_write<'a, R: Threads + Sync, K: Keeper, O: Write>(
     requires reusable { IsReusable (setting_of setting.now) machine.old }
     ensures lines { IfOk result (λ stopped. Writes (setting_of setting.now) (AreJobs jobs.old) (O.contents out.old) (O.contents out.new) stopped) }
     ensures begun { IfErr result (λ fault. fault ≢ FuzzFault.Output → Begins (setting_of setting.now) (BeginJobs jobs.old) (O.contents out.old) (O.contents out.new)) }
+    ensures handed { (index : ℕ) (d : _) → index < length jobs.old → Hands (setting_of setting.now) (known_by machine.old ++ handed_over (take index jobs.new)) (slice_index_or jobs.new index d) }
+    ensures known { AreAmong (known_by machine.new) (known_by machine.old ++ handed_over jobs.new) }
     ensures reusable { IsReusable (setting_of setting.now) machine.new }
     ensures faults { IfErr result IsTrialFault }
 {

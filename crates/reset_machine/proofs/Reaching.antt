@@ -1,13 +1,14 @@
 -- Which words of memory PC led to, while a machine makes steps.
-use Rattle.std.proofs.Common.{ℕ, zero, suc, ◌≡◌, ◌*◌, ◌<◌, ◌/◌, ◌&&◌, not, nat_lt, if◌then◌else◌, length, List, Bool, true, false, [], ◌∷◌, ◌++◌, Result, Ok, Err, refl, sym, ap, subst, ◌∙◌, arith}
+use Rattle.std.proofs.Common.{ℕ, zero, suc, ◌≡◌, ◌*◌, ◌<◌, ◌/◌, ◌&&◌, not, nat_lt, if◌then◌else◌, length, List, Bool, true, false, [], ◌∷◌, ◌++◌, Result, Ok, Err, refl, sym, ap, subst, ◌∙◌, arith, le-ltb}
 use Rattle.mips_cp0.specs.declared.exception.Exc.{Exc}
 use Rattle.mips_tlb.specs.declared.kind.Kind.TheVariants.{Fetch}
 use Rattle.machine.specs.declared.access.Size.TheVariants.{Word}
 use Rattle.machine.specs.Places.{place}
 use Rattle.machine.specs.Step.{Machine}
 use Rattle.mips_fast.specs.Runs.{steps, Admits, AreAdmitted, IsAdmitted}
-use Rattle.runs.specs.Coverage.{CoverageIs, covered, is_reached, with_pc, with_place, with_word}
+use Rattle.runs.specs.Coverage.{CoverageIs, covered, is_more, is_reached, with_pc, with_place, with_word}
 use Rattle.runs.specs.Runs.{after_steps}
+use Rattle.reset_machine.specs.Covers.{is_more_at, leads_to_more}
 use Rattle.reset_machine.specs.Watched.{HasPages}
 use Rattle.reset_machine.proofs.Stepping.{same_steps}
 
@@ -23,6 +24,27 @@ led_to m c at placed = ap (λ (r : Result ℕ Exc). with_place r c) (sym placed)
 
 pub led_nowhere : (m : Machine) (c : CoverageIs) (e : Exc) → place Fetch Word m.cpu m.cpu.pc ≡ Err e → c ≡ with_pc m c
 led_nowhere m c e placed = ap (λ (r : Result ℕ Exc). with_place r c) (sym placed)
+
+pub told_to : (m : Machine) (c : CoverageIs) (at : ℕ) → place Fetch Word m.cpu m.cpu.pc ≡ Ok at → is_more (at / 4) c ≡ leads_to_more m c
+told_to m c at placed = ap (λ (r : Result ℕ Exc). is_more_at r c) (sym placed)
+
+pub told_nowhere : (m : Machine) (c : CoverageIs) (e : Exc) → place Fetch Word m.cpu m.cpu.pc ≡ Err e → false ≡ leads_to_more m c
+told_nowhere m c e placed = ap (λ (r : Result ℕ Exc). is_more_at r c) (sym placed)
+
+-- where no word is told of, none is more
+none_more : (word : ℕ) (c : CoverageIs) → c.words ≡ 0 → false ≡ is_more word c
+none_more word c none = by (nat_lt word c.words) (le-ltb word c.words (omega (arith, none)))
+  where
+    by : (b : Bool) → b ≡ false → false ≡ (b && not (is_reached word c.reached))
+    by true is = absurd (cc)
+    by false is = refl
+
+no_more_at : (led : Result ℕ Exc) (c : CoverageIs) → c.words ≡ 0 → false ≡ is_more_at led c
+no_more_at (Ok at) c none = none_more (at / 4) c none
+no_more_at (Err e) c none = refl
+
+pub none_told : (m : Machine) (c : CoverageIs) → c.words ≡ 0 → false ≡ leads_to_more m c
+none_told m c none = no_more_at (place Fetch Word m.cpu m.cpu.pc) c none
 
 -- ---- where all words are reached
 

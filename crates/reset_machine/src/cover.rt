@@ -1,5 +1,5 @@
 //! The words of memory that were reached.
-ghost use Rattle.std.specs.Prelude.{◌≡◌, ◌<◌, ◌≤◌, ◌^◌, ◌*◌, ◌/◌, ◌++◌, ◌∷◌, false, length, IfOk, []};
+ghost use Rattle.std.specs.Prelude.{◌≡◌, ◌<◌, ◌≤◌, ◌^◌, ◌*◌, ◌/◌, ◌++◌, ◌∷◌, true, false, length, IfOk, []};
 ghost use Rattle.runs.specs.Coverage.{is_more, is_reached, no_coverage, with_word};
 ghost use Rattle.reset_machine.specs.Covers.{IsCover, NoneMarked};
 
@@ -60,7 +60,8 @@ impl Cover {
     /// Whether it is told of any word.
     #[inline(always)]
     pub fn is_kept(&self) -> bool
-        ensures { result ≡ false → self.now.words ≡ 0 }
+        ensures kept { result ≡ true → 0 < self.now.words }
+        ensures none { result ≡ false → self.now.words ≡ 0 }
     {
         !self.marked.is_empty()
     }
@@ -72,6 +73,15 @@ impl Cover {
     {
         let word = (at.number() / 4) as usize;
         word < self.marked.len() && self.marked[word]
+    }
+
+    /// Whether the word that holds an address is one that it is told of and that is not reached.
+    #[tactic(auto, using(crate::proofs::Covering::marked_as_reached))]
+    pub fn lacks(&self, at: PhysAddr) -> bool
+        ensures { result ≡ is_more (at / 4) self.now }
+    {
+        let word = (at.number() / 4) as usize;
+        word < self.marked.len() && !self.marked[word]
     }
 
     /// The word of this number is reached. The answer is whether it is one that was not.

@@ -7,6 +7,7 @@ ghost use Rattle.mips_fast.specs.Runs.{AreAdmitted, KeepsStatus};
 ghost use Rattle.runs.specs.Coverage.{covered, no_coverage, with_pc};
 ghost use Rattle.runs.specs.Endings.{IsPassed};
 ghost use Rattle.runs.specs.Runs.{after_steps};
+ghost use Rattle.reset_machine.specs.Covers.{leads_to_more};
 
 use crate::passing::Reached;
 use crate::{Cover, Home, Passing, WatchedBus};
@@ -151,9 +152,10 @@ impl ResetMachine {
 
     /// PC leads to where it stands. The answer is whether that is a word which it did not lead to before, where coverage is kept.
     #[inline(never)]
-    #[tactic(auto, using(crate::proofs::Reaching::led_to, crate::proofs::Reaching::led_nowhere))]
+    #[tactic(auto, using(crate::proofs::Reaching::led_to, crate::proofs::Reaching::led_nowhere, crate::proofs::Reaching::told_to, crate::proofs::Reaching::told_nowhere))]
     fn reach(&mut self) -> bool
-        ensures { self.new ≡ record self.old { coverage = with_pc self.old.machine self.old.coverage } }
+        ensures reached { self.new ≡ record self.old { coverage = with_pc self.old.machine self.old.coverage } }
+        ensures told { result ≡ leads_to_more self.old.machine self.old.coverage }
     {
         match self.cpu.place(Kind::Fetch, Size::Word, self.cpu.pc()) {
             Ok(at) => self.cover.reach(at.number() / 4),
@@ -163,18 +165,22 @@ impl ResetMachine {
 
     /// Whether PC leads to a word that it did not lead to before, where coverage is kept: a run of many steps makes none from there.
     #[inline(always)]
-    fn is_at_new_word(&self) -> bool {
+    #[tactic(auto, using(crate::proofs::Reaching::told_to, crate::proofs::Reaching::told_nowhere, crate::proofs::Reaching::none_told))]
+    fn is_at_new_word(&self) -> bool
+        ensures { result ≡ leads_to_more self.now.machine self.now.coverage }
+    {
         self.cover.is_kept()
             && match self.cpu.place(Kind::Fetch, Size::Word, self.cpu.pc()) {
-                Ok(at) => !self.cover.has(at),
+                Ok(at) => self.cover.lacks(at),
                 Err(_) => false,
             }
     }
 
     /// One step. The answer is whether it was made at a word that PC did not lead to before, where coverage is kept.
-    #[tactic(auto, using(flatvm::proofs::Never::never_lacks, runs::proofs::Covered::pc_untold))]
+    #[tactic(auto, using(flatvm::proofs::Never::never_lacks, runs::proofs::Covered::pc_untold, crate::proofs::Reaching::none_told))]
     #[inline(always)]
     fn step(&mut self) -> bool
+        ensures new { result ≡ leads_to_more self.old.machine self.old.coverage }
         ensures machine { self.new.machine ≡ step self.old.machine }
         ensures home { self.new.home ≡ self.old.home }
         ensures coverage { self.new.coverage ≡ with_pc self.old.machine self.old.coverage }

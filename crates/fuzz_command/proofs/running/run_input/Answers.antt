@@ -1,9 +1,9 @@
 use Rattle.fuzz_command.specs.Settings.{setting_of}
-use Rattle.std.proofs.Common.{ap, arith, if◌then◌else◌, length, ◌∙◌, List, ℕ, Option, Some, None}
+use Rattle.std.proofs.Common.{ap, arith, drop, if◌then◌else◌, length, sym, ◌∙◌, ◌++◌, List, ℕ, Option, Some, None}
 use Rattle.machine.specs.Step.{Machine}
 use Rattle.runs.specs.Runs.{after_run}
 use Rattle.fuzz_command.specs.Lines.{Trial, output_after, run_text}
-use Rattle.fuzz_command.proofs.Reached.{again, known_within, words_shown}
+use Rattle.fuzz_command.proofs.Reached.{again, known_then, known_within, words_new, words_shown}
 use Rattle.fuzz_command.proofs.running.run_input.Goals as goal
 
 pub returns-in_err-text-clause-again : goal.returns-in_err-text-clause-again
@@ -20,7 +20,26 @@ returns-clause-again c =
 
 pub words_behind-requires : goal.words_behind-requires
 words_behind-requires c =
-    omega (arith, ap length c.reached-known.ensures, known_within c.run-ran.result.steps _ c.args.machine.now.coverage c.run-ran.new.machine.coverage c.run-ran.ensures.covered)
+    let s = setting_of c.args.setting.now in
+    let t : Trial = record { name = c.args.name.now; input = c.args.input.now; ran = c.run-ran.result } in
+    omega (arith, ap length c.reached-known.ensures, known_within s t c.args.machine.now c.run-ran.new.machine.coverage c.requires.machine c.run-ran.ensures.covered)
+
+pub returns-clause-reached : goal.returns-clause-reached
+returns-clause-reached c =
+    let s = setting_of c.args.setting.now in
+    let t : Trial = record { name = c.args.name.now; input = c.args.input.now; ran = c.run-ran.result } in
+    let now = c.run-ran.new.machine.coverage in
+    c.in_ok-reached.ensures ∙ ap (λ (xs : List ℕ). drop (length xs) now.reached) c.reached-known.ensures
+    ∙ words_new s t c.args.machine.now now c.requires.machine c.run-ran.ensures.covered
+
+pub returns-clause-known : goal.returns-clause-known
+returns-clause-known c =
+    let s = setting_of c.args.setting.now in
+    let t : Trial = record { name = c.args.name.now; input = c.args.input.now; ran = c.run-ran.result } in
+    let now = c.run-ran.new.machine.coverage in
+    let old = c.args.machine.now.coverage in
+    known_then s t c.args.machine.now now c.requires.machine c.run-ran.ensures.covered
+    ∙ ap (λ (xs : List ℕ). old.reached ++ xs) (sym (returns-clause-reached c))
 
 pub returns-clause-text : goal.returns-clause-text
 returns-clause-text c =
