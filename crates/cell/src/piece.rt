@@ -17,13 +17,13 @@ use std::alloc::Global;
 use std::sync::Wait;
 use swapstore::SwapStore;
 
-/// How many steps a piece has at most.
-pub const PIECE: u32 = 1024;
+/// How many steps a piece has at most: so many that what a run begins with, and the steps that it counts one by one, are a small part of it.
+pub const PIECE: u32 = 8192;
 
 /// Why a piece ended.
 #[derive(Clone, Copy, Debug, PartialEq, Eq)]
 pub enum End {
-    /// All steps that were asked for, or 1,024, are made.
+    /// All steps that were asked for, or 8,192, are made.
     AllMade,
     /// A debugger holds the guest.
     Held,
@@ -273,7 +273,7 @@ impl<S: SwapStore + Drop> Cell<S> {
     ghost use Rattle.cell.specs.Slices.{Slice};
     ghost use Rattle.cell.specs.Sitting.{IsOf, Lasts, IsTrusted, IsFullOf};
 
-    /// At most `count` steps of the guest, and at most 1,024, under one take of its lock. The bytes that wait for its console come before
+    /// At most `count` steps of the guest, and at most 8,192, under one take of its lock. The bytes that wait for its console come before
     /// each step, as far as the console has room for them. A page that a step needs is supplied from machine memory; where no frame is
     /// free the piece ends, and can be asked for again once one is.
     ///
@@ -296,10 +296,10 @@ impl<S: SwapStore + Drop> Cell<S> {
         ensures lasts_with_store { IsTrusted S.true_to_digests self.now.front → seat.new.witness.held ≡ true }
         ensures slice { Slice seat.old.seat result.steps seat.new.seat }
         ensures few { result.steps ≤ count }
-        ensures short { result.steps ≤ 1024 }
+        ensures short { result.steps ≤ 8192 }
         ensures full { result.end ≡ End.LogFull → IsFullOf self.now.front seat.new.seat.saw }
         ensures breaks { result.end ≡ End.Break → seat.old.seat.number ≡ 3 }
-        ensures all { result.end ≡ End.AllMade → result.steps ≡ min count 1024 }
+        ensures all { result.end ≡ End.AllMade → result.steps ≡ min count 8192 }
         ensures held { result.end ≡ End.Held → (result.steps ≡ 0) × (seat.old.seat.number ≢ 3) }
         ensures blocked { result.end ≡ End.Blocked → result.steps ≡ 0 }
     {

@@ -133,10 +133,10 @@ fn a_piece_makes_its_steps(rt: HostRuntime) {
     let cases = [
         ("none", Who::Runner, 0, 0),
         ("one", Who::Runner, 1, 1),
-        ("1023", Who::Runner, 1023, 1023),
-        ("1024", Who::Runner, 1024, 1024),
-        ("1024 at most", Who::Runner, 1025, 1024),
-        ("of many", Who::Debugger, 4_000_000_000, 1024),
+        ("8191", Who::Runner, 8191, 8191),
+        ("8192", Who::Runner, 8192, 8192),
+        ("8192 at most", Who::Runner, 8193, 8192),
+        ("of many", Who::Debugger, 4_000_000_000, 8192),
         ("of seat 1", Who::Console, 5, 5),
         ("of seat 2", Who::Policy, 7, 7),
     ];
@@ -151,8 +151,8 @@ fn a_piece_makes_its_steps(rt: HostRuntime) {
             (made, End::AllMade),
         );
     }
-    expect(&rt, "all of them", bench.seen(Which::One), 4109);
-    expect_left(&rt, bench, left(4108, 0, 1, 0));
+    expect(&rt, "all of them", bench.seen(Which::One), 32_781);
+    expect_left(&rt, bench, left(32_780, 0, 1, 0));
 }
 
 #[test]

@@ -15,7 +15,7 @@ impl<S: SwapStore + Drop, G: Gate + Drop> Host<S, G> {
     ghost use Rattle.host.specs.Places.{AtGuest};
     ghost use Rattle.host.specs.Slices.{steps_made};
 
-    /// Makes so many steps of a guest, by pieces of at most 1,024. The bytes that wait for its console come before each step, as far as the
+    /// Makes so many steps of a guest, by pieces of at most 8,192. The bytes that wait for its console come before each step, as far as the
     /// console has room for them. A page that a step needs is supplied; where no frame is free, a page of the policy's victim leaves its
     /// own (`evict_one`), with no lock held, and the need is looked at anew: at most 64 times for one step.
     ///

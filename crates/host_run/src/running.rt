@@ -11,7 +11,7 @@ use std::sync::Wait;
 use swapstore::SwapStore;
 
 /// How many steps a slice has.
-const SLICE: u32 = 10_000;
+const SLICE: u32 = 65_536;
 
 // How a slice ended: 0, or the number of its stop.
 fn stop_number(ran: Ran) -> u32 {

@@ -1,5 +1,5 @@
 //! The lock.
-ghost use Rattle.std.specs.Prelude.{◌≡◌, IfOk, IfErr, IfSome};
+ghost use Rattle.std.specs.Prelude.{◌≡◌, ◌≢◌, IfOk, IfErr, IfSome};
 
 use crate::fits::{Close, Fits};
 use crate::loan::Loan;
@@ -7,8 +7,13 @@ use crate::rule::{Held, LockRule};
 use crate::table;
 use atomic_table::{Refused, Table};
 use std::alloc::Global;
+use std::hint;
 use std::marker::Model;
 use std::sync::Wait;
+
+/// How often a thread looks whether the lock is free before it sleeps. Who takes a lock again and again puts it back for less than a
+/// microsecond each time, for which a thread that sleeps comes too late; one that looks on meets one of those moments.
+const LOOKS: u32 = 2000;
 
 /// A value that one thread at a time has, which fits a key whenever the lock is free. Threads share the lock by reference. In
 /// clauses it is a record, `LockIs`. Where it is dropped while it is free, its value is closed.
@@ -51,13 +56,28 @@ impl<T: Fits<K> + Close, K> KeyedLock<T, K> {
         }
     }
 
-    /// Waits until the lock is free, and takes the value, which fits the key. A thread that waits sleeps. No order is kept among
-    /// those that wait.
+    // The value, which fits the key, as soon as a look finds the lock free, which gets this mark then; `None` where each found it held.
+    fn take_awake(&self, mark: u64) -> Option<(T, Loan<T, K>)>
+        requires { mark ≢ 0 }
+        ensures fits { IfSome result (λ taken. T.fits self.now.key taken.0) }
+        ensures loan { IfSome result (λ taken. taken.1 ≡ self.now.id) }
+    {
+        for _ in 0..LOOKS {
+            if let Some((value, seat)) = table::take_if_free(&self.table.shared, mark) {
+                return Some((value, Loan { seat }));
+            }
+            hint::spin_loop();
+        }
+        None
+    }
+
+    /// Waits until the lock is free, and takes the value, which fits the key. A thread that waits looks on for a short time, and then
+    /// sleeps. No order is kept among those that wait.
     pub fn take<R: Wait>(&self, rt: &R) -> (T, Loan<T, K>)
         ensures fits { T.fits self.now.key result.0 }
         ensures loan { result.1 ≡ self.now.id }
     {
-        if let Some(taken) = self.try_take() {
+        if let Some(taken) = self.take_awake(1) {
             return taken;
         }
         let shared = &self.table.shared;
@@ -66,6 +86,10 @@ impl<T: Fits<K> + Close, K> KeyedLock<T, K> {
                 return (value, Loan { seat });
             }
             shared.park(rt, 0, 2);
+            // Others may sleep still: whoever has slept leaves the mark of that.
+            if let Some(taken) = self.take_awake(2) {
+                return taken;
+            }
         }
         unreachable!()
     }
@@ -75,7 +99,7 @@ impl<T: Fits<K> + Close, K> KeyedLock<T, K> {
         ensures fits { IfSome result (λ taken. T.fits self.now.key taken.0) }
         ensures loan { IfSome result (λ taken. taken.1 ≡ self.now.id) }
     {
-        let (value, seat) = table::take_if_free(&self.table.shared)?;
+        let (value, seat) = table::take_if_free(&self.table.shared, 1)?;
         Some((value, Loan { seat }))
     }
 

@@ -1,6 +1,6 @@
 //! The steps of a lock's table. Its word is 0 while the lock is free, 1 while it is held, and 2 while it is held and somebody may
 //! sleep until it is free.
-ghost use Rattle.std.specs.Prelude.{◌≡◌, ◌<◌, IfSome};
+ghost use Rattle.std.specs.Prelude.{◌≡◌, ◌≢◌, ◌<◌, IfSome};
 ghost use Rattle.keyed_lock.specs.Rule.{HoldsSlot, HasTaken};
 
 use crate::fits::{Close, Fits};
@@ -23,16 +23,21 @@ fn carry_off<T: Fits<K> + Close, K>(
     (held.into_value(), seat)
 }
 
-// The value, where the lock is free; the word is 1 then. Where it isn't, the word stays as it is.
+// The value, where the lock is free; the word is this mark then, 1 or 2. Where it isn't, the word stays as it is.
 pub fn take_if_free<T: Fits<K> + Close, K>(
     table: &LockTable<T, K>,
+    mark: u64,
 ) -> Option<(T, Seat<Option<Held<T>>, K>)>
     requires table { table.now.table_id.words ≡ 1 }
+    requires mark { mark ≢ 0 }
     ensures fits { IfSome result (λ taken. T.fits table.now.key taken.0) }
     ensures seat { IfSome result (λ taken. (taken.1.table_id ≡ table.now.table_id) × HoldsSlot taken.1.me) }
 {
-    let (_, mut seat) = table.load_new_seat::<Enter>(0);
-    let found = table.compare_exchange::<Ask<T, K>>(&mut seat, 0, 0, 1);
+    let (seen, mut seat) = table.load_new_seat::<Enter>(0);
+    if seen != 0 {
+        return None;
+    }
+    let found = table.compare_exchange::<Ask<T, K>>(&mut seat, 0, 0, mark);
     if found != 0 {
         return None;
     }
