@@ -35,7 +35,7 @@ use Rattle.mips_instr.specs.declared.instr.TlbOp.{TlbOp}
 use Rattle.mips_instr.specs.declared.instr.TlbOp.TheVariants.{Tlbr, Tlbwi, Tlbwr, Tlbp}
 use Rattle.mips_instr.specs.declared.instr.CoprocessorOp.{CoprocessorOp}
 use Rattle.mips_instr.specs.declared.instr.CoprocessorOp.TheVariants.{Cop1, Cop2, Lwc1, Lwc2, Ldc1, Ldc2, Swc1, Swc2, Sdc1, Sdc2}
-use Rattle.masm_lines.specs.Mnemonics.{named_instruction, arithmetic_named, memory_named, control_named, hi_lo_named, system_named, single_named, named_register, named_conditional_move, named_shift, named_shift_variable, named_count, named_move_from, named_move_to, named_multiply, named_divide, named_immediate, named_load, named_store, named_cache, named_branch, named_branch_zero, named_jump, named_trap, named_trap_immediate, named_cp0_move, named_tlb}
+use Rattle.masm_names.specs.Mnemonics.{named_instruction, arithmetic_named, memory_named, control_named, hi_lo_named, system_named, single_named, named_register, named_conditional_move, named_shift, named_shift_variable, named_count, named_move_from, named_move_to, named_multiply, named_divide, named_immediate, named_load, named_store, named_cache, named_branch, named_branch_zero, named_jump, named_trap, named_trap_immediate, named_cp0_move, named_tlb}
 use Rattle.mips_instr.specs.Mnemonics.{register_mnemonic, conditional_move_mnemonic, shift_mnemonic, shift_variable_mnemonic, count_mnemonic, move_from_mnemonic, move_to_mnemonic, multiply_mnemonic, divide_mnemonic, immediate_mnemonic, load_mnemonic, store_mnemonic, cache_mnemonic, branch_mnemonic, branch_zero_mnemonic, jump_mnemonic, trap_mnemonic, trap_immediate_mnemonic, cp0_move_mnemonic, tlb_mnemonic}
 use Rattle.masm_lines.specs.Grammar.{body_of, label_of, statement_in, statement_or_nothing, line_of}
 use Rattle.masm_lines.specs.Instructions.{with_operands}

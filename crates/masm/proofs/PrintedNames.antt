@@ -45,7 +45,7 @@ use Rattle.mips_instr.specs.declared.instr.Cp0MoveOp.TheVariants.{Mfc0, Mtc0}
 use Rattle.masm_lines.specs.Characters.{continues_name}
 use Rattle.masm_lines.specs.Operations.{operation_of}
 use Rattle.masm_lines.specs.declared.operation.Operation.TheVariants as operation
-use Rattle.masm_lines.specs.Mnemonics.{named_instruction, arithmetic_named, memory_named, control_named, hi_lo_named, system_named, single_named, named_register, named_conditional_move, named_shift, named_shift_variable, named_count, named_move_from, named_move_to, named_multiply, named_divide, named_immediate, named_load, named_store, named_cache, named_branch, named_branch_zero, named_jump, named_trap, named_trap_immediate, named_cp0_move, named_tlb}
+use Rattle.masm_names.specs.Mnemonics.{named_instruction, arithmetic_named, memory_named, control_named, hi_lo_named, system_named, single_named, named_register, named_conditional_move, named_shift, named_shift_variable, named_count, named_move_from, named_move_to, named_multiply, named_divide, named_immediate, named_load, named_store, named_cache, named_branch, named_branch_zero, named_jump, named_trap, named_trap_immediate, named_cp0_move, named_tlb}
 use Rattle.masm.proofs.TakenApart.{is_dense}
 
 -- a name of letters and digits, which names an instruction

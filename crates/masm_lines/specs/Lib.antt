@@ -6,14 +6,11 @@ pub mod Grammar
 pub mod Instructions
 pub mod Limits
 pub mod Lists
-pub mod Mnemonics
-pub mod Named
 pub mod Operands
 pub mod Operations
 pub mod Parts
 pub mod Pseudo
 pub mod Ranges
-pub mod Registers
 pub mod Shapes
 pub mod Statements
 pub mod Steps

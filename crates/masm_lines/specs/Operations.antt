@@ -11,7 +11,7 @@ use Rattle.masm_lines.specs.Statements.{Statement, Instruction, Transfer, Word, 
 use Rattle.masm_lines.specs.Pseudo.{named_pseudo, pseudo_statement}
 use Rattle.masm_lines.specs.Texts.{text_statement}
 use Rattle.masm_lines.specs.Ranges.{word_bits, byte_bits, address_bits}
-use Rattle.masm_lines.specs.Mnemonics.{named_instruction, first_of}
+use Rattle.masm_names.specs.Mnemonics.{named_instruction, first_of}
 use Rattle.masm_lines.specs.Instructions.{is_well_formed, with_operands, written_target}
 use Rattle.masm_lines.specs.Steps.{◌>>=◌}
 use Rattle.masm_lines.specs.declared.element.Element.TheVariants as element

@@ -4,8 +4,8 @@ use Rattle.std.specs.List.{list_all, prefix_len, suffix_len}
 use Rattle.std.specs.Char.{is_digit}
 use Rattle.std.specs.Str.Parse.{digits_value}
 use Rattle.masm_lines.specs.Characters.{is_blank, starts_name, continues_name}
-use Rattle.masm_lines.specs.Mnemonics.{first_of}
-use Rattle.masm_lines.specs.Registers.{register_named}
+use Rattle.masm_names.specs.Mnemonics.{first_of}
+use Rattle.masm_names.specs.Registers.{register_named}
 
 -- a text without the blanks before it
 unfoldable pub trimmed_start : List ℕ → List ℕ

@@ -1,8 +1,8 @@
 //! A line of assembly language: its label and its statement, or its fault.
 //!
 //! What a line says stands in `specs/`: `Grammar` (a line is a label and a statement), which rests on `Tokens` (names and
-//! numbers), `Operands`, `Mnemonics` (the names of the instructions), `Instructions` (which operands each has, and the
-//! instruction that they make), `Pseudo`, `Lists`, `Texts`, `Operations` and `Statements`. The crate above uses `line_of`, whose answer is that line or its first fault.
+//! numbers), `Operands`, `Instructions` (which operands each has, and the instruction that they make), `Pseudo`, `Lists`, `Texts`, `Operations` and
+//! `Statements`; the names of instructions and registers are those of `masm_names`. The crate above uses `line_of`, whose answer is that line or its first fault.
 //! A statement may still name an address; what it means there, and where it stands, is for the crate above.
 #![tactic(auto)]
 
@@ -13,17 +13,14 @@ mod element;
 mod elements;
 pub mod fault;
 mod forms;
-pub mod laws;
 pub mod line;
 pub mod list;
-mod mnemonics;
 mod numbers;
 mod operands;
 mod operation;
 mod pseudo;
 mod quoted;
 mod range;
-mod registers;
 mod scan;
 pub mod statement;
 pub mod text;

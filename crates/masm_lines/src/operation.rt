@@ -4,9 +4,9 @@ ghost use Rattle.masm_lines.specs.Operations as spec;
 
 use crate::AsmFault;
 use crate::element::Element;
-use crate::mnemonics::named_instruction;
 use crate::pseudo::{Pseudo, named_pseudo};
 use crate::token::{is_directive, is_name};
+use masm_names::named_instruction;
 use mips_instr::Instr;
 
 /// A directive.

@@ -4,8 +4,8 @@ ghost use Rattle.masm_lines.specs.Tokens.{is_name, is_directive, register_number
 
 use crate::character::{Class, starts_name};
 use crate::numbers::natural;
-use crate::registers::register_named;
 use crate::scan::is_all;
+use masm_names::register_named;
 use mips_instr::Reg;
 
 /// A letter or `_`, and then letters, digits and `_`.

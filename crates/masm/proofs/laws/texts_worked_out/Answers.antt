@@ -10,9 +10,9 @@ use Rattle.masm_lines.specs.Operations.{named_directive, operation_of, instructi
 use Rattle.masm_lines.specs.Pseudo.{named_pseudo, pseudo_statement}
 use Rattle.masm_lines.specs.Lists.{list_statement}
 use Rattle.masm_lines.specs.Texts.{text_statement}
-use Rattle.masm_lines.specs.Registers.{register_named, first_named, temporary_named, saved_named, last_named}
+use Rattle.masm_names.specs.Registers.{register_named, first_named, temporary_named, saved_named, last_named}
 use Rattle.masm_lines.specs.Tokens.{trimmed_start, trimmed, natural_of, number_of, register_of}
-use Rattle.masm_lines.specs.Mnemonics.{named_instruction, arithmetic_named, memory_named, control_named, hi_lo_named, system_named, single_named, named_register, named_conditional_move, named_shift, named_shift_variable, named_count, named_move_from, named_move_to, named_multiply, named_divide, named_immediate, named_load, named_store, named_cache, named_branch, named_branch_zero, named_jump, named_trap, named_trap_immediate, named_cp0_move, named_tlb}
+use Rattle.masm_names.specs.Mnemonics.{named_instruction, arithmetic_named, memory_named, control_named, hi_lo_named, system_named, single_named, named_register, named_conditional_move, named_shift, named_shift_variable, named_count, named_move_from, named_move_to, named_multiply, named_divide, named_immediate, named_load, named_store, named_cache, named_branch, named_branch_zero, named_jump, named_trap, named_trap_immediate, named_cp0_move, named_tlb}
 use Rattle.mips_isa.specs.Table.{readings_of, special_readings, regimm_readings, special2_readings, cop0_readings, opcode_readings, memory_readings}
 use Rattle.masm.proofs.laws.texts_worked_out.Goals as goal
 

@@ -1,7 +1,7 @@
 -- The names of the general registers (System V ABI, MIPS supplement, chapter 3).
 use Rattle.std.specs.Prelude.{ℕ, List, [], ◌∷◌, codes, find, Option, option_map}
 use Rattle.std.specs.Str.{bytes_eq}
-use Rattle.masm_lines.specs.Mnemonics.{first_of}
+use Rattle.masm_names.specs.Mnemonics.{first_of}
 
 -- the number of the first entry with a name
 abbrev pub number_in_table : List (List ℕ × ℕ) → List ℕ → Option ℕ

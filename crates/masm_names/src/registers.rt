@@ -1,6 +1,6 @@
 //! The names of the general registers.
 ghost use Rattle.std.specs.Prelude.{◌≡◌, bytes_eq};
-ghost use Rattle.masm_lines.specs.Registers as spec;
+ghost use Rattle.masm_names.specs.Registers as spec;
 
 use mips_instr::Reg;
 

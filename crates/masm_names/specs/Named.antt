@@ -5,7 +5,7 @@ use Rattle.mips_isa.specs.Table.{Row}
 use Rattle.mips_instr.specs.Mnemonics.{mnemonic}
 use Rattle.mips_instr.specs.declared.instr.Instr.{Instr}
 use Rattle.mips_instr.specs.declared.instr.Instr.TheVariants as instr
-use Rattle.masm_lines.specs.Mnemonics.{named_instruction}
+use Rattle.masm_names.specs.Mnemonics.{named_instruction}
 
 -- an instruction is found by the name by which it is printed; those of coprocessors 1 and 2 are printed as words
 abbrev pub IsNamed : Instr → Type 0

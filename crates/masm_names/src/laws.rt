@@ -1,6 +1,6 @@
 //! A law of the definitions: an instruction is found by the name by which it is printed.
 ghost use Rattle.mips_isa.specs.Table.{special_rows, regimm_rows, special2_rows, cop0_rows, opcode_rows, memory_rows};
-ghost use Rattle.masm_lines.specs.Named.{AreNamed};
+ghost use Rattle.masm_names.specs.Named.{AreNamed};
 
 /// A law: the instruction of each row of the table is found by the name by which it is printed.
 #[tactic(auto, unfolding(crate::specs::Mnemonics::named_instruction))]

@@ -1,6 +1,6 @@
 //! The instruction of a name. The names are those by which the instructions are printed.
 ghost use Rattle.std.specs.Prelude.{◌≡◌, bytes_eq};
-ghost use Rattle.masm_lines.specs.Mnemonics as spec;
+ghost use Rattle.masm_names.specs.Mnemonics as spec;
 
 use mips_instr::{
     BranchOp, BranchZeroOp, CacheOp, CallCode, ConditionalMoveOp, CountOp, Cp0MoveOp, DivideOp,
