@@ -20,7 +20,8 @@ use guest_pages::{GuestPages, PageKind, Returned};
 use page_moves::{
     Pages, Scan, SupplyError, evict_in, scan_in, supply_copy, supply_first, supply_swapped,
 };
-use sharetab::{GuestNo, GuestPage, Shares};
+use guest_number::GuestNo;
+use sharetab::{GuestPage, Shares};
 use std::alloc::Global;
 use std::fmt::Debug;
 use std::process::Abort;

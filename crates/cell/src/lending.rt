@@ -26,7 +26,7 @@ use guest::{Guest, Pause, Progress, Seat, Stop};
 use lasting_truth::{Keeper, Truth};
 use machine_memory::{EvictError, MachineMemory, Stake};
 use page_moves::{Scan, SupplyError};
-use sharetab::GuestNo;
+use guest_number::GuestNo;
 use std::alloc::Global;
 use std::sync::Wait;
 use swapstore::SwapStore;

@@ -9,7 +9,7 @@ use crate::lending::{evict_over, scan_over};
 use crate::{Cell, Front, Locked};
 use machine_memory::{EvictError, MachineMemory};
 use page_moves::Scan;
-use sharetab::GuestNo;
+use guest_number::GuestNo;
 use std::sync::Wait;
 use swapstore::SwapStore;
 use taxpolicy::SAMPLE_SIZE;

@@ -8,7 +8,7 @@ use guest::Stop;
 use items::{DebugRegister, WriteBytes};
 use machine_memory::MachineMemory;
 use page_moves::Scan;
-use sharetab::GuestNo;
+use guest_number::GuestNo;
 use std::alloc::Global;
 use std::fmt::Debug;
 use std::process::Abort;

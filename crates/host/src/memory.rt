@@ -5,7 +5,7 @@ use cell::{Gate, Seat};
 use host_policy::{Evicted, Turn, evict_one, turn};
 use page_moves::Scan;
 use reclaim::Level;
-use sharetab::GuestNo;
+use guest_number::GuestNo;
 use std::alloc::{AllocError, Global};
 use std::sync::Wait;
 use swapstore::SwapStore;

@@ -8,7 +8,8 @@ use crate::pairs::{Asked, Pair, books, booted_pair, memory_store, poke, refusal,
 use cell::{Gate, Seat};
 use host::{Host, Ran, Request};
 use page_moves::Scan;
-use sharetab::{GuestNo, GuestPage};
+use guest_number::GuestNo;
+use sharetab::GuestPage;
 use std::alloc::Global;
 use std::process::Abort;
 use std::sync::Wait;

@@ -12,7 +12,7 @@ use crate::Table;
 use accounts::{BookShare, Books};
 use frames::FrameNo;
 use page_moves::{Pages, Scan, scan_in};
-use sharetab::GuestNo;
+use guest_number::GuestNo;
 use word32::Ppn;
 
 /// A page is scanned. The table's lock is held.

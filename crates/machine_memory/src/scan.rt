@@ -2,7 +2,7 @@
 use crate::{MachineMemory, Stake};
 use lent_pages::scanned;
 use page_moves::{Pages, Scan};
-use sharetab::GuestNo;
+use guest_number::GuestNo;
 use std::sync::Wait;
 use swapstore::SwapStore;
 use word32::Ppn;

@@ -4,7 +4,8 @@ use crate::frame::zero_frame;
 use framepool::Pool;
 use frames::Frame;
 use sha2::{Digest, Sha256};
-use sharetab::{GuestNo, GuestPage, Offer, Shares};
+use guest_number::GuestNo;
+use sharetab::{GuestPage, Offer, Shares};
 use std::alloc::{AllocError, Global};
 use word32::{Ppn, put_word};
 

@@ -3,7 +3,8 @@
 ghost use Rattle.std.specs.Prelude.{◌≡◌, ◌<◌, ◌^◌};
 ghost use Rattle.sharetab.specs.Shares.{Answers};
 
-use crate::{GuestNo, GuestPage, Offer, Shares};
+use guest_number::GuestNo;
+use crate::{GuestPage, Offer, Shares};
 use frames::{Frame, FrameNo, Numbers, SharePage, ShareTicket};
 use sha2::{Digest, Sha256};
 use std::alloc::Global;
