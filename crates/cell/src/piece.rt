@@ -11,6 +11,7 @@ use crate::inside::see;
 use crate::turning::turn;
 use crate::{Cell, Front, Gate, Locked, Seat};
 use guest::Stop;
+use guest_number::GuestNo;
 use machine_memory::MachineMemory;
 use page_moves::SupplyError;
 use std::alloc::Global;
@@ -86,14 +87,14 @@ pub struct Piece {
 /// Where a piece stands, for a gate.
 #[derive(Clone, Copy, Debug, PartialEq, Eq)]
 pub struct Place {
-    /// The number of the guest.
-    pub guest: u32,
+    /// The guest.
+    pub guest: GuestNo,
     /// How many steps the slice had before.
     pub done: u32,
 }
 
 // Asks the gate, and answers how many of the steps that are left may be made before it is asked again: one, where each is looked at.
-fn steps_before_gate<G: Gate>(gate: &G, guest: u32, done: u32, single: bool, left: u32) -> u32
+fn steps_before_gate<G: Gate>(gate: &G, guest: GuestNo, done: u32, single: bool, left: u32) -> u32
     requires { 0 < left }
     ensures some { 0 < result }
     ensures few { result ≤ left }

@@ -8,6 +8,7 @@ ghost use Rattle.monitor_answers.specs.Texts as spec;
 
 use crate::{Answer, GuestLine, Way};
 use guest::Stop;
+use guest_number::GuestNo;
 use machine_memory::BookCounts;
 use monitor::Fault;
 use reclaim::Level;
@@ -117,14 +118,14 @@ fn push_level(out: &mut String, level: Level) -> Result<(), AllocError>
     writeln!(out, "level {name}")
 }
 
-fn push_log(out: &mut String, guest: u32, items: u64, runs: u32) -> Result<(), AllocError>
+fn push_log(out: &mut String, guest: GuestNo, items: u64, runs: u32) -> Result<(), AllocError>
     ensures { OnOk result (string_bytes out.new ≡ string_bytes out.old
         ++ (codes "log " ++ decimal guest ++ codes " items " ++ decimal items ++ codes " runs " ++ decimal runs ++ codes "\n")) }
 {
     writeln!(out, "log {guest} items {items} runs {runs}")
 }
 
-fn push_put(out: &mut String, guest: u32, count: usize) -> Result<(), AllocError>
+fn push_put(out: &mut String, guest: GuestNo, count: usize) -> Result<(), AllocError>
     ensures { OnOk result (string_bytes out.new ≡ string_bytes out.old ++ (codes "in " ++ decimal guest ++ codes " " ++ decimal count ++ codes "\n")) }
 {
     writeln!(out, "in {guest} {count}")
@@ -142,7 +143,7 @@ fn push_digits(alloc: Global, out: &mut String, bytes: &[u8]) -> Result<(), Allo
     }
 }
 
-fn push_output(alloc: Global, out: &mut String, guest: u32, bytes: &[u8]) -> Result<(), AllocError>
+fn push_output(alloc: Global, out: &mut String, guest: GuestNo, bytes: &[u8]) -> Result<(), AllocError>
     ensures { OnOk result (string_bytes out.new ≡ string_bytes out.old ++ (codes "drain " ++ decimal guest ++ codes " " ++ spec.output_digits bytes.now ++ codes "\n")) }
 {
     write!(out, "drain {guest} ")?;
