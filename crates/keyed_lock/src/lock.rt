@@ -11,8 +11,8 @@ use std::hint;
 use std::marker::Model;
 use std::sync::Wait;
 
-/// How often a thread looks whether the lock is free before it sleeps. Who takes a lock again and again puts it back for less than a
-/// microsecond each time, for which a thread that sleeps comes too late; one that looks on meets one of those moments.
+/// How often a thread looks whether the lock is free before it sleeps. Who takes a lock again and again puts it back for a moment each
+/// time, for which a thread that is woken then comes too late; one that looks on may meet it.
 const LOOKS: u32 = 2000;
 
 /// A value that one thread at a time has, which fits a key whenever the lock is free. Threads share the lock by reference. In
