@@ -5,7 +5,6 @@ ghost use Rattle.command_line.specs.Exit.{AppendsFront, code_of, HasNoFuzz, HasN
 
 use crate::explaining::{Subject, excerpt_of, explain, explain_later};
 use crate::fuzzing::answer_fuzz;
-use crate::parsing::{Order, Settings, parse};
 use crate::printer::{Printer, tell_unprinted};
 use crate::simulating::answer_script;
 use clap::Error;
@@ -13,6 +12,7 @@ use commands::{
     Asm, Dis, Exec, Fault, Replay, Report, assemble_file, disassemble_file, replay_log, run_image,
 };
 use diagnosis::Excerpt;
+use orders::{Order, Settings, parse};
 use run_command::{RunFault, RunOrder, RunStatus, run_order};
 use runs::{Ending, Watch};
 use std::fs::File;
