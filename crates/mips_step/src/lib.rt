@@ -6,7 +6,7 @@
 //! bytes at virtual addresses, or tells the first page that is away and is wanted for that. A `View` is what is seen of a machine
 //! beside its memory.
 //!
-//! For many steps at once (`mips_fast`) there are the parts of a step: `Counter`, `Cpu::direct_place`, `Cpu::put_loaded` and `put_stored`,
+//! For many steps at once (`mips_clockless`, `mips_fast`) there are the parts of a step: `Counter`, `Cpu::direct_place`, `Cpu::put_loaded` and `put_stored`,
 //! `Cpu::advance_clock`, and in `meaning` the values of the instructions.
 #![tactic(auto)]
 

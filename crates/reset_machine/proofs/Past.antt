@@ -15,7 +15,7 @@ use Rattle.machine.specs.Meaning.{branch_condition, zero_condition, links}
 use Rattle.machine.specs.Operations.{instruction_of}
 use Rattle.machine.specs.Places.{place}
 use Rattle.machine.specs.Step.{Machine}
-use Rattle.mips_fast.specs.Clockless.{IsAway}
+use Rattle.mips_clockless.specs.Clockless.{IsAway}
 use Rattle.mips_fast.specs.Runs.{IsAdmitted}
 use Rattle.runs.specs.declared.ending.Ending.TheVariants.{Loop, Address}
 use Rattle.runs.specs.declared.ending.Until.{Until}

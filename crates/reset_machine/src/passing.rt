@@ -1,12 +1,13 @@
 //! What a run goes past that is to end at the first state of some kinds.
 ghost use Rattle.std.specs.Prelude.{◌≡◌, ◌/◌, ◌&&◌};
-ghost use Rattle.mips_fast.specs.Decoding.{instr_of};
+ghost use Rattle.mips_clockless.specs.Decoding.{instr_of};
 ghost use Rattle.runs.specs.Coverage.{is_reached};
 ghost use Rattle.reset_machine.specs.Past as spec;
 
 use crate::Cover;
 use machine::PhysAddr;
-use mips_fast::{Decoded, Filter};
+use mips_clockless::Decoded;
+use mips_fast::Filter;
 use mips_instr::{Instr, branch_target_of, jump_target_of};
 use runs::Until;
 
