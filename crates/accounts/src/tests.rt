@@ -16,11 +16,12 @@ use crate::{
 };
 use framepool::Pool;
 use frames::FrameNo;
+use guest_number::GuestNo;
 use guest_pages::{GuestPages, PageKind, Returned};
 use page_moves::{
     Pages, Scan, SupplyError, evict_in, scan_in, supply_copy, supply_first, supply_swapped,
 };
-use sharetab::{GuestNo, GuestPage, Shares};
+use sharetab::{GuestPage, Shares};
 use std::alloc::Global;
 use std::fmt::Debug;
 use std::process::Abort;

@@ -7,9 +7,9 @@ ghost use Rattle.cell.specs.Sitting.{Sits};
 
 use crate::lending::{evict_over, scan_over};
 use crate::{Cell, Front, Locked};
+use guest_number::GuestNo;
 use machine_memory::{EvictError, MachineMemory};
 use page_moves::Scan;
-use sharetab::GuestNo;
 use std::sync::Wait;
 use swapstore::SwapStore;
 use taxpolicy::SAMPLE_SIZE;

@@ -11,6 +11,7 @@ use crate::inside::see;
 use crate::turning::turn;
 use crate::{Cell, Front, Gate, Locked, Seat};
 use guest::Stop;
+use guest_number::GuestNo;
 use machine_memory::MachineMemory;
 use page_moves::SupplyError;
 use std::alloc::Global;
@@ -86,18 +87,21 @@ pub struct Piece {
 /// Where a piece stands, for a gate.
 #[derive(Clone, Copy, Debug, PartialEq, Eq)]
 pub struct Place {
-    /// The number of the guest.
-    pub guest: u32,
+    /// The guest.
+    pub guest: GuestNo,
     /// How many steps the slice had before.
     pub done: u32,
 }
 
-// Asks the gate, and answers how many of the steps that are left may be made before it is asked again: one, where each is looked at.
-fn steps_before_gate<G: Gate>(gate: &G, guest: u32, done: u32, single: bool, left: u32) -> u32
+// Asks the gate behind so many steps of a piece, and answers how many of those that are left may be made before it is asked again: one, where
+// each is looked at.
+fn steps_before_gate<G: Gate>(gate: &G, place: &Place, made: u32, single: bool, left: u32) -> u32
     requires { 0 < left }
     ensures some { 0 < result }
     ensures few { result ≤ left }
 {
+    let Place { guest, done } = *place;
+    let done = done.saturating_add(made);
     gate.before_step(guest, done);
     if single {
         return 1;
@@ -139,8 +143,7 @@ fn piece_in<S: SwapStore + Drop, R: Wait, G: Gate>(
         if steps >= most {
             break;
         }
-        let done = place.done.saturating_add(steps);
-        let count = steps_before_gate(gate, place.guest, done, breaks, most - steps);
+        let count = steps_before_gate(gate, &place, steps, breaks, most - steps);
         let (more, end) = turn(rt, alloc, memory, front, locked, seat, count);
         steps += more;
         if let Some(end) = end {

@@ -6,6 +6,7 @@ use crate::bench::{Store, Who};
 use cell::{Cell, Ended, Gate, Piece, Place, ReadError, Registers, Seats, WriteError};
 use console_queue::FeedPass;
 use guest::{Log, Stop};
+use guest_number::GuestNo;
 use items::{DebugRegister, Entry, What, WriteBytes};
 use machine_memory::MachineMemory;
 use std::alloc::Global;
@@ -84,7 +85,10 @@ impl Side {
         requires { IsMemoryOf self.old.cell.front.first.value memory.now }
         ensures { self.new.cell.front ≡ self.old.cell.front }
     {
-        let place = Place { guest: 3, done: 10 };
+        let place = Place {
+            guest: GuestNo::new(3),
+            done: 10,
+        };
         let cell = &self.cell;
         let seats = &mut self.seats;
         match who {

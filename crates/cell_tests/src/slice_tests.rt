@@ -4,6 +4,7 @@ use crate::bench::{Bench, PLAIN, Wanted, Which, Who, expect};
 use crate::boot::booted;
 use crate::side::Left;
 use cell::{End, Gate};
+use guest_number::GuestNo;
 use std::alloc::Global;
 use std::process::Abort;
 use std::sync::Wait;
@@ -224,14 +225,14 @@ impl Counting {
 }
 
 impl Gate for Counting {
-    fn before_step(&self, guest: u32, done: u32) {
-        if guest == 3 {
+    fn before_step(&self, guest: GuestNo, done: u32) {
+        if guest.number() == 3 {
             self.asked.fetch_add(1, Ordering::SeqCst);
             self.steps.fetch_add(u64::from(done), Ordering::SeqCst);
         }
     }
 
-    fn quiet(&self, _guest: u32, _done: u32) -> u32 {
+    fn quiet(&self, _guest: GuestNo, _done: u32) -> u32 {
         self.quiet.max(1)
     }
 }

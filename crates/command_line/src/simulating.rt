@@ -5,6 +5,7 @@ ghost use Rattle.command_line.specs.Exit.{code_of};
 use crate::explaining::Subject;
 use crate::program::{Status, write_refusal};
 use commands::{Fault, Sim, SimFault, run_script, script_text};
+use guest_number::GuestNo;
 use std::io;
 use std::io::{ErrorKind, Write};
 use std::rt::Files;
@@ -40,7 +41,7 @@ where
 /// Says which log could not be written, where one could not.
 fn answer_logs<E: Write>(
     directory: Option<&str>,
-    unwritten: Option<usize>,
+    unwritten: Option<GuestNo>,
     err: &mut E,
 ) -> io::Result<Status>
     ensures usage { IfOk result (λ s. code_of s ≢ 2) }
@@ -53,9 +54,10 @@ fn answer_logs<E: Write>(
 }
 
 /// Writes that the log of a guest, and perhaps of others behind it, is not written, and words for it.
-fn write_unwritten<E: Write>(directory: &str, guest: usize, err: &mut E) -> io::Result<Status>
+fn write_unwritten<E: Write>(directory: &str, guest: GuestNo, err: &mut E) -> io::Result<Status>
     ensures { IfOk result (λ s. code_of s ≡ 1) }
 {
+    let guest = guest.number();
     writeln!(err, "vmhost: file {directory}/{guest}.log")?;
     writeln!(
         err,

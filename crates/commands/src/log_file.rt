@@ -5,6 +5,7 @@ ghost use Rattle.commands.specs.LogFiles.{IsLogFile};
 
 use crate::fault::{Fault, of_file};
 use guest::Log;
+use guest_number::GuestNo;
 use logfile::{append_as, write_as};
 use mips_cp0::Profile;
 use output_file::{is_one_file, write_file};
@@ -13,9 +14,9 @@ use std::alloc::{AllocError, Global};
 use std::rt::Files;
 use std::{fs, io};
 
-/// The name of the file of a guest's log in a directory: `0.log`, and so on.
-pub fn log_name(alloc: Global, directory: &str, guest: usize) -> Result<String, AllocError> {
-    format!(in alloc; "{directory}/{guest}.log")
+/// The name of the file of a log in a directory, by the number of its guest or of its input: `0.log`, and so on.
+pub fn log_name(alloc: Global, directory: &str, number: usize) -> Result<String, AllocError> {
+    format!(in alloc; "{directory}/{number}.log")
 }
 
 /// Whether the file of this name is one that the log of one of so many guests is written to, in a directory: by that name, or by another one.
@@ -58,7 +59,7 @@ pub(crate) struct LogFiles<'r, 'a, R: Files + AllocGlobal> {
     directory: Option<&'a str>,
     profile: Profile,
     digests: Vec<[u8; 32]>,
-    unwritten: Option<usize>,
+    unwritten: Option<GuestNo>,
 }
 
 impl<'r, 'a, R: Files + AllocGlobal> LogFiles<'r, 'a, R> {
@@ -84,17 +85,17 @@ impl<'r, 'a, R: Files + AllocGlobal> LogFiles<'r, 'a, R> {
         })
     }
 
-    /// The number of the first guest whose log could not be written; None where each was, or none was to be.
-    pub(crate) fn unwritten(&self) -> Option<usize> {
+    /// The first guest whose log could not be written; None where each was, or none was to be.
+    pub(crate) fn unwritten(&self) -> Option<GuestNo> {
         self.unwritten
     }
 
     /// Whether the log of a guest is written.
-    fn write(&self, directory: &str, guest: usize, pages: u32, log: &Log) -> bool {
-        let Some(digest) = self.digests.get(guest) else {
+    fn write(&self, directory: &str, guest: GuestNo, pages: u32, log: &Log) -> bool {
+        let Some(digest) = self.digests.get(guest.index()) else {
             return false;
         };
-        match log_name(self.rt.alloc(), directory, guest) {
+        match log_name(self.rt.alloc(), directory, guest.index()) {
             Ok(name) => {
                 write_log(self.rt, name.as_str(), log, self.profile, pages, digest).is_ok()
             }
@@ -104,7 +105,7 @@ impl<'r, 'a, R: Files + AllocGlobal> LogFiles<'r, 'a, R> {
 }
 
 impl<R: Files + AllocGlobal> LogKeeper for LogFiles<'_, '_, R> {
-    fn keep(&mut self, guest: usize, pages: u32, log: &Log) {
+    fn keep(&mut self, guest: GuestNo, pages: u32, log: &Log) {
         let Some(directory) = self.directory else {
             return;
         };

@@ -15,6 +15,7 @@ use crate::image_file::{Loaded, elf_image, whole_file};
 use crate::log_file::{LogFiles, is_log};
 use crate::order::{DEFAULT_PROFILE, Sim};
 use elf32::Image;
+use guest_number::GuestNo;
 use mips_cp0::Profile;
 use script::{Block, GuestLine, Header, Script, ScriptError, StoreCall};
 use simulation::{LogKeeper, SimError, simulate};
@@ -58,7 +59,7 @@ pub enum SimFault<'a> {
 
 /// Does the events of a script of this text in a world of its guests, over a store in memory, and writes the reply to each as soon as it is
 /// done, behind the number of its line where the order says so. At the end, also where it comes early, the guests' logs are written into
-/// the directory of the order, if it names one. The answer is the number of the first guest whose log could not be written.
+/// the directory of the order, if it names one. The answer is the first guest whose log could not be written.
 ///
 /// An error is `Refused`, before anything is written: `Script` with the first line that is refused, and `Boot` where there are more than
 /// 16 guests or the header says a number of no profile, before any other file is read; `File` with the script's name or a guest's file where
@@ -70,7 +71,7 @@ pub fn run_script<'a, R: Files + AllocGlobal, O: Write>(
     order: Sim<'a>,
     text: &'a str,
     out: &mut O,
-) -> Result<Option<usize>, SimFault<'a>>
+) -> Result<Option<GuestNo>, SimFault<'a>>
     ensures replies { OnOk result (IsSimulation true order.entry.numbered text.now (O.contents out.old) (O.contents out.new)) }
     ensures broken_off { IsErrOf result SimFault.Memory → IsSimulation false order.entry.numbered text.now (O.contents out.old) (O.contents out.new) }
     ensures unwritten { (fault : Fault) → IsErrOf result (SimFault.Refused fault) → out.new ≡ out.old }

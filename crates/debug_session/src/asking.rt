@@ -10,6 +10,7 @@ ghost use Rattle.debug_session.specs.Talks.{Asked};
 use crate::State;
 use crate::telling::{tell_done, tell_refused};
 use cell::{Gate, Seat};
+use guest_number::GuestNo;
 use host::{Host, Request};
 use items::DebugRegister;
 use std::alloc::{AllocError, Global};
@@ -21,7 +22,7 @@ pub(crate) fn ask<S: SwapStore + Drop, R: Wait, G: Gate + Drop>(
     rt: &R,
     alloc: Global,
     host: &Host<S, G>,
-    guest: usize,
+    guest: GuestNo,
     seat: &mut Seat,
     which: Option<DebugRegister>,
     request: Request,

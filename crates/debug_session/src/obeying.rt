@@ -17,6 +17,7 @@ use crate::telling::tell;
 use cell::{Gate, Seat};
 use debugline::laws::a_line_says_its_row;
 use debugline::{Answer, Command, Line, parse};
+use guest_number::GuestNo;
 use host::{Host, Request};
 use items::WriteBytes;
 use std::alloc::{AllocError, Global};
@@ -28,7 +29,7 @@ fn detach<S: SwapStore + Drop, R: Wait, G: Gate + Drop>(
     rt: &R,
     alloc: Global,
     host: &Host<S, G>,
-    guest: usize,
+    guest: GuestNo,
     out: &mut String,
 ) -> Result<State, AllocError>
     requires { guest < length host.now.guests.cells.items }
@@ -46,7 +47,7 @@ fn obey<S: SwapStore + Drop, R: Wait, G: Gate + Drop>(
     rt: &R,
     alloc: Global,
     host: &Host<S, G>,
-    guest: usize,
+    guest: GuestNo,
     seat: &mut Seat,
     command: Command,
     out: &mut String,
@@ -122,7 +123,7 @@ fn answer<S: SwapStore + Drop, R: Wait, G: Gate + Drop>(
     rt: &R,
     alloc: Global,
     host: &Host<S, G>,
-    guest: usize,
+    guest: GuestNo,
     seat: &mut Seat,
     line: &Line,
     out: &mut String,
@@ -150,7 +151,7 @@ fn take_line<S: SwapStore + Drop, R: Wait, G: Gate + Drop>(
     rt: &R,
     alloc: Global,
     host: &Host<S, G>,
-    guest: usize,
+    guest: GuestNo,
     seat: &mut Seat,
     state: State,
     line: &Line,
@@ -180,7 +181,7 @@ pub(crate) fn take_lines<S: SwapStore + Drop, R: Wait, G: Gate + Drop>(
     rt: &R,
     alloc: Global,
     host: &Host<S, G>,
-    guest: usize,
+    guest: GuestNo,
     seat: &mut Seat,
     state: State,
     lines: &[Line],

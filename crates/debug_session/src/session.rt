@@ -5,6 +5,7 @@ use crate::stepping::run_on;
 use crate::telling::tell;
 use cell::{Gate, Seat};
 use debugline::{Answer, Framer};
+use guest_number::GuestNo;
 use host::Host;
 use std::alloc::{AllocError, Global};
 use std::sync::Wait;
@@ -34,7 +35,7 @@ impl Session {
         rt: &R,
         alloc: Global,
         host: &Host<S, G>,
-        guest: usize,
+        guest: GuestNo,
     ) -> Session
         requires { guest < length host.now.guests.cells.items }
         ensures state { result.state ≡ State.Ready }
@@ -57,7 +58,7 @@ impl Session {
         rt: &R,
         alloc: Global,
         host: &Host<S, G>,
-        guest: usize,
+        guest: GuestNo,
         seat: &mut Seat,
         piece: &[u8],
         out: &mut String,
@@ -85,7 +86,7 @@ impl Session {
         rt: &R,
         alloc: Global,
         host: &Host<S, G>,
-        guest: usize,
+        guest: GuestNo,
         seat: &mut Seat,
         out: &mut String,
     ) -> Result<(), AllocError>
@@ -112,7 +113,7 @@ impl Session {
         rt: &R,
         alloc: Global,
         host: &Host<S, G>,
-        guest: usize,
+        guest: GuestNo,
         out: &mut String,
     ) -> Result<(), AllocError>
         requires { guest < length host.now.guests.cells.items }

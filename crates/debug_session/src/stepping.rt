@@ -10,6 +10,7 @@ use crate::State;
 use crate::telling::{stop_error, tell};
 use cell::{Gate, Seat};
 use debugline::Answer;
+use guest_number::GuestNo;
 use host::{Host, Ran};
 use std::alloc::{AllocError, Global};
 use std::sync::Wait;
@@ -37,7 +38,7 @@ pub(crate) fn run_on<S: SwapStore + Drop, R: Wait, G: Gate + Drop>(
     rt: &R,
     alloc: Global,
     host: &Host<S, G>,
-    guest: usize,
+    guest: GuestNo,
     seat: &mut Seat,
     out: &mut String,
 ) -> Result<State, AllocError>
@@ -72,7 +73,7 @@ pub(crate) fn step<S: SwapStore + Drop, R: Wait, G: Gate + Drop>(
     rt: &R,
     alloc: Global,
     host: &Host<S, G>,
-    guest: usize,
+    guest: GuestNo,
     seat: &mut Seat,
     out: &mut String,
 ) -> Result<State, AllocError>

@@ -8,6 +8,7 @@ ghost use Rattle.guest_bus.specs.Buses.{IsSettled};
 
 use crate::{GuestBus, InputError};
 use frames::{Frame, Numbers, SlotTicket};
+use guest_number::GuestNo;
 use guest_pages::{PageKind, Returned};
 use items::{DebugRegister, What, WriteBytes};
 use machine::{PhysAddr, Reply, StepOut, Why};
@@ -15,7 +16,7 @@ use mips_cp0::Profile;
 use mips_instr::Reg;
 use mips_step::Cpu;
 use sha2::{Digest, Sha256};
-use sharetab::{GuestNo, GuestPage, Offer, Shares};
+use sharetab::{GuestPage, Offer, Shares};
 use std::alloc::{AllocError, Global};
 use std::fmt::Debug;
 use std::process::Abort;

@@ -4,8 +4,9 @@ ghost use Rattle.word32.specs.Zeros.{zeros};
 
 use crate::{GuestPages, PageKind, Returned};
 use frames::{Frame, FrameNo, Numbers, ShareTicket, SharedFrame, SlotTicket};
+use guest_number::GuestNo;
 use sha2::{Digest, Sha256};
-use sharetab::{GuestNo, GuestPage, Offer, Shares};
+use sharetab::{GuestPage, Offer, Shares};
 use std::alloc::{AllocError, Global};
 use std::fmt::Debug;
 use std::process::Abort;

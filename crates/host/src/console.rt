@@ -4,6 +4,7 @@ use crate::places::cell_of;
 use cell::{Gate, Seat};
 use console_queue::FeedPass;
 use guest::Stop;
+use guest_number::GuestNo;
 use std::sync::Wait;
 use swapstore::SwapStore;
 
@@ -17,7 +18,7 @@ impl<S: SwapStore + Drop, G: Gate + Drop> Host<S, G> {
 
     /// Puts bytes for a guest's console, the first of them first, and answers how many it put: fewer than all only where 1,024 of them
     /// waited at a moment of the call. It takes no lock.
-    pub fn feed<R: Wait>(&self, rt: &R, guest: usize, feed: &mut FeedPass, bytes: &[u8]) -> usize
+    pub fn feed<R: Wait>(&self, rt: &R, guest: GuestNo, feed: &mut FeedPass, bytes: &[u8]) -> usize
         requires guest { guest < length self.now.guests.cells.items }
         requires of { AtGuest self.now.guests.cells.items guest (λ front. feed.old.queue ≡ front.queue.id) }
         ensures at_most { result ≤ length bytes.now }
@@ -29,7 +30,7 @@ impl<S: SwapStore + Drop, G: Gate + Drop> Host<S, G> {
 
     /// Takes the output of a guest's console, as an item of the seat: that of the machine after the log as it was found. `LogFull` where the
     /// log has its greatest number of runs or 2^62 items, `Memory` where a request for memory was refused: nothing is taken then.
-    pub fn drain<R: Wait>(&self, rt: &R, guest: usize, seat: &mut Seat) -> Result<Vec<u8>, Stop>
+    pub fn drain<R: Wait>(&self, rt: &R, guest: GuestNo, seat: &mut Seat) -> Result<Vec<u8>, Stop>
         requires guest { guest < length self.now.guests.cells.items }
         requires of { AtGuest self.now.guests.cells.items guest (λ front. IsOf front seat.old) }
         ensures of { AtGuest self.now.guests.cells.items guest (λ front. IsOf front seat.new) }
@@ -47,7 +48,7 @@ impl<S: SwapStore + Drop, G: Gate + Drop> Host<S, G> {
     pub fn set_target<R: Wait>(
         &self,
         rt: &R,
-        guest: usize,
+        guest: GuestNo,
         seat: &mut Seat,
         pages: u32,
     ) -> Result<(), Stop>
@@ -65,7 +66,7 @@ impl<S: SwapStore + Drop, G: Gate + Drop> Host<S, G> {
     }
 
     /// How long the log of a guest is that the seat has then seen. It waits for nobody.
-    pub fn seen(&self, guest: usize, seat: &mut Seat) -> u64
+    pub fn seen(&self, guest: GuestNo, seat: &mut Seat) -> u64
         requires guest { guest < length self.now.guests.cells.items }
         requires of { AtGuest self.now.guests.cells.items guest (λ front. IsOf front seat.old) }
         ensures of { AtGuest self.now.guests.cells.items guest (λ front. IsOf front seat.new) }

@@ -3,6 +3,7 @@ use crate::debugging::debug_of;
 use crate::places::cell_of;
 use crate::{DebugError, Host, Reply, Request, Stop};
 use cell::{Gate, Seat};
+use guest_number::GuestNo;
 use std::alloc::Global;
 use std::sync::Wait;
 use swapstore::SwapStore;
@@ -25,7 +26,7 @@ impl<S: SwapStore + Drop, G: Gate + Drop> Host<S, G> {
         &self,
         rt: &R,
         alloc: Global,
-        guest: usize,
+        guest: GuestNo,
         seat: &mut Seat,
         request: Request,
     ) -> Result<Reply, DebugError>
@@ -46,21 +47,21 @@ impl<S: SwapStore + Drop, G: Gate + Drop> Host<S, G> {
     }
 
     /// Takes all breakpoints of a guest away.
-    pub fn clear_breaks<R: Wait>(&self, rt: &R, guest: usize)
+    pub fn clear_breaks<R: Wait>(&self, rt: &R, guest: GuestNo)
         requires { guest < length self.now.guests.cells.items }
     {
         cell_of(&self.guests, guest).clear_breaks(rt);
     }
 
     /// Holds a guest: until `go` it makes no step but those of seat 3.
-    pub fn hold<R: Wait>(&self, rt: &R, guest: usize)
+    pub fn hold<R: Wait>(&self, rt: &R, guest: GuestNo)
         requires { guest < length self.now.guests.cells.items }
     {
         cell_of(&self.guests, guest).hold(rt);
     }
 
     /// Lets a guest go on after `hold`.
-    pub fn go<R: Wait>(&self, rt: &R, guest: usize)
+    pub fn go<R: Wait>(&self, rt: &R, guest: GuestNo)
         requires { guest < length self.now.guests.cells.items }
     {
         cell_of(&self.guests, guest).go(rt);

@@ -2,10 +2,10 @@
 use crate::Host;
 use crate::places::cell_of;
 use cell::{Gate, Seat};
+use guest_number::GuestNo;
 use host_policy::{Evicted, Turn, evict_one, turn};
 use page_moves::Scan;
 use reclaim::Level;
-use sharetab::GuestNo;
 use std::alloc::{AllocError, Global};
 use std::sync::Wait;
 use swapstore::SwapStore;
@@ -33,14 +33,14 @@ impl<S: SwapStore + Drop, G: Gate + Drop> Host<S, G> {
 
     /// Scans a page of a guest for one of equal bytes, as `MachineMemory::scan` does. `Skipped` where there is no such guest or page, or the
     /// page is in no frame of its own. The page that `Admitted` names is another one. No guest notices.
-    pub fn scan_page<R: Wait>(&self, rt: &R, guest: u32, page: u32) -> Scan
+    pub fn scan_page<R: Wait>(&self, rt: &R, guest: GuestNo, page: u32) -> Scan
         ensures { (other : GuestPage) → result ≡ Scan.Admitted other → other ≢ record { guest = guest; page = page } }
     {
-        if guest as usize >= self.count() || page >= ALL_PAGES {
+        if guest.index() >= self.count() || page >= ALL_PAGES {
             return Scan::Skipped;
         }
-        let cell = cell_of(&self.guests, guest as usize);
-        cell.scan(rt, &self.guests.memory, GuestNo::new(guest), Ppn::new(page))
+        let cell = cell_of(&self.guests, guest);
+        cell.scan(rt, &self.guests.memory, guest, Ppn::new(page))
     }
 
     /// A page of the policy's victim leaves its frame for a slot, as `host_policy::evict_one` has it.

@@ -3,6 +3,7 @@ use crate::places::cell_of;
 use crate::slices::slice_of;
 use crate::{Host, Ran, Stop};
 use cell::{Gate, Seat};
+use guest_number::GuestNo;
 use std::alloc::Global;
 use std::sync::Wait;
 use swapstore::SwapStore;
@@ -26,7 +27,7 @@ impl<S: SwapStore + Drop, G: Gate + Drop> Host<S, G> {
         &self,
         rt: &R,
         alloc: Global,
-        guest: usize,
+        guest: GuestNo,
         seat: &mut Seat,
         count: u32,
     ) -> Ran
@@ -50,7 +51,7 @@ impl<S: SwapStore + Drop, G: Gate + Drop> Host<S, G> {
             &self.guests,
             &self.policy,
             cell,
-            guest as u32,
+            guest,
             seat,
             count,
             &self.gate,

@@ -11,6 +11,7 @@ use crate::room::make_room;
 use crate::{Ran, Stop};
 use cell::{Cell, End, Gate, Piece, Place, Seat};
 use guest_cells::GuestCells;
+use guest_number::GuestNo;
 use host_policy::Policy;
 use std::alloc::Global;
 use std::sync::Wait;
@@ -78,7 +79,7 @@ pub(crate) fn slice_of<S: SwapStore + Drop, R: Wait, G: Gate>(
     guests: &GuestCells<S>,
     policy: &Policy,
     cell: &Cell<S>,
-    number: u32,
+    number: GuestNo,
     seat: &mut Seat,
     count: u32,
     gate: &G,

@@ -4,6 +4,7 @@ ghost use Rattle.std.specs.Prelude.{◌≡◌, ◌≤◌, length};
 use crate::Host;
 use crate::places::cell_of;
 use cell::{Cell, Gate, Locked};
+use guest_number::GuestNo;
 use std::sync::Wait;
 use swapstore::SwapStore;
 
@@ -62,7 +63,7 @@ impl<S: SwapStore + Drop, G: Gate + Drop> Host<S, G> {
     ghost use Rattle.host.specs.Places.{AtGuest};
 
     /// How a guest stands, as it was under its lock.
-    pub fn status<R: Wait>(&self, rt: &R, guest: usize) -> Status
+    pub fn status<R: Wait>(&self, rt: &R, guest: GuestNo) -> Status
         requires { guest < length self.now.guests.cells.items }
         ensures shares { AtGuest self.now.guests.cells.items guest (λ front. result.shares ≡ front.shares) }
         ensures minimum { AtGuest self.now.guests.cells.items guest (λ front. result.minimum ≡ front.minimum) }

@@ -11,6 +11,7 @@ use crate::reading::is_first_word;
 use cell::{Seat, Seats};
 use console_queue::FeedPass;
 use guest_cells::Handles;
+use guest_number::GuestNo;
 use std::alloc::{AllocError, Global};
 use std::sync::Wait;
 use std::sync::atomic::{AtomicU32, Ordering};
@@ -42,7 +43,7 @@ fn run_on<R: Wait>(rt: &R, alloc: Global, host: &OneHost, mut seat: Seat, switch
     requires seat { AtGuest host.now.guests.cells.items 0 (λ front. IsOf front seat) }
 {
     for _ in rt.forever() {
-        let _ran = host.run_slice(rt, alloc, 0, &mut seat, STEPS);
+        let _ran = host.run_slice(rt, alloc, GuestNo::new(0), &mut seat, STEPS);
         switches.running.store(1, Ordering::SeqCst);
         if switches.done.load(Ordering::SeqCst) == 1 {
             return;
@@ -69,7 +70,7 @@ fn feed_each<R: Wait>(rt: &R, host: &OneHost, mut feed: FeedPass, count: u32) ->
 {
     let mut put: u64 = 0;
     for _round in 0..count {
-        put += host.feed(rt, 0, &mut feed, &[1, 2, 3]) as u64;
+        put += host.feed(rt, GuestNo::new(0), &mut feed, &[1, 2, 3]) as u64;
     }
     put
 }
@@ -84,7 +85,7 @@ fn look_each(host: &OneHost, mut seat: Seat, count: u32) -> u64
     let mut longer: u64 = 0;
     let mut before = 0;
     for _round in 0..count {
-        let now = host.seen(0, &mut seat);
+        let now = host.seen(GuestNo::new(0), &mut seat);
         if now >= before {
             longer += 1;
         }

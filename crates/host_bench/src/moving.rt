@@ -8,6 +8,7 @@ use crate::hosts::{Hosted, OneHost, boot_host};
 use crate::reading::is_first_word;
 use cell::{Seat, Seats};
 use guest_cells::Handles;
+use guest_number::GuestNo;
 use host_policy::Evicted;
 use page_moves::Scan;
 use std::alloc::{AllocError, Global};
@@ -19,7 +20,7 @@ fn scan_each<R: Wait>(rt: &R, host: &OneHost, count: u32) -> u64
 {
     let mut noted: u64 = 0;
     for round in 0..count {
-        match host.scan_page(rt, 0, round % PAGES) {
+        match host.scan_page(rt, GuestNo::new(0), round % PAGES) {
             Scan::Noted => noted += 1,
             _ => {}
         }

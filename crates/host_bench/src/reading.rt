@@ -6,6 +6,7 @@ ghost use Rattle.host.specs.Places.{AtGuest};
 use crate::guests::{START, first_word};
 use crate::hosts::OneHost;
 use cell::Seat;
+use guest_number::GuestNo;
 use host::{Reply, Request};
 use std::alloc::Global;
 use std::sync::Wait;
@@ -24,7 +25,7 @@ pub fn is_first_word<R: Wait>(
     ensures { AtGuest host.now.guests.cells.items 0 (λ front. IsOf front seat.new) }
 {
     let request = Request::Read(START + 4 * place, 4);
-    match host.debug(rt, alloc, 0, seat, request) {
+    match host.debug(rt, alloc, GuestNo::new(0), seat, request) {
         Ok(Reply::Bytes(bytes)) => bytes.as_slice() == &first_word(place).to_le_bytes()[..],
         Ok(_) => false,
         Err(_) => false,

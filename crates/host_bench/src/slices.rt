@@ -8,6 +8,7 @@ use crate::guests::STEPS;
 use crate::hosts::{Hosted, OneHost, boot_host};
 use cell::{Seat, Seats};
 use guest_cells::Handles;
+use guest_number::GuestNo;
 use host::Ran;
 use std::alloc::{AllocError, Global};
 use std::sync::Wait;
@@ -32,7 +33,7 @@ fn make_slices<R: Wait>(rt: &R, alloc: Global, host: &OneHost, mut seat: Seat, c
 {
     let mut made: u64 = 0;
     for _round in 0..count {
-        let ran = host.run_slice(rt, alloc, 0, &mut seat, STEPS);
+        let ran = host.run_slice(rt, alloc, GuestNo::new(0), &mut seat, STEPS);
         made += u64::from(steps_of(ran));
     }
     made

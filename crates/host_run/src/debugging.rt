@@ -6,6 +6,7 @@ ghost use Rattle.host_run.specs.Seats.{IsSeat};
 use crate::switches::Switches;
 use cell::{Gate, Seat};
 use debug_session::{Session, State};
+use guest_number::GuestNo;
 use host::Host;
 use std::alloc::Global;
 use std::io::{ErrorKind, Read, Write};
@@ -65,7 +66,7 @@ fn serve<S: SwapStore + Drop, G: Gate + Drop, R: Wait>(
     rt: &R,
     alloc: Global,
     host: &Host<S, G>,
-    guest: usize,
+    guest: GuestNo,
     seat: &mut Seat,
     stream: &TcpStream,
 )
@@ -109,7 +110,7 @@ pub(crate) fn serve_port<S: SwapStore + Drop, G: Gate + Drop, R: Wait>(
     host: &Host<S, G>,
     switches: &Switches,
     door: &TcpListener,
-    guest: usize,
+    guest: GuestNo,
     seat: &mut Seat,
 )
     requires guest { guest < length host.now.guests.cells.items }

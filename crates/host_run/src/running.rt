@@ -5,6 +5,7 @@ ghost use Rattle.host_run.specs.Seats.{IsSeat};
 
 use crate::switches::Switches;
 use cell::{Gate, Seat};
+use guest_number::GuestNo;
 use host::{Host, Ran};
 use std::alloc::Global;
 use std::sync::Wait;
@@ -37,7 +38,7 @@ pub(crate) fn run_guest<S: SwapStore + Drop, G: Gate + Drop, R: Wait>(
     alloc: Global,
     host: &Host<S, G>,
     switches: &Switches,
-    guest: usize,
+    guest: GuestNo,
     seat: &mut Seat,
 )
     requires guest { guest < length host.now.guests.cells.items }

@@ -4,6 +4,7 @@ ghost use Rattle.host_policy.specs.Turns.{ArePolicySeats};
 
 use crate::switches::Switches;
 use cell::{Gate, Seat};
+use guest_number::GuestNo;
 use host::Host;
 use page_moves::Scan;
 use sharetab::GuestPage;
@@ -25,7 +26,7 @@ const REST: u64 = 10;
 #[derive(Drop)]
 struct Round {
     // the guest, and its page that is scanned next
-    guest: usize,
+    guest: GuestNo,
     page: u32,
     // how many pages the guest has
     pages: u32,
@@ -40,7 +41,7 @@ impl Round {
     fn at<S: SwapStore + Drop, G: Gate + Drop, R: Wait>(
         rt: &R,
         host: &Host<S, G>,
-        guest: usize,
+        guest: GuestNo,
     ) -> Round
         requires { guest < length host.now.guests.cells.items }
         ensures { result.guest ≡ guest }
@@ -62,8 +63,8 @@ impl Round {
         if self.page < self.pages {
             return;
         }
-        let next = self.guest + 1;
-        let guest = if next < host.count() { next } else { 0 };
+        let next = self.guest.index() + 1;
+        let guest = GuestNo::new(if next < host.count() { next as u32 } else { 0 });
         self.guest = guest;
         self.page = 0;
         self.pages = host.status(rt, guest).pages;
@@ -75,9 +76,9 @@ impl Round {
         ensures { self.new.guest < length host.now.guests.cells.items }
     {
         let scanned = match self.noted.take() {
-            Some(noted) => host.scan_page(rt, noted.guest.number(), noted.page.number()),
+            Some(noted) => host.scan_page(rt, noted.guest, noted.page.number()),
             None => {
-                let scanned = host.scan_page(rt, self.guest as u32, self.page);
+                let scanned = host.scan_page(rt, self.guest, self.page);
                 self.step(rt, host);
                 scanned
             }
@@ -135,7 +136,7 @@ pub(crate) fn share<S: SwapStore + Drop, G: Gate + Drop, R: Wait>(
     requires seats { ArePolicySeats host.now.guests.cells.items seats.old }
     ensures seats { ArePolicySeats host.now.guests.cells.items seats.new }
 {
-    let mut round = Round::at(rt, host, 0);
+    let mut round = Round::at(rt, host, GuestNo::new(0));
     let mut since_turn = 0u32;
     let mut since_rest = 0u32;
     for _ in rt.forever() {

@@ -1,6 +1,7 @@
 //! What the threads of a run tell each other.
 ghost use Rattle.std.specs.Prelude.{◌≡◌, length};
 
+use guest_number::GuestNo;
 use std::alloc::{AllocError, Global};
 use std::sync::Wait;
 use std::sync::atomic::{AtomicBool, AtomicU32, Ordering};
@@ -55,10 +56,10 @@ impl Switches {
     }
 
     /// How the last slice of a guest ended: 0, or the number of its stop.
-    pub fn note(&self, guest: usize, stop: u32)
+    pub fn note(&self, guest: GuestNo, stop: u32)
         requires { guest < length self.now.stops.items }
     {
-        self.stops[guest].store(stop, Ordering::SeqCst);
+        self.stops[guest.index()].store(stop, Ordering::SeqCst);
     }
 
     /// Whether the last slice of a guest ended by a stop.
@@ -72,10 +73,10 @@ impl Switches {
     }
 
     /// A guest's runner looks again whether the guest can go on.
-    pub fn wake(&self, guest: usize)
+    pub fn wake(&self, guest: GuestNo)
         requires { guest < length self.now.stops.items }
     {
-        self.runners[guest].unpark();
+        self.runners[guest.index()].unpark();
     }
 
     /// All runners look again.
@@ -86,10 +87,10 @@ impl Switches {
     }
 
     /// A guest's runner rests until it is woken. It is the only thread that rests here.
-    pub fn rest<R: Wait>(&self, rt: &R, guest: usize)
+    pub fn rest<R: Wait>(&self, rt: &R, guest: GuestNo)
         requires { guest < length self.now.stops.items }
     {
-        self.runners[guest].park(rt);
+        self.runners[guest.index()].park(rt);
     }
 
     /// The sharer rests so long, or until the run ends.

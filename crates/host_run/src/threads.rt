@@ -18,6 +18,7 @@ use crate::sharing::share;
 use crate::switches::Switches;
 use cell::{Gate, Seat};
 use guest_cells::{Finished, Handles};
+use guest_number::GuestNo;
 use host::Host;
 use monitor_answers::MonitorHand;
 use std::alloc::{AllocError, Global};
@@ -63,9 +64,18 @@ where
     let run = |guest: usize, seat: &mut Seat|
         requires { (guest < length host.now.guests.cells.items) × (length switches.now.stops.items ≡ length host.now.guests.cells.items) × AtGuest host.now.guests.cells.items guest (λ front. IsSeat front 0 seat.now) }
         ensures { AtGuest host.entry.now.guests.cells.items guest (λ front. IsSeat front 0 seat.exit.now) }
-    { run_guest(rt, alloc, host, switches, guest, seat) };
+    { run_guest(rt, alloc, host, switches, number_of(host, guest), seat) };
     for_each_mut(rt, seats.as_mut_slice(), count, &run);
     seats
+}
+
+// The guest at a place among all. Its number is small, as the count says.
+fn number_of<S: SwapStore + Drop, G: Gate + Drop>(host: &Host<S, G>, place: usize) -> GuestNo
+    requires { place < length host.now.guests.cells.items }
+    ensures { result ≡ place }
+{
+    let _count = host.count();
+    GuestNo::new(place as u32)
 }
 
 // The debugger ports of all guests, a thread each; none where there are no doors.
@@ -93,7 +103,15 @@ where
         ensures { AtGuest host.entry.now.guests.cells.items guest (λ front. IsSeat front 3 seat.exit.now) }
     {
         if let Some(door) = doors.get(guest) {
-            serve_port(rt, alloc, host, switches, door, guest, seat);
+            serve_port(
+                rt,
+                alloc,
+                host,
+                switches,
+                door,
+                number_of(host, guest),
+                seat,
+            );
         }
     };
     for_each_mut(rt, seats.as_mut_slice(), count, &serve);
@@ -128,7 +146,7 @@ fn end<S: SwapStore + Drop, G: Gate + Drop, R: Wait + Net>(
     doors: &[TcpListener],
 ) {
     for guest in 0..host.count() {
-        host.hold(rt, guest);
+        host.hold(rt, GuestNo::new(guest as u32));
     }
     switches.end();
     for door in doors {

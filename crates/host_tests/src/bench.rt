@@ -9,6 +9,7 @@ use crate::images::shared_image;
 use booting::{Config, NewGuest};
 use cell::Gate;
 use guest_cells::Handles;
+use guest_number::GuestNo;
 use host::{Booted, DebugError, Host, PolicyConfig, Ran, Reply, Request};
 use mips_cp0::Profile;
 use std::alloc::Global;
@@ -138,7 +139,7 @@ pub(crate) fn run<R: Wait, G: Gate + Drop>(
     rt: &R,
     alloc: Global,
     host: &Host<MemStore, G>,
-    guest: usize,
+    guest: GuestNo,
     handles: &mut Handles,
     count: u32,
 ) -> Ran
@@ -155,7 +156,7 @@ fn step<R: Wait, G: Gate + Drop>(
     rt: &R,
     alloc: Global,
     host: &Host<MemStore, G>,
-    guest: usize,
+    guest: GuestNo,
     handles: &mut Handles,
     count: u32,
 ) -> Ran
@@ -172,7 +173,7 @@ fn ask<R: Wait, G: Gate + Drop>(
     rt: &R,
     alloc: Global,
     host: &Host<MemStore, G>,
-    guest: usize,
+    guest: GuestNo,
     handles: &mut Handles,
     request: Request,
 ) -> Result<Reply, DebugError>
@@ -187,17 +188,17 @@ fn ask<R: Wait, G: Gate + Drop>(
 impl<G: Gate + Drop> Bench<G> {
     /// A slice of guest 0's runner.
     pub(crate) fn run_one<R: Wait>(&mut self, rt: &R, alloc: Global, count: u32) -> Ran {
-        run(rt, alloc, &self.host, 0, &mut self.one, count)
+        run(rt, alloc, &self.host, GuestNo::new(0), &mut self.one, count)
     }
 
     /// A slice of guest 1's runner.
     pub(crate) fn run_two<R: Wait>(&mut self, rt: &R, alloc: Global, count: u32) -> Ran {
-        run(rt, alloc, &self.host, 1, &mut self.two, count)
+        run(rt, alloc, &self.host, GuestNo::new(1), &mut self.two, count)
     }
 
     /// A slice of guest 0's debugger.
     pub(crate) fn step_one<R: Wait>(&mut self, rt: &R, alloc: Global, count: u32) -> Ran {
-        step(rt, alloc, &self.host, 0, &mut self.one, count)
+        step(rt, alloc, &self.host, GuestNo::new(0), &mut self.one, count)
     }
 
     /// What a debugger asks of guest 0.
@@ -209,7 +210,14 @@ impl<G: Gate + Drop> Bench<G> {
     ) -> Result<Reply, DebugError>
         requires { IsSmall request }
     {
-        ask(rt, alloc, &self.host, 0, &mut self.one, request)
+        ask(
+            rt,
+            alloc,
+            &self.host,
+            GuestNo::new(0),
+            &mut self.one,
+            request,
+        )
     }
 
     /// What a debugger asks of guest 1.
@@ -221,6 +229,13 @@ impl<G: Gate + Drop> Bench<G> {
     ) -> Result<Reply, DebugError>
         requires { IsSmall request }
     {
-        ask(rt, alloc, &self.host, 1, &mut self.two, request)
+        ask(
+            rt,
+            alloc,
+            &self.host,
+            GuestNo::new(1),
+            &mut self.two,
+            request,
+        )
     }
 }

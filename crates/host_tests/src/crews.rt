@@ -8,6 +8,7 @@ ghost use Rattle.host_tests.specs.Crews.{IsCrewOf};
 use crate::race::Hosts;
 use cell::Seat;
 use console_queue::FeedPass;
+use guest_number::GuestNo;
 use host::{DebugError, Ran, Request, Stop};
 use items::{DebugRegister, WriteBytes};
 use std::alloc::Global;
@@ -56,7 +57,7 @@ fn runs<R: Wait>(
     rt: &R,
     alloc: Global,
     host: &Hosts,
-    guest: usize,
+    guest: GuestNo,
     mut seat: Seat,
     slices: u32,
 ) -> (Seat, u32)
@@ -79,7 +80,7 @@ fn ask<R: Wait>(
     rt: &R,
     alloc: Global,
     host: &Hosts,
-    guest: usize,
+    guest: GuestNo,
     seat: &mut Seat,
     request: Request,
 ) -> u32
@@ -102,7 +103,7 @@ fn write<R: Wait>(
     rt: &R,
     alloc: Global,
     host: &Hosts,
-    guest: usize,
+    guest: GuestNo,
     seat: &mut Seat,
     address: u32,
 ) -> u32
@@ -123,7 +124,7 @@ fn debugs<R: Wait>(
     rt: &R,
     alloc: Global,
     host: &Hosts,
-    guest: usize,
+    guest: GuestNo,
     seat: &mut Seat,
     round: u32,
 ) -> u32
@@ -154,7 +155,7 @@ fn debugs<R: Wait>(
 fn keeps_console<R: Wait>(
     rt: &R,
     host: &Hosts,
-    guest: usize,
+    guest: GuestNo,
     seat: &mut Seat,
     feed: &mut FeedPass,
     round: u32,
@@ -185,7 +186,7 @@ fn keeps<R: Wait>(
     rt: &R,
     alloc: Global,
     host: &Hosts,
-    guest: usize,
+    guest: GuestNo,
     mut kept: Kept,
     rounds: u32,
 ) -> Kept
@@ -210,7 +211,7 @@ pub(crate) fn run_guest<R: Threads + Wait + Sync>(
     rt: &R,
     alloc: Global,
     host: &Hosts,
-    guest: usize,
+    guest: GuestNo,
     crew: Crew,
     rounds: u32,
 ) -> Crew

@@ -12,6 +12,7 @@ use dump::{dump, steps_in};
 use flatvm::Flat;
 use guest::Guest;
 use guest_cells::{Finished, Handles};
+use guest_number::GuestNo;
 use host::{Booted, Host, PolicyConfig, Ran};
 use items::What;
 use mips_cp0::Profile;
@@ -106,7 +107,7 @@ fn feed<R: Wait>(rt: &R, host: &Host<MemStore, Open>, handles: &mut Handles, byt
     requires handles { AtGuest host.now.guests.cells.items 0 (λ front. AreHandlesOf front handles.old) }
     ensures { AtGuest host.now.guests.cells.items 0 (λ front. AreHandlesOf front handles.new) }
 {
-    host.feed(rt, 0, &mut handles.feed, bytes)
+    host.feed(rt, GuestNo::new(0), &mut handles.feed, bytes)
 }
 
 // So many steps, in slices.
@@ -124,7 +125,7 @@ fn run_on<R: Abort + Wait>(
     let mut left = steps;
     for _ in 0..steps.div_ceil(SLICE) {
         let count = left.min(SLICE);
-        let ran = run(rt, alloc, host, 0, handles, count);
+        let ran = run(rt, alloc, host, GuestNo::new(0), handles, count);
         expect(rt, "a slice", ran, Ran::Ran(count));
         left = left.saturating_sub(count);
     }

@@ -7,6 +7,7 @@ use crate::bench::{Bench, Wanted, booted, expect};
 use crate::images::STANDING;
 use cell::{Gate, Seat, Seats};
 use guest_cells::Handles;
+use guest_number::GuestNo;
 use host::{Host, Ran};
 use std::alloc::Global;
 use std::sync::Wait;
@@ -28,8 +29,8 @@ struct Waiting {
 }
 
 impl Gate for Waiting {
-    fn before_step(&self, guest: u32, done: u32) {
-        if guest == 1 {
+    fn before_step(&self, guest: GuestNo, done: u32) {
+        if guest.number() == 1 {
             self.made.store(done, Ordering::SeqCst);
             return;
         }
@@ -41,7 +42,7 @@ impl Gate for Waiting {
         self.in_vain.store(1, Ordering::SeqCst);
     }
 
-    fn quiet(&self, _guest: u32, _done: u32) -> u32 {
+    fn quiet(&self, _guest: GuestNo, _done: u32) -> u32 {
         1
     }
 }
@@ -51,7 +52,7 @@ fn runs<R: Wait>(
     rt: &R,
     alloc: Global,
     host: &Host<MemStore, Waiting>,
-    guest: usize,
+    guest: GuestNo,
     mut seat: Seat,
     count: u32,
 ) -> Ran
@@ -90,11 +91,11 @@ fn at_once<R: Threads + Wait + Sync>(
         || -> Ran
             requires guests { length host.guests.cells.items ≡ 2 }
             requires seat { AtGuest host.guests.cells.items 0 (λ front. IsOf front first) }
-        { runs(rt, alloc, &host, 0, first, 1) },
+        { runs(rt, alloc, &host, GuestNo::new(0), first, 1) },
         || -> Ran
             requires guests { length host.guests.cells.items ≡ 2 }
             requires seat { AtGuest host.guests.cells.items 1 (λ front. IsOf front second) }
-        { runs(rt, alloc, &host, 1, second, STEPS + 1) },
+        { runs(rt, alloc, &host, GuestNo::new(1), second, STEPS + 1) },
     );
     (one, two, host.gate.in_vain.load(Ordering::SeqCst))
 }

@@ -12,6 +12,7 @@ use booting::{Config, NewGuest};
 use cell::{Gate, Registers, Seat, Seats};
 use elf32::{Image, Segment};
 use guest_cells::Handles;
+use guest_number::GuestNo;
 use host::{Booted, DebugError, Host, PolicyConfig, Ran, Reply, Request};
 use host_policy::Turn;
 use items::{DebugRegister, WriteBytes};
@@ -231,12 +232,14 @@ pub(crate) fn booted_pair<R: Abort + Wait, S: SwapStore + Drop, G: Gate + Drop>(
 impl<S: SwapStore + Drop, G: Gate + Drop> Pair<S, G> {
     /// A slice of guest 0's runner.
     pub(crate) fn run_first<R: Wait>(&mut self, rt: &R, alloc: Global, count: u32) -> Ran {
-        self.host.run_slice(rt, alloc, 0, &mut self.first, count)
+        self.host
+            .run_slice(rt, alloc, GuestNo::new(0), &mut self.first, count)
     }
 
     /// A slice of guest 1's runner.
     pub(crate) fn run_second<R: Wait>(&mut self, rt: &R, alloc: Global, count: u32) -> Ran {
-        self.host.run_slice(rt, alloc, 1, &mut self.second, count)
+        self.host
+            .run_slice(rt, alloc, GuestNo::new(1), &mut self.second, count)
     }
 
     /// What a debugger asks of guest 0.
@@ -248,8 +251,13 @@ impl<S: SwapStore + Drop, G: Gate + Drop> Pair<S, G> {
     ) -> Result<Reply, DebugError>
         requires { IsSmall request }
     {
-        self.host
-            .debug(rt, alloc, 0, &mut self.first_debugger, request)
+        self.host.debug(
+            rt,
+            alloc,
+            GuestNo::new(0),
+            &mut self.first_debugger,
+            request,
+        )
     }
 
     /// What a debugger asks of guest 1.
@@ -261,8 +269,13 @@ impl<S: SwapStore + Drop, G: Gate + Drop> Pair<S, G> {
     ) -> Result<Reply, DebugError>
         requires { IsSmall request }
     {
-        self.host
-            .debug(rt, alloc, 1, &mut self.second_debugger, request)
+        self.host.debug(
+            rt,
+            alloc,
+            GuestNo::new(1),
+            &mut self.second_debugger,
+            request,
+        )
     }
 
     /// A turn of the policy.
@@ -309,22 +322,22 @@ impl<S: SwapStore + Drop, G: Gate + Drop> Pair<S, G> {
 
     /// How many pages of both guests are in frames.
     pub(crate) fn resident<R: Wait>(&self, rt: &R) -> (u32, u32) {
-        let one = self.host.status(rt, 0);
-        let two = self.host.status(rt, 1);
+        let one = self.host.status(rt, GuestNo::new(0));
+        let two = self.host.status(rt, GuestNo::new(1));
         (one.resident, two.resident)
     }
 
     /// How many pages of both guests are in slots.
     pub(crate) fn swapped<R: Wait>(&self, rt: &R) -> (u32, u32) {
-        let one = self.host.status(rt, 0);
-        let two = self.host.status(rt, 1);
+        let one = self.host.status(rt, GuestNo::new(0));
+        let two = self.host.status(rt, GuestNo::new(1));
         (one.swapped, two.swapped)
     }
 
     /// How many pages both guests are asked to give to their balloons.
     pub(crate) fn targets<R: Wait>(&self, rt: &R) -> (u32, u32) {
-        let one = self.host.status(rt, 0);
-        let two = self.host.status(rt, 1);
+        let one = self.host.status(rt, GuestNo::new(0));
+        let two = self.host.status(rt, GuestNo::new(1));
         (one.target, two.target)
     }
 }

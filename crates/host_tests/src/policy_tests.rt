@@ -3,13 +3,14 @@ use crate::bench::expect;
 use crate::images::STANDING;
 use crate::pairs::{Asked, Pair, SEED, at_level, books, booted_pair, memory_store, word_at};
 use cell::Open;
+use guest_number::GuestNo;
 use host::Request;
 use host_policy::Evicted;
 use page_moves::Scan;
 use rand_core::{Rng, SeedableRng};
 use rand_pcg::Pcg32;
 use reclaim::Level;
-use sharetab::{GuestNo, GuestPage};
+use sharetab::GuestPage;
 use std::alloc::Global;
 use std::process::Abort;
 use std::sync::Wait;
@@ -51,10 +52,25 @@ fn share<R: Abort + Wait>(rt: &R, pair: &Pair<MemStore, Open>) {
         guest: GuestNo::new(0),
         page: Ppn::new(5),
     };
-    expect(rt, "one", pair.host.scan_page(rt, 0, 5), Scan::Noted);
+    expect(
+        rt,
+        "one",
+        pair.host.scan_page(rt, GuestNo::new(0), 5),
+        Scan::Noted,
+    );
     let admitted = Scan::Admitted(first);
-    expect(rt, "two", pair.host.scan_page(rt, 1, 5), admitted);
-    expect(rt, "three", pair.host.scan_page(rt, 0, 5), Scan::Joined);
+    expect(
+        rt,
+        "two",
+        pair.host.scan_page(rt, GuestNo::new(1), 5),
+        admitted,
+    );
+    expect(
+        rt,
+        "three",
+        pair.host.scan_page(rt, GuestNo::new(0), 5),
+        Scan::Joined,
+    );
     let shared = books(10, 5, 4, 1, 2, 0, 16);
     pair.expect_books(rt, "shared", shared);
 }
@@ -120,8 +136,8 @@ fn a_soft_turn_asks_the_larger_guest_for_what_it_has_too_much(rt: HostRuntime) {
     expect(&rt, "in frames", pair.resident(&rt), (500, 470));
     pair.expect_books(&rt, "books", before);
     let items = (
-        pair.host.status(&rt, 0).items,
-        pair.host.status(&rt, 1).items,
+        pair.host.status(&rt, GuestNo::new(0)).items,
+        pair.host.status(&rt, GuestNo::new(1)).items,
     );
     expect(&rt, "an item", items, (1, 0));
 }

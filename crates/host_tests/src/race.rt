@@ -14,6 +14,7 @@ use crate::replaying::{PAGES, compare};
 use booting::{Config, NewGuest};
 use cell::{Ended, Open, Seat, Seats};
 use guest_cells::{Finished, Handles};
+use guest_number::GuestNo;
 use host::{Booted, Host, PolicyConfig, Reply, Request};
 use machine_memory::BookCounts;
 use mips_cp0::Profile;
@@ -128,7 +129,7 @@ fn four_of<T: Drop>(rt: &impl Abort, mut all: Vec<T>) -> (T, T, T, T)
 
 // What was handed out of a guest, without the policy's seat, and this.
 #[tactic(auto, using(crate::proofs::Crewing::crew_of, crate::proofs::Crewing::policy_of))]
-fn parted(host: &Hosts, guest: usize, handles: Handles) -> (Crew, Seat)
+fn parted(host: &Hosts, guest: GuestNo, handles: Handles) -> (Crew, Seat)
     requires { AtGuest host.now.guests.cells.items guest (λ front. IsHandedOut front handles) }
     ensures crew { IsCrewOf host.now.guests.cells.items guest result.0.runner result.0.console result.0.debugger result.0.feed }
     ensures policy { AtGuest host.now.guests.cells.items guest (λ front. IsPolicySeat front result.1) }
@@ -182,10 +183,10 @@ fn team_of(rt: &impl Abort, alloc: Global, booted: Booted<Store, Open>) -> Team
         panic!(rt; "not four guests");
     }
     let (first, second, third, fourth) = four_of(rt, handles);
-    let (first, one) = parted(&host, 0, first);
-    let (second, other) = parted(&host, 1, second);
-    let (third, next) = parted(&host, 2, third);
-    let (fourth, last) = parted(&host, 3, fourth);
+    let (first, one) = parted(&host, GuestNo::new(0), first);
+    let (second, other) = parted(&host, GuestNo::new(1), second);
+    let (third, next) = parted(&host, GuestNo::new(2), third);
+    let (fourth, last) = parted(&host, GuestNo::new(3), fourth);
     let Ok(policies) = Vec::from_array(alloc, [one, other, next, last]) else {
         panic!(rt; "no memory for the seats");
     };
@@ -216,7 +217,7 @@ fn shares<R: Wait>(rt: &R, host: &Hosts, rounds: u32) -> u32 {
     let mut strays = 0u32;
     for _ in 0..rounds {
         for scan in 0..100u32 {
-            let _ = host.scan_page(rt, scan % GUESTS, scan / GUESTS % PAGES);
+            let _ = host.scan_page(rt, GuestNo::new(scan % GUESTS), scan / GUESTS % PAGES);
         }
         if !adds_up(&host.audit(rt)) {
             strays = strays.saturating_add(1);
@@ -254,29 +255,31 @@ fn run_two<R: Threads + Wait + Sync>(
     rt: &R,
     alloc: Global,
     host: &Hosts,
-    guest: usize,
+    first: GuestNo,
     one: Crew,
+    second: GuestNo,
     other: Crew,
     rounds: u32,
 ) -> (Crew, Crew)
-    requires guest { guest + 1 < length host.now.guests.cells.items }
-    requires one { IsCrewOf host.now.guests.cells.items guest one.runner one.console one.debugger one.feed }
-    requires other { IsCrewOf host.now.guests.cells.items (guest + 1) other.runner other.console other.debugger other.feed }
-    ensures one { IsCrewOf host.now.guests.cells.items guest result.0.runner result.0.console result.0.debugger result.0.feed }
-    ensures other { IsCrewOf host.now.guests.cells.items (guest + 1) result.1.runner result.1.console result.1.debugger result.1.feed }
+    requires first { first < length host.now.guests.cells.items }
+    requires second { second < length host.now.guests.cells.items }
+    requires one { IsCrewOf host.now.guests.cells.items first one.runner one.console one.debugger one.feed }
+    requires other { IsCrewOf host.now.guests.cells.items second other.runner other.console other.debugger other.feed }
+    ensures one { IsCrewOf host.now.guests.cells.items first result.0.runner result.0.console result.0.debugger result.0.feed }
+    ensures other { IsCrewOf host.now.guests.cells.items second result.1.runner result.1.console result.1.debugger result.1.feed }
 {
     join(
         rt,
         || -> Crew
-            requires guest { guest < length host.now.guests.cells.items }
-            requires crew { IsCrewOf host.now.guests.cells.items guest one.runner one.console one.debugger one.feed }
-            ensures { IsCrewOf host.entry.now.guests.cells.items guest result.runner result.console result.debugger result.feed }
-        { run_guest(rt, alloc, host, guest, one, rounds) },
+            requires guest { first < length host.now.guests.cells.items }
+            requires crew { IsCrewOf host.now.guests.cells.items first one.runner one.console one.debugger one.feed }
+            ensures { IsCrewOf host.entry.now.guests.cells.items first result.runner result.console result.debugger result.feed }
+        { run_guest(rt, alloc, host, first, one, rounds) },
         || -> Crew
-            requires guest { guest + 1 < length host.now.guests.cells.items }
-            requires crew { IsCrewOf host.now.guests.cells.items (guest + 1) other.runner other.console other.debugger other.feed }
-            ensures { IsCrewOf host.entry.now.guests.cells.items (guest + 1) result.runner result.console result.debugger result.feed }
-        { run_guest(rt, alloc, host, guest + 1, other, rounds) },
+            requires guest { second < length host.now.guests.cells.items }
+            requires crew { IsCrewOf host.now.guests.cells.items second other.runner other.console other.debugger other.feed }
+            ensures { IsCrewOf host.entry.now.guests.cells.items second result.runner result.console result.debugger result.feed }
+        { run_guest(rt, alloc, host, second, other, rounds) },
     )
 }
 
@@ -327,7 +330,18 @@ fn run_rest<R: Threads + Wait + Sync>(
             requires other { IsCrewOf host.now.guests.cells.items 3 fourth.runner fourth.console fourth.debugger fourth.feed }
             ensures one { IsCrewOf host.entry.now.guests.cells.items 2 result.0.runner result.0.console result.0.debugger result.0.feed }
             ensures other { IsCrewOf host.entry.now.guests.cells.items 3 result.1.runner result.1.console result.1.debugger result.1.feed }
-        { run_two(rt, alloc, host, 2, third, fourth, rounds) },
+        {
+            run_two(
+                rt,
+                alloc,
+                host,
+                GuestNo::new(2),
+                third,
+                GuestNo::new(3),
+                fourth,
+                rounds,
+            )
+        },
         || -> (u32, (Vec<Seat>, u32))
             requires { ArePolicySeats host.now.guests.cells.items policies.items }
             ensures { ArePolicySeats host.entry.now.guests.cells.items result.1.0.items }
@@ -358,7 +372,18 @@ fn at_once<R: Abort + Threads + Wait + Sync>(
             requires other { IsCrewOf host.guests.cells.items 1 second.runner second.console second.debugger second.feed }
             ensures one { IsCrewOf host.guests.cells.items 0 result.0.runner result.0.console result.0.debugger result.0.feed }
             ensures other { IsCrewOf host.guests.cells.items 1 result.1.runner result.1.console result.1.debugger result.1.feed }
-        { run_two(rt, alloc, &host, 0, first, second, rounds) },
+        {
+            run_two(
+                rt,
+                alloc,
+                &host,
+                GuestNo::new(0),
+                first,
+                GuestNo::new(1),
+                second,
+                rounds,
+            )
+        },
         || -> ((Crew, Crew), (u32, (Vec<Seat>, u32)))
             requires four { length host.guests.cells.items ≡ 4 }
             requires one { IsCrewOf host.guests.cells.items 2 third.runner third.console third.debugger third.feed }
@@ -388,7 +413,7 @@ fn piece_of<R: Abort + Wait>(
     rt: &R,
     alloc: Global,
     host: &Hosts,
-    guest: usize,
+    guest: GuestNo,
     seat: &mut Seat,
     address: u32,
 ) -> Vec<u8>
@@ -411,7 +436,7 @@ fn memory_of<R: Abort + Wait>(
     rt: &R,
     alloc: Global,
     host: &Hosts,
-    guest: usize,
+    guest: GuestNo,
     seat: &mut Seat,
 ) -> Vec<u8>
     requires guest { guest < length host.now.guests.cells.items }
@@ -463,7 +488,7 @@ fn left_of<R: Abort + Wait>(
     rt: &R,
     alloc: Global,
     host: &Hosts,
-    guest: usize,
+    guest: GuestNo,
     mut crew: Crew,
     policy: Seat,
 ) -> (Handles, Vec<u8>)
@@ -487,10 +512,10 @@ fn end<R: Abort + Wait>(rt: &R, alloc: Global, team: Team) -> (Finished<Store>, 
         policies,
     } = team;
     let (one, other, next, last) = four_of(rt, policies);
-    let (first, one) = left_of(rt, alloc, &host, 0, first, one);
-    let (second, other) = left_of(rt, alloc, &host, 1, second, other);
-    let (third, next) = left_of(rt, alloc, &host, 2, third, next);
-    let (fourth, last) = left_of(rt, alloc, &host, 3, fourth, last);
+    let (first, one) = left_of(rt, alloc, &host, GuestNo::new(0), first, one);
+    let (second, other) = left_of(rt, alloc, &host, GuestNo::new(1), second, other);
+    let (third, next) = left_of(rt, alloc, &host, GuestNo::new(2), third, next);
+    let (fourth, last) = left_of(rt, alloc, &host, GuestNo::new(3), fourth, last);
     match Vec::from_array(alloc, [first, second, third, fourth]) {
         Ok(handles) => (host.finish(rt, handles), [one, other, next, last]),
         Err(_) => panic!(rt; "no memory for the handles"),

@@ -5,6 +5,7 @@ use crate::bench::expect;
 use crate::images::STANDING;
 use crate::pairs::{Asked, Pair, books, booted_pair, memory_store, refusal, write};
 use cell::Open;
+use guest_number::GuestNo;
 use host::{DebugError, Ran, Request, Stop};
 use host_policy::Evicted;
 use std::alloc::Global;
@@ -66,7 +67,7 @@ fn full_host<R: Abort + Wait>(rt: &R, alloc: Global) -> Pair<MemStore, Open> {
 // Guest 1 gives its page 9, whose slot comes free.
 fn give<R: Abort + Wait>(rt: &R, alloc: Global, pair: &mut Pair<MemStore, Open>) {
     expect(rt, "giving", pair.run_second(rt, alloc, 3), Ran::Ran(3));
-    expect(rt, "a page", pair.host.status(rt, 1).given, 1);
+    expect(rt, "a page", pair.host.status(rt, GuestNo::new(1)).given, 1);
     pair.expect_books(rt, "a slot", books(8, 0, 8, 0, 0, 0, 1));
 }
 
@@ -93,12 +94,22 @@ fn a_write_that_was_refused_for_want_of_a_slot_is_done_once_a_page_is_given(rt: 
         pair.registers_of_first(&rt, alloc),
         before,
     );
-    expect(&rt, "its log", pair.host.status(&rt, 0).items, 0);
+    expect(
+        &rt,
+        "its log",
+        pair.host.status(&rt, GuestNo::new(0)).items,
+        0,
+    );
     pair.expect_books(&rt, "books", books(8, 0, 8, 0, 0, 1, 1));
     give(&rt, alloc, &mut pair);
     let byte = write(&rt, alloc, 0x8000_7000, 0x77);
     expect(&rt, "done", refusal(pair.ask_first(&rt, alloc, byte)), None);
-    expect(&rt, "one item", pair.host.status(&rt, 0).items, 1);
+    expect(
+        &rt,
+        "one item",
+        pair.host.status(&rt, GuestNo::new(0)).items,
+        1,
+    );
     has_got_it(&rt, &pair);
 }
 
@@ -111,12 +122,22 @@ fn a_step_that_was_refused_for_want_of_a_slot_is_made_once_a_page_is_given(rt: H
     let registers = pair.registers_of_first(&rt, alloc);
     let at = (registers[1], registers[37]);
     expect(&rt, "before the store", at, (0x8000_7000, 0x8000_0008));
-    expect(&rt, "its log", pair.host.status(&rt, 0).items, 2);
+    expect(
+        &rt,
+        "its log",
+        pair.host.status(&rt, GuestNo::new(0)).items,
+        2,
+    );
     pair.expect_books(&rt, "books", books(8, 0, 8, 0, 0, 1, 1));
     give(&rt, alloc, &mut pair);
     // By the second word page 1 leaves, and not page 0, in which the program lies.
     expect(&rt, "stored", pair.run_first(&rt, alloc, 1), Ran::Ran(1));
-    expect(&rt, "one step", pair.host.status(&rt, 0).items, 3);
+    expect(
+        &rt,
+        "one step",
+        pair.host.status(&rt, GuestNo::new(0)).items,
+        3,
+    );
     has_got_it(&rt, &pair);
 }
 
@@ -195,7 +216,12 @@ fn a_page_whose_slot_was_damaged_is_stop_4(rt: HostRuntime) {
             pair.registers_of_second(&rt, alloc),
             before,
         );
-        expect(&rt, "its log", pair.host.status(&rt, 1).items, 2);
+        expect(
+            &rt,
+            "its log",
+            pair.host.status(&rt, GuestNo::new(1)).items,
+            2,
+        );
         pair.expect_books(&rt, "in the slot", away);
     }
     let read = pair.ask_second(&rt, alloc, Request::Read(0x8000_5000, 4));

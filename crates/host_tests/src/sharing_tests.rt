@@ -6,9 +6,10 @@ ghost use Rattle.host.specs.Places.{AtGuest};
 use crate::bench::expect;
 use crate::pairs::{Asked, Pair, books, booted_pair, memory_store, poke, refusal, word_at};
 use cell::{Gate, Seat};
+use guest_number::GuestNo;
 use host::{Host, Ran, Request};
 use page_moves::Scan;
-use sharetab::{GuestNo, GuestPage};
+use sharetab::GuestPage;
 use std::alloc::Global;
 use std::process::Abort;
 use std::sync::Wait;
@@ -45,15 +46,15 @@ struct Counting {
 }
 
 impl Gate for Counting {
-    fn before_step(&self, guest: u32, _done: u32) {
-        if guest == 0 {
+    fn before_step(&self, guest: GuestNo, _done: u32) {
+        if guest.number() == 0 {
             self.first.fetch_add(1, Ordering::SeqCst);
         } else {
             self.second.fetch_add(1, Ordering::SeqCst);
         }
     }
 
-    fn quiet(&self, _guest: u32, _done: u32) -> u32 {
+    fn quiet(&self, _guest: GuestNo, _done: u32) -> u32 {
         1
     }
 }
@@ -68,7 +69,13 @@ const SLICE: u32 = 100;
 const SLICES: u32 = 100_000_000;
 
 // Slices of a guest until all scans are made. The answer is how many ended too early.
-fn runs<R: Wait>(rt: &R, alloc: Global, host: &Counted, guest: usize, mut seat: Seat) -> (Seat, u32)
+fn runs<R: Wait>(
+    rt: &R,
+    alloc: Global,
+    host: &Counted,
+    guest: GuestNo,
+    mut seat: Seat,
+) -> (Seat, u32)
     requires guest { guest < length host.now.guests.cells.items }
     requires seat { AtGuest host.now.guests.cells.items guest (λ front. IsOf front seat) }
     ensures { AtGuest host.now.guests.cells.items guest (λ front. IsOf front result.0) }
@@ -107,7 +114,7 @@ fn scans<R: Wait>(rt: &R, host: &Counted) -> ([Scan; 3], u32) {
     let mut found = [Scan::Skipped; 3];
     for k in 0..3usize {
         let guest = if k == 1 { 1 } else { 0 };
-        found[k] = host.scan_page(rt, guest, 5);
+        found[k] = host.scan_page(rt, GuestNo::new(guest), 5);
         in_vain = in_vain.saturating_add(await_steps(&host.gate));
     }
     host.gate.scanned.store(1, Ordering::SeqCst);
@@ -131,7 +138,7 @@ fn run_and_scan<R: Threads + Wait + Sync>(
             requires guests { length host.now.guests.cells.items ≡ 2 }
             requires seat { AtGuest host.now.guests.cells.items 1 (λ front. IsOf front second) }
             ensures { AtGuest host.entry.now.guests.cells.items 1 (λ front. IsOf front result.0) }
-        { runs(rt, alloc, host, 1, second) },
+        { runs(rt, alloc, host, GuestNo::new(1), second) },
         || scans(rt, host),
     )
 }
@@ -156,7 +163,7 @@ fn scan_while_they_run<R: Abort + Threads + Wait + Sync>(
             requires guests { length host.guests.cells.items ≡ 2 }
             requires seat { AtGuest host.guests.cells.items 0 (λ front. IsOf front first) }
             ensures { AtGuest host.guests.cells.items 0 (λ front. IsOf front result.0) }
-        { runs(rt, alloc, &host, 0, first) },
+        { runs(rt, alloc, &host, GuestNo::new(0), first) },
         || -> ((Seat, u32), ([Scan; 3], u32))
             requires guests { length host.guests.cells.items ≡ 2 }
             requires seat { AtGuest host.guests.cells.items 1 (λ front. IsOf front second) }

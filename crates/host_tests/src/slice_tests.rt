@@ -2,6 +2,7 @@
 use crate::bench::{Wanted, booted, expect};
 use crate::images::{STANDING, WALKING};
 use cell::Open;
+use guest_number::GuestNo;
 use host::{Ran, Stop};
 use std::process::Abort;
 
@@ -33,15 +34,25 @@ fn a_slice_makes_its_steps(rt: HostRuntime) {
         bench.run_one(&rt, alloc, 3000),
         Ran::Ran(3000),
     );
-    expect(&rt, "items", bench.host.status(&rt, 0).items, 3001);
-    expect(&rt, "the other's", bench.host.status(&rt, 1).items, 0);
+    expect(
+        &rt,
+        "items",
+        bench.host.status(&rt, GuestNo::new(0)).items,
+        3001,
+    );
+    expect(
+        &rt,
+        "the other's",
+        bench.host.status(&rt, GuestNo::new(1)).items,
+        0,
+    );
 }
 
 #[test]
 fn a_held_guest_makes_the_debuggers_steps_alone(rt: HostRuntime) {
     let alloc = rt.alloc();
     let mut bench = booted(&rt, alloc, &STANDING, &AMPLE, Open);
-    bench.host.hold(&rt, 0);
+    bench.host.hold(&rt, GuestNo::new(0));
     expect(&rt, "held", bench.run_one(&rt, alloc, 10), Ran::Held(0));
     expect(
         &rt,
@@ -55,7 +66,7 @@ fn a_held_guest_makes_the_debuggers_steps_alone(rt: HostRuntime) {
         bench.run_two(&rt, alloc, 10),
         Ran::Ran(10),
     );
-    bench.host.go(&rt, 0);
+    bench.host.go(&rt, GuestNo::new(0));
     expect(&rt, "on", bench.run_one(&rt, alloc, 10), Ran::Ran(10));
 }
 

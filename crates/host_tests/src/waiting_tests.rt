@@ -8,6 +8,7 @@ use crate::bench::expect;
 use crate::images::STANDING;
 use crate::pairs::{Asked, Pair, at_level, books, booted_pair, memory_store};
 use cell::{Gate, Seat};
+use guest_number::GuestNo;
 use host::{Host, Ran};
 use reclaim::Level;
 use std::alloc::Global;
@@ -35,8 +36,8 @@ struct Waiting {
 }
 
 impl Gate for Waiting {
-    fn before_step(&self, guest: u32, done: u32) {
-        if guest == 1 {
+    fn before_step(&self, guest: GuestNo, done: u32) {
+        if guest.number() == 1 {
             self.made.store(done, Ordering::SeqCst);
             return;
         }
@@ -49,7 +50,7 @@ impl Gate for Waiting {
         self.in_vain.store(1, Ordering::SeqCst);
     }
 
-    fn quiet(&self, _guest: u32, _done: u32) -> u32 {
+    fn quiet(&self, _guest: GuestNo, _done: u32) -> u32 {
         1
     }
 }
@@ -62,7 +63,7 @@ fn slice<R: Wait>(
     rt: &R,
     alloc: Global,
     host: &Held,
-    guest: usize,
+    guest: GuestNo,
     mut seat: Seat,
     count: u32,
 ) -> Ran
@@ -75,7 +76,7 @@ fn slice<R: Wait>(
 // The pages of guest 1 are scanned.
 fn shares_second<R: Wait>(rt: &R, host: &Held) {
     for k in 0..MOST {
-        let _ = host.scan_page(rt, 1, k % 16);
+        let _ = host.scan_page(rt, GuestNo::new(1), k % 16);
         host.gate.scanned.store(k + 1, Ordering::SeqCst);
     }
 }
@@ -84,7 +85,7 @@ fn shares_second<R: Wait>(rt: &R, host: &Held) {
 fn shares<R: Wait>(rt: &R, host: &Held) {
     shares_second(rt, host);
     for k in 0..MOST {
-        let _ = host.scan_page(rt, k % 2, k / 2 % 16);
+        let _ = host.scan_page(rt, GuestNo::new(k % 2), k / 2 % 16);
     }
 }
 
@@ -138,7 +139,7 @@ fn run_second<R: Threads + Wait + Sync>(
         || -> Ran
             requires guests { length host.now.guests.cells.items ≡ 2 }
             requires seat { AtGuest host.now.guests.cells.items 1 (λ front. IsOf front second) }
-        { slice(rt, alloc, host, 1, second, MOST + 1) },
+        { slice(rt, alloc, host, GuestNo::new(1), second, MOST + 1) },
         || -> u32
             requires policies { ArePolicySeats host.now.guests.cells.items policies.items }
         { look_after(rt, alloc, host, policies) },
@@ -164,7 +165,7 @@ fn all_at_once<R: Abort + Threads + Wait + Sync>(
         || -> Ran
             requires guests { length host.guests.cells.items ≡ 2 }
             requires seat { AtGuest host.guests.cells.items 0 (λ front. IsOf front first) }
-        { slice(rt, alloc, &host, 0, first, 1) },
+        { slice(rt, alloc, &host, GuestNo::new(0), first, 1) },
         || -> (Ran, u32)
             requires guests { length host.guests.cells.items ≡ 2 }
             requires seat { AtGuest host.guests.cells.items 1 (λ front. IsOf front second) }

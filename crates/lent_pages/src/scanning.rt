@@ -11,8 +11,8 @@ ghost use Rattle.lent_pages.specs.Scans.{WasScanned};
 use crate::Table;
 use accounts::{BookShare, Books};
 use frames::FrameNo;
+use guest_number::GuestNo;
 use page_moves::{Pages, Scan, scan_in};
-use sharetab::GuestNo;
 use word32::Ppn;
 
 /// A page is scanned. The table's lock is held.

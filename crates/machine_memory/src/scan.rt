@@ -1,8 +1,8 @@
 //! Pages of equal bytes that come to share one frame.
 use crate::{MachineMemory, Stake};
+use guest_number::GuestNo;
 use lent_pages::scanned;
 use page_moves::{Pages, Scan};
-use sharetab::GuestNo;
 use std::sync::Wait;
 use swapstore::SwapStore;
 use word32::Ppn;

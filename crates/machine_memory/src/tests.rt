@@ -8,10 +8,11 @@ ghost use Rattle.machine_memory.specs.Gathered.{AreCounted};
 
 use crate::{Around, BookCounts, Booted, EvictError, Gathered, MachineMemory, PageCounts, Stake};
 use framepool::Pool;
+use guest_number::GuestNo;
 use guest_pages::{GuestPages, PageKind};
 use page_moves::{Scan, SupplyError};
 use shared_pool::PoolPass;
-use sharetab::{GuestNo, GuestPage, Shares};
+use sharetab::{GuestPage, Shares};
 use std::alloc::{AllocError, Global};
 use std::fmt::Debug;
 use std::process::Abort;

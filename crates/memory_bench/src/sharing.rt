@@ -3,8 +3,9 @@
 use crate::frame::zero_frame;
 use framepool::Pool;
 use frames::Frame;
+use guest_number::GuestNo;
 use sha2::{Digest, Sha256};
-use sharetab::{GuestNo, GuestPage, Offer, Shares};
+use sharetab::{GuestPage, Offer, Shares};
 use std::alloc::{AllocError, Global};
 use word32::{Ppn, put_word};
 

@@ -1,6 +1,8 @@
 //! What the monitor is asked to do.
 
-/// What a line asks for. A guest is named by its number, from 0.
+use guest_number::GuestNo;
+
+/// What a line asks for. Guests count from 0.
 #[derive(Debug, Drop, PartialEq, Eq)]
 pub enum Order {
     /// A line for each guest.
@@ -12,17 +14,17 @@ pub enum Order {
     /// The tax on idle pages, in percent: 0 to 99.
     Tax(u32),
     /// So many pages for a guest's balloon.
-    Target { guest: u32, pages: u32 },
+    Target { guest: GuestNo, pages: u32 },
     /// A guest is held.
-    Hold(u32),
+    Hold(GuestNo),
     /// A guest goes on.
-    Go(u32),
+    Go(GuestNo),
     /// The sizes of a guest's log.
-    Log(u32),
+    Log(GuestNo),
     /// Bytes for a guest's console, one at least.
-    In { guest: u32, bytes: Vec<u8> },
+    In { guest: GuestNo, bytes: Vec<u8> },
     /// What a guest's console has put out.
-    Drain(u32),
+    Drain(GuestNo),
     /// The frames and slots that are left over by the guests' minimums.
     Room,
     /// The orders that there are.

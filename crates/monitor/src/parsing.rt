@@ -6,6 +6,7 @@ ghost use Rattle.monitor.specs.Views.{order_for, order_view};
 
 use crate::fault::Fault;
 use crate::order::{GuestOrder, Order};
+use guest_number::GuestNo;
 use line_words::{Words, are_bytes, bytes, decimal, is, words_of};
 use std::alloc::Global;
 
@@ -112,10 +113,10 @@ fn for_guest(order: GuestOrder, guests: u32, guest: &[u8]) -> Result<Order, Faul
     if guest >= guests {
         return Err(Fault::Guest);
     }
-    Ok(of_guest(order, guest))
+    Ok(of_guest(order, GuestNo::new(guest)))
 }
 
-fn of_guest(order: GuestOrder, guest: u32) -> Order
+fn of_guest(order: GuestOrder, guest: GuestNo) -> Order
     ensures { order_view result ≡ order_for order guest }
 {
     match order {
@@ -139,6 +140,7 @@ fn target(guests: u32, guest: &[u8], pages: &[u8]) -> Result<Order, Fault>
     if guest >= guests {
         return Err(Fault::Guest);
     }
+    let guest = GuestNo::new(guest);
     Ok(Order::Target { guest, pages })
 }
 
@@ -155,6 +157,7 @@ fn input(alloc: Global, guests: u32, guest: &[u8], digits: &[u8]) -> Result<Orde
     if guest >= guests {
         return Err(Fault::Guest);
     }
+    let guest = GuestNo::new(guest);
     match bytes(alloc, digits) {
         Ok(Some(bytes)) => Ok(Order::In { guest, bytes }),
         Ok(None) => Err(Fault::Number),

@@ -2,6 +2,7 @@
 ghost use Rattle.std.specs.Prelude.{◌≡◌};
 
 use guest::Stop;
+use guest_number::GuestNo;
 use machine_memory::BookCounts;
 use monitor::Fault;
 use reclaim::Level;
@@ -23,7 +24,7 @@ pub enum Way {
 #[derive(Clone, Copy, Debug, PartialEq, Eq)]
 pub struct GuestLine {
     /// Its number.
-    pub guest: u32,
+    pub guest: GuestNo,
     /// How many pages it has.
     pub pages: u32,
     /// How many of them are in a frame, their own or a shared one.
@@ -50,11 +51,21 @@ pub enum Answer {
     /// The level of free memory.
     Level(Level),
     /// How many items the log of a guest has, and how many runs these are.
-    Log { guest: u32, items: u64, runs: u32 },
+    Log {
+        guest: GuestNo,
+        items: u64,
+        runs: u32,
+    },
     /// How many bytes were put for a guest's console.
-    Put { guest: u32, count: usize },
+    Put {
+        guest: GuestNo,
+        count: usize,
+    },
     /// What a guest's console has put out.
-    Output { guest: u32, bytes: Vec<u8> },
+    Output {
+        guest: GuestNo,
+        bytes: Vec<u8>,
+    },
     /// How many frames and slots are left over by the minimums, where the guests were admitted by these.
     Room(Option<(u32, u32)>),
     /// The orders that there are.

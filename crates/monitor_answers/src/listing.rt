@@ -5,6 +5,7 @@ ghost use Rattle.monitor_answers.specs.Lines.{AreLines, IsLineOf};
 
 use crate::{GuestLine, Way};
 use cell::Gate;
+use guest_number::GuestNo;
 use host::{Host, Status};
 use std::alloc::{AllocError, Global};
 use std::sync::Wait;
@@ -28,7 +29,7 @@ fn way_of(status: &Status, stop: u32) -> Way {
 fn line_of<S: SwapStore + Drop, R: Wait, G: Gate + Drop>(
     rt: &R,
     host: &Host<S, G>,
-    guest: usize,
+    guest: GuestNo,
     stop: u32,
 ) -> GuestLine
     requires { guest < length host.now.guests.cells.items }
@@ -36,7 +37,7 @@ fn line_of<S: SwapStore + Drop, R: Wait, G: Gate + Drop>(
 {
     let status = host.status(rt, guest);
     GuestLine {
-        guest: guest as u32,
+        guest,
         pages: status.pages,
         resident: status.resident,
         given: status.given,
@@ -60,7 +61,7 @@ pub(crate) fn lines_of<S: SwapStore + Drop, R: Wait, G: Gate + Drop>(
     let mut lines = Vec::new(alloc);
     for guest in 0..host.count() {
         let stop = stops[guest].load(Ordering::SeqCst);
-        lines.push(line_of(rt, host, guest, stop))?;
+        lines.push(line_of(rt, host, GuestNo::new(guest as u32), stop))?;
     }
     Ok(lines)
 }

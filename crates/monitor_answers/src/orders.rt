@@ -10,6 +10,7 @@ ghost use Rattle.monitor_answers.specs.Orders.{IsOrderOf, IsList, IsLog, Leads, 
 use crate::listing::lines_of;
 use crate::{Answer, MonitorHand};
 use cell::Gate;
+use guest_number::GuestNo;
 use host::Host;
 use monitor::{Fault, Order};
 use std::alloc::Global;
@@ -35,11 +36,11 @@ fn list<S: SwapStore + Drop, R: Wait, G: Gate + Drop>(
 }
 
 // How many pages a guest has.
-fn pages_of<S: SwapStore + Drop, G: Gate + Drop>(host: &Host<S, G>, guest: usize) -> u32
+fn pages_of<S: SwapStore + Drop, G: Gate + Drop>(host: &Host<S, G>, guest: GuestNo) -> u32
     requires { guest < length host.now.guests.cells.items }
     ensures { AtGuest host.now.guests.cells.items guest (λ front. result ≡ front.pages) }
 {
-    host.guests.cells[guest].front.pages
+    host.guests.cells[guest.index()].front.pages
 }
 
 // A guest is asked to give so many pages to its balloon.
@@ -47,7 +48,7 @@ fn pages_of<S: SwapStore + Drop, G: Gate + Drop>(host: &Host<S, G>, guest: usize
 fn target<S: SwapStore + Drop, R: Wait, G: Gate + Drop>(
     rt: &R,
     host: &Host<S, G>,
-    guest: usize,
+    guest: GuestNo,
     hand: &mut MonitorHand,
     pages: u32,
 ) -> Answer
@@ -72,7 +73,7 @@ fn target<S: SwapStore + Drop, R: Wait, G: Gate + Drop>(
 fn drain<S: SwapStore + Drop, R: Wait, G: Gate + Drop>(
     rt: &R,
     host: &Host<S, G>,
-    guest: usize,
+    guest: GuestNo,
     hand: &mut MonitorHand,
 ) -> Answer
     requires guest { guest < length host.now.guests.cells.items }
@@ -83,10 +84,7 @@ fn drain<S: SwapStore + Drop, R: Wait, G: Gate + Drop>(
     ensures done { AtGuest host.now.guests.cells.items guest (λ front. Drains guest result front hand.old hand.new) }
 {
     match host.drain(rt, guest, &mut hand.seat) {
-        Ok(bytes) => Answer::Output {
-            guest: guest as u32,
-            bytes,
-        },
+        Ok(bytes) => Answer::Output { guest, bytes },
         Err(stop) => Answer::Stopped(stop),
     }
 }
@@ -96,7 +94,7 @@ fn drain<S: SwapStore + Drop, R: Wait, G: Gate + Drop>(
 fn put<S: SwapStore + Drop, R: Wait, G: Gate + Drop>(
     rt: &R,
     host: &Host<S, G>,
-    guest: usize,
+    guest: GuestNo,
     hand: &mut MonitorHand,
     bytes: &[u8],
 ) -> Answer
@@ -108,7 +106,7 @@ fn put<S: SwapStore + Drop, R: Wait, G: Gate + Drop>(
     ensures done { AtGuest host.now.guests.cells.items guest (λ front. Puts guest bytes.now result front hand.old hand.new) }
 {
     Answer::Put {
-        guest: guest as u32,
+        guest,
         count: host.feed(rt, guest, &mut hand.feed, bytes),
     }
 }
@@ -118,7 +116,7 @@ fn target_at<S: SwapStore + Drop, R: Wait, G: Gate + Drop>(
     rt: &R,
     host: &Host<S, G>,
     hands: &mut [MonitorHand],
-    guest: usize,
+    guest: GuestNo,
     pages: u32,
 ) -> Answer
     requires guest { guest < length host.now.guests.cells.items }
@@ -128,7 +126,7 @@ fn target_at<S: SwapStore + Drop, R: Wait, G: Gate + Drop>(
     ensures lasts_with_store { S.true_to_digests host.now.guests.memory.first → AreKept HoldsOn hands.old hands.new }
     ensures done { AtHand host.now.guests.cells.items hands.old guest hands.new (Targets pages result) }
 {
-    target(rt, host, guest, &mut hands[guest], pages)
+    target(rt, host, guest, &mut hands[guest.index()], pages)
 }
 
 // The same with the hand among all of them.
@@ -136,7 +134,7 @@ fn drain_at<S: SwapStore + Drop, R: Wait, G: Gate + Drop>(
     rt: &R,
     host: &Host<S, G>,
     hands: &mut [MonitorHand],
-    guest: usize,
+    guest: GuestNo,
 ) -> Answer
     requires guest { guest < length host.now.guests.cells.items }
     requires hands { AreHands host.now.guests.cells.items hands.old }
@@ -145,7 +143,7 @@ fn drain_at<S: SwapStore + Drop, R: Wait, G: Gate + Drop>(
     ensures lasts_with_store { S.true_to_digests host.now.guests.memory.first → AreKept HoldsOn hands.old hands.new }
     ensures done { AtHand host.now.guests.cells.items hands.old guest hands.new (Drains guest result) }
 {
-    drain(rt, host, guest, &mut hands[guest])
+    drain(rt, host, guest, &mut hands[guest.index()])
 }
 
 // The same with the hand among all of them.
@@ -153,7 +151,7 @@ fn put_at<S: SwapStore + Drop, R: Wait, G: Gate + Drop>(
     rt: &R,
     host: &Host<S, G>,
     hands: &mut [MonitorHand],
-    guest: usize,
+    guest: GuestNo,
     bytes: &[u8],
 ) -> Answer
     requires guest { guest < length host.now.guests.cells.items }
@@ -163,21 +161,21 @@ fn put_at<S: SwapStore + Drop, R: Wait, G: Gate + Drop>(
     ensures lasts_with_store { S.true_to_digests host.now.guests.memory.first → AreKept HoldsOn hands.old hands.new }
     ensures done { AtHand host.now.guests.cells.items hands.old guest hands.new (Puts guest bytes.now result) }
 {
-    put(rt, host, guest, &mut hands[guest], bytes)
+    put(rt, host, guest, &mut hands[guest.index()], bytes)
 }
 
 // How long a guest's log is.
 fn log<S: SwapStore + Drop, R: Wait, G: Gate + Drop>(
     rt: &R,
     host: &Host<S, G>,
-    guest: usize,
+    guest: GuestNo,
 ) -> Answer
     requires { guest < length host.now.guests.cells.items }
     ensures { IsLog guest result }
 {
     let status = host.status(rt, guest);
     Answer::Log {
-        guest: guest as u32,
+        guest,
         items: status.items,
         runs: status.runs,
     }
@@ -213,18 +211,18 @@ pub fn carry_out<S: SwapStore + Drop, R: Wait, G: Gate + Drop>(
             host.set_tax(rt, tax);
             Answer::Done
         }
-        Order::Target { guest, pages } => { target_at(rt, host, hands, guest as usize, pages) }
+        Order::Target { guest, pages } => { target_at(rt, host, hands, guest, pages) }
         Order::Hold(guest) => {
-            host.hold(rt, guest as usize);
+            host.hold(rt, guest);
             Answer::Done
         }
         Order::Go(guest) => {
-            host.go(rt, guest as usize);
+            host.go(rt, guest);
             Answer::Done
         }
-        Order::Log(guest) => log(rt, host, guest as usize),
-        Order::In { guest, bytes } => { put_at(rt, host, hands, guest as usize, &bytes) }
-        Order::Drain(guest) => drain_at(rt, host, hands, guest as usize),
+        Order::Log(guest) => log(rt, host, guest),
+        Order::In { guest, bytes } => { put_at(rt, host, hands, guest, &bytes) }
+        Order::Drain(guest) => drain_at(rt, host, hands, guest),
         Order::Room => Answer::Room(host.room()),
         Order::Help => Answer::Help,
         Order::Quit => Answer::Done,

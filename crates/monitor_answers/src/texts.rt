@@ -8,6 +8,7 @@ ghost use Rattle.monitor_answers.specs.Texts as spec;
 
 use crate::{Answer, GuestLine, Way};
 use guest::Stop;
+use guest_number::GuestNo;
 use machine_memory::BookCounts;
 use monitor::Fault;
 use reclaim::Level;
@@ -58,7 +59,7 @@ fn push_number(out: &mut String, label: &str, number: u32) -> Result<(), AllocEr
 fn push_pages(out: &mut String, line: &GuestLine) -> Result<(), AllocError>
     ensures { OnOk result (string_bytes out.new ≡ string_bytes out.old ++ spec.pages_text line.now) }
 {
-    push_number(out, "guest ", line.guest)?;
+    push_number(out, "guest ", line.guest.number())?;
     push_number(out, " pages ", line.pages)?;
     push_number(out, " resident ", line.resident)?;
     push_number(out, " given ", line.given)?;
@@ -117,16 +118,18 @@ fn push_level(out: &mut String, level: Level) -> Result<(), AllocError>
     writeln!(out, "level {name}")
 }
 
-fn push_log(out: &mut String, guest: u32, items: u64, runs: u32) -> Result<(), AllocError>
+fn push_log(out: &mut String, guest: GuestNo, items: u64, runs: u32) -> Result<(), AllocError>
     ensures { OnOk result (string_bytes out.new ≡ string_bytes out.old
         ++ (codes "log " ++ decimal guest ++ codes " items " ++ decimal items ++ codes " runs " ++ decimal runs ++ codes "\n")) }
 {
+    let guest = guest.number();
     writeln!(out, "log {guest} items {items} runs {runs}")
 }
 
-fn push_put(out: &mut String, guest: u32, count: usize) -> Result<(), AllocError>
+fn push_put(out: &mut String, guest: GuestNo, count: usize) -> Result<(), AllocError>
     ensures { OnOk result (string_bytes out.new ≡ string_bytes out.old ++ (codes "in " ++ decimal guest ++ codes " " ++ decimal count ++ codes "\n")) }
 {
+    let guest = guest.number();
     writeln!(out, "in {guest} {count}")
 }
 
@@ -142,9 +145,15 @@ fn push_digits(alloc: Global, out: &mut String, bytes: &[u8]) -> Result<(), Allo
     }
 }
 
-fn push_output(alloc: Global, out: &mut String, guest: u32, bytes: &[u8]) -> Result<(), AllocError>
+fn push_output(
+    alloc: Global,
+    out: &mut String,
+    guest: GuestNo,
+    bytes: &[u8],
+) -> Result<(), AllocError>
     ensures { OnOk result (string_bytes out.new ≡ string_bytes out.old ++ (codes "drain " ++ decimal guest ++ codes " " ++ spec.output_digits bytes.now ++ codes "\n")) }
 {
+    let guest = guest.number();
     write!(out, "drain {guest} ")?;
     push_digits(alloc, out, bytes)?;
     out.push_str("\n")

@@ -15,8 +15,9 @@ ghost use Rattle.page_moves.specs.Scans.{NoEntryHas, Answered, HintsAfter, Comes
 use crate::Pages;
 use crate::stored::bytes_of;
 use frames::FrameNo;
+use guest_number::GuestNo;
 use guest_pages::PageKind;
-use sharetab::{GuestNo, GuestPage, Offer, Shares};
+use sharetab::{GuestPage, Offer, Shares};
 use std::alloc::AllocError;
 use swapstore::digest;
 use word32::Ppn;

@@ -11,6 +11,7 @@ use crate::event::{Event, event_of};
 use crate::name::EventName;
 use crate::number::number;
 use crate::words::Arguments;
+use guest_number::GuestNo;
 use std::alloc::{AllocError, Global};
 
 /// What a line says is done.
@@ -68,6 +69,7 @@ fn steps_of_each(alloc: Global, guests: u32, count: u32) -> Result<Vec<Event>, A
 {
     let mut events = Vec::new(alloc);
     for guest in 0..guests {
+        let guest = GuestNo::new(guest);
         events.push(Event::Step { guest, count })?;
     }
     Ok(events)
@@ -78,6 +80,7 @@ fn runs_of_each(alloc: Global, guests: u32, count: u32) -> Result<Vec<Event>, Al
 {
     let mut events = Vec::new(alloc);
     for guest in 0..guests {
+        let guest = GuestNo::new(guest);
         events.push(Event::Run { guest, count })?;
     }
     Ok(events)

@@ -6,6 +6,7 @@ ghost use Rattle.script.specs.Views.{action_view, event_view, guest_view};
 use crate::action::Action;
 use crate::event::Event;
 use crate::header::GuestLine;
+use guest_number::GuestNo;
 
 /// The greatest number of a register.
 const LAST_REGISTER: u32 = 37;
@@ -17,17 +18,17 @@ const MOST_BYTES: usize = 1024;
 const LAST_BYTE: u32 = 4095;
 
 /// Whether a number is that of a guest.
-fn has_guest(guests: &[GuestLine], guest: u32) -> bool
+fn has_guest(guests: &[GuestLine], guest: GuestNo) -> bool
     ensures { result ≡ nat_lt guest (length (map guest_view guests.now)) }
 {
-    (guest as usize) < guests.len()
+    guest.index() < guests.len()
 }
 
 /// Whether a guest is there, and has so many pages.
-fn has_pages(guests: &[GuestLine], guest: u32, pages: u32) -> bool
+fn has_pages(guests: &[GuestLine], guest: GuestNo, pages: u32) -> bool
     ensures { result ≡ spec.has_pages (slice_get (map guest_view guests.now) guest) pages }
 {
-    match guests.get(guest as usize) {
+    match guests.get(guest.index()) {
         Some(line) => pages <= line.pages,
         None => false,
     }

@@ -7,67 +7,68 @@ ghost use Rattle.script.specs.Words.{Zero, One, Two, Three};
 
 use crate::error::LineError;
 use crate::name::EventName;
-use crate::number::{bytes, hex_word, number};
+use crate::number::{bytes, guest_of, hex_word, number};
 use crate::words::Arguments;
+use guest_number::GuestNo;
 use std::alloc::{AllocError, Global};
 
-/// What is to be done. A guest is named by its number: the guests of the header count from 0.
+/// What is to be done. The guests of the header count from 0.
 #[derive(Debug, Drop, PartialEq, Eq)]
 pub enum Event {
     /// At most so many steps of a guest, without faults supplied.
     Step {
-        guest: u32,
+        guest: GuestNo,
         count: u32,
     },
     /// At most so many steps of a guest, with faults supplied.
     Run {
-        guest: u32,
+        guest: GuestNo,
         count: u32,
     },
     /// Bytes for a guest's console, one at least.
     In {
-        guest: u32,
+        guest: GuestNo,
         bytes: Vec<u8>,
     },
     /// What a guest's console has put out.
     Drain {
-        guest: u32,
+        guest: GuestNo,
     },
     /// So many pages for a guest's balloon, at most its pages.
     Target {
-        guest: u32,
+        guest: GuestNo,
         pages: u32,
     },
     /// A write to a guest's register, 0 to 37.
     Poke {
-        guest: u32,
+        guest: GuestNo,
         register: u32,
         value: u32,
     },
     /// A write of 1 to 1,024 bytes to a guest's memory, at a virtual address.
     Write {
-        guest: u32,
+        guest: GuestNo,
         address: u32,
         bytes: Vec<u8>,
     },
     /// A read of 1 to 1,024 bytes of a guest's memory, at a virtual address.
     Probe {
-        guest: u32,
+        guest: GuestNo,
         address: u32,
         length: u32,
     },
     /// The page that a guest needs is supplied.
     Fault {
-        guest: u32,
+        guest: GuestNo,
     },
     /// A guest's page is offered for sharing.
     Scan {
-        guest: u32,
+        guest: GuestNo,
         page: u32,
     },
     /// A guest's page is evicted.
     Evict {
-        guest: u32,
+        guest: GuestNo,
         page: u32,
     },
     /// The touched pages are counted, and new samples drawn.
@@ -78,15 +79,15 @@ pub enum Event {
     Audit,
     /// The pages of a guest are counted, by where they are.
     AuditGuest {
-        guest: u32,
+        guest: GuestNo,
     },
     /// A guest's state is printed.
     Dump {
-        guest: u32,
+        guest: GuestNo,
     },
     /// How often the pages of a guest have moved, and why, is printed.
     Stats {
-        guest: u32,
+        guest: GuestNo,
     },
     /// A byte of a slot, 0 to 4,095, is inverted.
     Damage {
@@ -185,7 +186,7 @@ fn input(alloc: Global, arguments: &Arguments) -> Result<Event, LineError>
     let Arguments::Two(guest, digits) = *arguments else {
         return Err(LineError::Refused);
     };
-    let Some(guest) = number(guest) else {
+    let Some(guest) = guest_of(guest) else {
         return Err(LineError::Refused);
     };
     match bytes(alloc, digits) {
@@ -202,7 +203,7 @@ fn write(alloc: Global, arguments: &Arguments) -> Result<Event, LineError>
     let Arguments::Three(guest, address, digits) = *arguments else {
         return Err(LineError::Refused);
     };
-    let (Some(guest), Some(address)) = (number(guest), hex_word(address)) else {
+    let (Some(guest), Some(address)) = (guest_of(guest), hex_word(address)) else {
         return Err(LineError::Refused);
     };
     match bytes(alloc, digits) {
@@ -246,19 +247,19 @@ fn with_one(name: EventName, guest: &str) -> Option<Event>
 {
     match name {
         EventName::Drain => Some(Event::Drain {
-            guest: number(guest)?,
+            guest: guest_of(guest)?,
         }),
         EventName::Fault => Some(Event::Fault {
-            guest: number(guest)?,
+            guest: guest_of(guest)?,
         }),
         EventName::Audit => Some(Event::AuditGuest {
-            guest: number(guest)?,
+            guest: guest_of(guest)?,
         }),
         EventName::Dump => Some(Event::Dump {
-            guest: number(guest)?,
+            guest: guest_of(guest)?,
         }),
         EventName::Stats => Some(Event::Stats {
-            guest: number(guest)?,
+            guest: guest_of(guest)?,
         }),
         _ => None,
     }
@@ -270,23 +271,23 @@ fn with_two(name: EventName, a: &str, b: &str) -> Option<Event>
 {
     match name {
         EventName::Step => Some(Event::Step {
-            guest: number(a)?,
+            guest: guest_of(a)?,
             count: number(b)?,
         }),
         EventName::Run => Some(Event::Run {
-            guest: number(a)?,
+            guest: guest_of(a)?,
             count: number(b)?,
         }),
         EventName::Target => Some(Event::Target {
-            guest: number(a)?,
+            guest: guest_of(a)?,
             pages: number(b)?,
         }),
         EventName::Scan => Some(Event::Scan {
-            guest: number(a)?,
+            guest: guest_of(a)?,
             page: number(b)?,
         }),
         EventName::Evict => Some(Event::Evict {
-            guest: number(a)?,
+            guest: guest_of(a)?,
             page: number(b)?,
         }),
         EventName::Damage => Some(Event::Damage {
@@ -303,12 +304,12 @@ fn with_three(name: EventName, a: &str, b: &str, c: &str) -> Option<Event>
 {
     match name {
         EventName::Poke => Some(Event::Poke {
-            guest: number(a)?,
+            guest: guest_of(a)?,
             register: number(b)?,
             value: hex_word(c)?,
         }),
         EventName::Probe => Some(Event::Probe {
-            guest: number(a)?,
+            guest: guest_of(a)?,
             address: hex_word(b)?,
             length: number(c)?,
         }),

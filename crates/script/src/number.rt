@@ -4,6 +4,7 @@ ghost use Rattle.script.specs.Answers.{Answers};
 ghost use Rattle.script.specs.Numbers as spec;
 
 use crate::error::LineError;
+use guest_number::GuestNo;
 use hex::FromHexError;
 use std::alloc::Global;
 
@@ -29,6 +30,13 @@ pub fn number(word: &str) -> Option<u32>
     ensures { result ≡ spec.number_of word.now }
 {
     natural(10, word.as_bytes())
+}
+
+/// The guest whose number a word is.
+pub fn guest_of(word: &str) -> Option<GuestNo>
+    ensures { result ≡ spec.number_of word.now }
+{
+    Some(GuestNo::new(number(word)?))
 }
 
 /// The address or word of a processor that a word is: `0x` and 1 to 8 hexadecimal digits.

@@ -15,21 +15,21 @@ const EACH_VALUE: &str = "Script { header: Header { frames: 8, slots: 4, seed: 4
     guests: [GuestLine { file: \"a.elf\", pages: 16, shares: 100, minimum: None }, \
     GuestLine { file: \"b\", pages: 64, shares: 50, minimum: Some(6) }], \
     failure: Some(Fail { call: Write, count: 3 }), admit: true, profile: Some(2) }, \
-    blocks: [Block { times: 1, lines: [ActionLine { number: 11, action: Single(Step { guest: 0, count: 5 }) }, \
-    ActionLine { number: 12, action: Single(Run { guest: 1, count: 4294967295 }) }, \
-    ActionLine { number: 13, action: Single(In { guest: 0, bytes: [65, 255] }) }, \
-    ActionLine { number: 14, action: Single(Drain { guest: 1 }) }, \
-    ActionLine { number: 15, action: Single(Target { guest: 1, pages: 64 }) }, \
-    ActionLine { number: 16, action: Single(Poke { guest: 0, register: 37, value: 2147483658 }) }, \
-    ActionLine { number: 17, action: Single(Write { guest: 0, address: 4096, bytes: [0, 255] }) }, \
-    ActionLine { number: 18, action: Single(Probe { guest: 1, address: 65535, length: 1024 }) }, \
-    ActionLine { number: 19, action: Single(Fault { guest: 0 }) }] }, \
-    Block { times: 12, lines: [ActionLine { number: 21, action: Single(Scan { guest: 0, page: 99 }) }, \
-    ActionLine { number: 22, action: RunEach(7) }, ActionLine { number: 23, action: Single(Evict { guest: 1, page: 3 }) }] }, \
+    blocks: [Block { times: 1, lines: [ActionLine { number: 11, action: Single(Step { guest: GuestNo { number: 0 }, count: 5 }) }, \
+    ActionLine { number: 12, action: Single(Run { guest: GuestNo { number: 1 }, count: 4294967295 }) }, \
+    ActionLine { number: 13, action: Single(In { guest: GuestNo { number: 0 }, bytes: [65, 255] }) }, \
+    ActionLine { number: 14, action: Single(Drain { guest: GuestNo { number: 1 } }) }, \
+    ActionLine { number: 15, action: Single(Target { guest: GuestNo { number: 1 }, pages: 64 }) }, \
+    ActionLine { number: 16, action: Single(Poke { guest: GuestNo { number: 0 }, register: 37, value: 2147483658 }) }, \
+    ActionLine { number: 17, action: Single(Write { guest: GuestNo { number: 0 }, address: 4096, bytes: [0, 255] }) }, \
+    ActionLine { number: 18, action: Single(Probe { guest: GuestNo { number: 1 }, address: 65535, length: 1024 }) }, \
+    ActionLine { number: 19, action: Single(Fault { guest: GuestNo { number: 0 } }) }] }, \
+    Block { times: 12, lines: [ActionLine { number: 21, action: Single(Scan { guest: GuestNo { number: 0 }, page: 99 }) }, \
+    ActionLine { number: 22, action: RunEach(7) }, ActionLine { number: 23, action: Single(Evict { guest: GuestNo { number: 1 }, page: 3 }) }] }, \
     Block { times: 1, lines: [ActionLine { number: 25, action: Single(Sample) }, \
     ActionLine { number: 26, action: Single(Level) }, ActionLine { number: 27, action: Single(Audit) }, \
-    ActionLine { number: 28, action: StepEach(0) }, ActionLine { number: 30, action: Single(Dump { guest: 1 }) }, \
-    ActionLine { number: 31, action: Single(Stats { guest: 0 }) }, \
+    ActionLine { number: 28, action: StepEach(0) }, ActionLine { number: 30, action: Single(Dump { guest: GuestNo { number: 1 } }) }, \
+    ActionLine { number: 31, action: Single(Stats { guest: GuestNo { number: 0 } }) }, \
     ActionLine { number: 32, action: Single(Damage { slot: 3, byte: 4095 }) }] }] }";
 
 /// Four lines of a header, whose guest 0 has 16 pages.

@@ -22,5 +22,5 @@ pub mod shares;
 #[cfg(test)]
 mod tests;
 
-pub use guest_page::{GuestNo, GuestPage};
+pub use guest_page::GuestPage;
 pub use shares::{Offer, Shares};

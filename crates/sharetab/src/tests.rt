@@ -3,8 +3,9 @@
 ghost use Rattle.std.specs.Prelude.{◌≡◌, ◌<◌, ◌^◌};
 ghost use Rattle.sharetab.specs.Shares.{Answers};
 
-use crate::{GuestNo, GuestPage, Offer, Shares};
+use crate::{GuestPage, Offer, Shares};
 use frames::{Frame, FrameNo, Numbers, SharePage, ShareTicket};
+use guest_number::GuestNo;
 use sha2::{Digest, Sha256};
 use std::alloc::Global;
 use std::fmt::Debug;

@@ -2,6 +2,7 @@
 ghost use Rattle.std.specs.Prelude.{◌≡◌, ◌^◌, nat_lt, Some, None, if◌then◌else◌};
 ghost use Rattle.simulation.specs.Acts as spec;
 
+use guest_number::GuestNo;
 use items::{DebugRegister, Item, SeatNo, What};
 use script::Event;
 use word32::Ppn;
@@ -17,11 +18,11 @@ pub enum Act {
     /// The books are read.
     Audit,
     /// Where the pages of this guest are is counted.
-    Pages(usize),
+    Pages(GuestNo),
     /// The state of this guest is read.
-    Dump(usize),
+    Dump(GuestNo),
     /// How often the pages of this guest have moved is read.
-    Stats(usize),
+    Stats(GuestNo),
     /// All bits of this slot's byte of this place are inverted.
     Damage(u32, u32),
 }
@@ -38,26 +39,26 @@ fn page_of(number: u32) -> Option<Ppn>
 }
 
 // What happens to a guest by an item of one of its seats.
-fn item(guest: u32, seat: SeatNo, what: What) -> Act
+fn item(guest: GuestNo, seat: SeatNo, what: What) -> Act
     ensures { result ≡ Act.World (spec.item_event guest seat what) }
 {
-    Act::World(Happening::Input(guest as usize, Item { seat, what }))
+    Act::World(Happening::Input(guest, Item { seat, what }))
 }
 
-fn scan(guest: u32, page: u32) -> Act
+fn scan(guest: GuestNo, page: u32) -> Act
     ensures { result ≡ spec.scan_act guest page }
 {
     match page_of(page) {
-        Some(page) => Act::World(Happening::Scan(guest as usize, page)),
+        Some(page) => Act::World(Happening::Scan(guest, page)),
         None => Act::Skip,
     }
 }
 
-fn evict(guest: u32, page: u32) -> Act
+fn evict(guest: GuestNo, page: u32) -> Act
     ensures { result ≡ spec.evict_act guest page }
 {
     match page_of(page) {
-        Some(page) => Act::World(Happening::Evict(guest as usize, page)),
+        Some(page) => Act::World(Happening::Evict(guest, page)),
         None => Act::Skip,
     }
 }
@@ -69,9 +70,9 @@ pub fn act_of(event: Event) -> Act
     ensures { result ≡ spec.act_of event }
 {
     match event {
-        Event::Step { guest, count } => Act::World(Happening::Steps(guest as usize, count)),
-        Event::Run { guest, count } => Act::World(Happening::Run(guest as usize, count)),
-        Event::In { guest, bytes } => Act::World(Happening::Feed(guest as usize, bytes)),
+        Event::Step { guest, count } => Act::World(Happening::Steps(guest, count)),
+        Event::Run { guest, count } => Act::World(Happening::Run(guest, count)),
+        Event::In { guest, bytes } => Act::World(Happening::Feed(guest, bytes)),
         Event::Drain { guest } => item(guest, SeatNo::new(1), What::Drain),
         Event::Target { guest, pages } => item(guest, SeatNo::new(1), What::Target(pages)),
         Event::Poke {
@@ -86,21 +87,21 @@ pub fn act_of(event: Event) -> Act
             guest,
             address,
             bytes,
-        } => Act::World(Happening::Write(guest as usize, address, bytes)),
+        } => Act::World(Happening::Write(guest, address, bytes)),
         Event::Probe {
             guest,
             address,
             length,
-        } => Act::World(Happening::Probe(guest as usize, address, length)),
-        Event::Fault { guest } => Act::World(Happening::Fault(guest as usize)),
+        } => Act::World(Happening::Probe(guest, address, length)),
+        Event::Fault { guest } => Act::World(Happening::Fault(guest)),
         Event::Scan { guest, page } => scan(guest, page),
         Event::Evict { guest, page } => evict(guest, page),
         Event::Sample => Act::World(Happening::Sample),
         Event::Level => Act::World(Happening::Level),
         Event::Audit => Act::Audit,
-        Event::AuditGuest { guest } => Act::Pages(guest as usize),
-        Event::Dump { guest } => Act::Dump(guest as usize),
-        Event::Stats { guest } => Act::Stats(guest as usize),
+        Event::AuditGuest { guest } => Act::Pages(guest),
+        Event::Dump { guest } => Act::Dump(guest),
+        Event::Stats { guest } => Act::Stats(guest),
         Event::Damage { slot, byte } => Act::Damage(slot, byte),
     }
 }

@@ -58,17 +58,17 @@ pub(crate) fn perform<S: Damage, R: Rng>(
             world.is_sound();
             Said::Counted(world.books())
         }
-        Act::Pages(g) => {
+        Act::Pages(guest) => {
             world.is_sound();
-            Said::Placed(page_counts(world, g))
+            Said::Placed(page_counts(world, guest.index()))
         }
-        Act::Dump(g) => {
+        Act::Dump(guest) => {
             world.is_sound();
-            Said::Dumped(dump_of(alloc, world, g))
+            Said::Dumped(dump_of(alloc, world, guest.index()))
         }
-        Act::Stats(g) => {
+        Act::Stats(guest) => {
             world.is_sound();
-            Said::Moved(world.counts(g))
+            Said::Moved(world.counts(guest.index()))
         }
         Act::Damage(slot, byte) => {
             let done = world.damage(slot, byte);

@@ -6,6 +6,7 @@ ghost use Rattle.simulation.specs.Lines as spec;
 use crate::{Act, PageCounts, Said};
 use dump::{push_digits, push_output_digits};
 use guest::{Refused, Stop};
+use guest_number::GuestNo;
 use machine::{Reply, Why};
 use page_moves::Scan;
 use reclaim::Level;
@@ -20,12 +21,12 @@ use world::{
 /// What a line begins with where it names its event and its guest.
 #[derive(Clone, Copy, Debug, PartialEq, Eq)]
 pub enum Heading {
-    Step(usize),
-    Run(usize),
-    In(usize),
-    Drain(usize),
-    Stats(usize),
-    Audit(usize),
+    Step(GuestNo),
+    Run(GuestNo),
+    In(GuestNo),
+    Drain(GuestNo),
+    Stats(GuestNo),
+    Audit(GuestNo),
     /// It names neither.
     Bare,
 }
@@ -98,12 +99,12 @@ fn push_heading(out: &mut String, heading: Heading) -> Result<(), AllocError>
     ensures { OnOk result (string_bytes out.new ≡ string_bytes out.old ++ spec.heading_text heading) }
 {
     match heading {
-        Heading::Step(guest) => write!(out, "step {guest} "),
-        Heading::Run(guest) => write!(out, "run {guest} "),
-        Heading::In(guest) => write!(out, "in {guest} "),
-        Heading::Drain(guest) => write!(out, "drain {guest} "),
-        Heading::Stats(guest) => write!(out, "stats {guest} "),
-        Heading::Audit(guest) => write!(out, "audit {guest} "),
+        Heading::Step(guest) => write!(out, "step {} ", guest.number()),
+        Heading::Run(guest) => write!(out, "run {} ", guest.number()),
+        Heading::In(guest) => write!(out, "in {} ", guest.number()),
+        Heading::Drain(guest) => write!(out, "drain {} ", guest.number()),
+        Heading::Stats(guest) => write!(out, "stats {} ", guest.number()),
+        Heading::Audit(guest) => write!(out, "audit {} ", guest.number()),
         Heading::Bare => Ok(()),
     }
 }

@@ -293,21 +293,21 @@ impl<S: SwapStore> World<S> {
         ensures store { StoreStays S.SwapStore self.old.store self.new.store }
     {
         match event {
-            Event::Step(g) => self.apply_step(g),
-            Event::Steps(g, count) => self.apply_steps(g, count),
-            Event::Run(g, count) => self.apply_run(alloc, g, count, tax, rng),
-            Event::Input(g, item) => self.apply_input(g, item),
-            Event::Feed(g, bytes) => self.apply_feed(g, bytes),
-            Event::Probe(g, address, count) => {
-                self.apply_probe(alloc, g, address, count, tax, rng)
+            Event::Step(guest) => self.apply_step(guest.index()),
+            Event::Steps(guest, count) => self.apply_steps(guest.index(), count),
+            Event::Run(guest, count) => self.apply_run(alloc, guest.index(), count, tax, rng),
+            Event::Input(guest, item) => self.apply_input(guest.index(), item),
+            Event::Feed(guest, bytes) => self.apply_feed(guest.index(), bytes),
+            Event::Probe(guest, address, count) => {
+                self.apply_probe(alloc, guest.index(), address, count, tax, rng)
             }
-            Event::Write(g, address, bytes) => {
-                self.apply_write(alloc, g, address, bytes, tax, rng)
+            Event::Write(guest, address, bytes) => {
+                self.apply_write(alloc, guest.index(), address, bytes, tax, rng)
             }
-            Event::Supply(g, p) => self.apply_supply(alloc, g, p),
-            Event::Fault(g) => self.apply_fault(alloc, g, tax, rng),
-            Event::Evict(g, p) => self.apply_evict(g, p),
-            Event::Scan(g, p) => self.apply_scan(g, p),
+            Event::Supply(guest, p) => self.apply_supply(alloc, guest.index(), p),
+            Event::Fault(guest) => self.apply_fault(alloc, guest.index(), tax, rng),
+            Event::Evict(guest, p) => self.apply_evict(guest.index(), p),
+            Event::Scan(guest, p) => self.apply_scan(guest.index(), p),
             Event::Sample => self.apply_sample(rng),
             Event::Level => self.apply_level(alloc, tax, rng),
         }

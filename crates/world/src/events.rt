@@ -2,6 +2,7 @@
 use crate::running::{for_room, stop_of};
 use crate::{DebugError, Evicted, FaultError, Ran, RunStop, Turn};
 use guest::{Refused, Stop};
+use guest_number::GuestNo;
 use items::Item;
 use machine::{Reply, StepOut};
 use page_moves::{Scan, SupplyError};
@@ -9,32 +10,32 @@ use std::alloc::AllocError;
 use tenant::EvictError;
 use word32::Ppn;
 
-/// What may happen in a world. Guests are named by their numbers, from 0 in the order in which they were added.
+/// What may happen in a world. Its guests count from 0, in the order in which they were added.
 #[derive(Drop)]
 pub enum Event {
     /// A guest is to make one step.
-    Step(usize),
+    Step(GuestNo),
     /// A guest is to make at most so many steps, with no page supplied.
-    Steps(usize, u32),
+    Steps(GuestNo, u32),
     /// A guest is to make at most so many steps, with the pages that they need supplied.
-    Run(usize, u32),
+    Run(GuestNo, u32),
     /// An item of one of a guest's seats is to happen to it, which is no step.
-    Input(usize, Item),
+    Input(GuestNo, Item),
     /// A guest's console is to take these bytes of input, each by an item of seat 0, up to the first one that the machine refuses or for
     /// which the log has no room.
-    Feed(usize, Vec<u8>),
+    Feed(GuestNo, Vec<u8>),
     /// So many bytes of a guest are to be read for a debugger from a virtual address on, 1 to 1,024 of them.
-    Probe(usize, u32, u32),
+    Probe(GuestNo, u32, u32),
     /// These bytes, 1 to 1,024 of them, are to be written to a guest for a debugger from a virtual address on.
-    Write(usize, u32, Vec<u8>),
+    Write(GuestNo, u32, Vec<u8>),
     /// A page of a guest is to get a frame of its own.
-    Supply(usize, Ppn),
+    Supply(GuestNo, Ppn),
     /// The page that a guest's next step needs is to get a frame of its own, if need be a victim's.
-    Fault(usize),
+    Fault(GuestNo),
     /// A page of a guest is to leave its frame for a slot.
-    Evict(usize, Ppn),
+    Evict(GuestNo, Ppn),
     /// A page of a guest is to be scanned for one of equal bytes.
-    Scan(usize, Ppn),
+    Scan(GuestNo, Ppn),
     /// A period of the samples of all guests' pages is to end, and the next to begin.
     Sample,
     /// The policy is to make a turn.

@@ -3,12 +3,13 @@ ghost use Rattle.std.specs.Prelude.{◌≡◌, ◌≢◌, ◌<◌};
 
 use framepool::Pool;
 use guest::{Refused, Stop};
+use guest_number::GuestNo;
 use guest_pages::PageKind;
 use items::Item;
 use machine::{Reply, StepOut};
 use page_moves::{Pages, Scan, SupplyError};
 use reclaim::Level;
-use sharetab::{GuestNo, Shares};
+use sharetab::Shares;
 use std::alloc::Global;
 use std::marker::Model;
 use swapstore::{SlotBook, SwapStore};

@@ -3,6 +3,7 @@
 use crate::event_tests::{
     TAX, apply, booted, evict, expect, kind, log_len, room, share, started, supply,
 };
+use guest_number::GuestNo;
 use guest_pages::PageKind;
 use rand_pcg::Pcg32;
 use std::alloc::Global;
@@ -15,7 +16,7 @@ fn write(
     rt: &impl Abort,
     alloc: Global,
     world: &mut World<MemStore>,
-    g: usize,
+    g: GuestNo,
     address: u32,
 ) -> Result<(), DebugError> {
     let Ok(bytes) = vec![in alloc; 7; 2] else {
@@ -63,7 +64,7 @@ const SWAPPED: Option<PageKind> = Some(PageKind::Swapped);
 fn what_is_written_is_read(rt: HostRuntime) {
     let alloc = rt.alloc();
     let mut world = started(&rt, alloc);
-    let answer = write(&rt, alloc, &mut world, 0, 0x8000_1000);
+    let answer = write(&rt, alloc, &mut world, GuestNo::new(0), 0x8000_1000);
     expect(&rt, "page 1", answer, Ok(()));
     expect(
         &rt,
@@ -86,9 +87,9 @@ fn what_is_written_is_read(rt: HostRuntime) {
 fn a_read_brings_back_what_is_in_a_slot(rt: HostRuntime) {
     let alloc = rt.alloc();
     let mut world = started(&rt, alloc);
-    let answer = write(&rt, alloc, &mut world, 0, 0x8000_1ffe);
+    let answer = write(&rt, alloc, &mut world, GuestNo::new(0), 0x8000_1ffe);
     expect(&rt, "page 1", answer, Ok(()));
-    let evicted = evict(&rt, alloc, &mut world, 0, 1);
+    let evicted = evict(&rt, alloc, &mut world, GuestNo::new(0), 1);
     expect(&rt, "its slot", evicted, Ok(Evicted::Done));
     let bytes = read(&rt, alloc, &mut world, 0, 0x8000_1fff);
     expect(&rt, "across the border", bytes, (Ok(()), [7, 0]));
@@ -107,7 +108,7 @@ fn a_read_brings_back_what_is_in_a_slot(rt: HostRuntime) {
 fn a_write_across_a_border_gets_both_pages(rt: HostRuntime) {
     let alloc = rt.alloc();
     let mut world = started(&rt, alloc);
-    let answer = write(&rt, alloc, &mut world, 0, 0x8000_1fff);
+    let answer = write(&rt, alloc, &mut world, GuestNo::new(0), 0x8000_1fff);
     expect(&rt, "both", answer, Ok(()));
     let all = [PRIVATE, PRIVATE, PRIVATE];
     expect(&rt, "frames", kinds(&rt, &world, 0), all);
@@ -122,7 +123,7 @@ fn bytes_without_a_place_change_nothing(rt: HostRuntime) {
     let alloc = rt.alloc();
     let mut world = started(&rt, alloc);
     let no_place = Err(DebugError::NoPlace);
-    let answer = write(&rt, alloc, &mut world, 0, 0x8000_2fff);
+    let answer = write(&rt, alloc, &mut world, GuestNo::new(0), 0x8000_2fff);
     expect(&rt, "the second", answer, no_place);
     let bytes = read(&rt, alloc, &mut world, 0, 0x8000_2fff);
     expect(&rt, "as before", bytes, (no_place, [0xa5; 2]));
@@ -142,7 +143,7 @@ fn a_write_parts_a_shared_page(rt: HostRuntime) {
     let bytes = read(&rt, alloc, &mut world, 0, 0x8000_0800);
     expect(&rt, "read of it", bytes, (Ok(()), [0, 0]));
     expect(&rt, "still shared", room(&world), (3, 0));
-    let answer = write(&rt, alloc, &mut world, 0, 0x8000_0800);
+    let answer = write(&rt, alloc, &mut world, GuestNo::new(0), 0x8000_0800);
     expect(&rt, "parted", answer, Ok(()));
     expect(&rt, "a frame less", room(&world), (2, 0));
     let bytes = read(&rt, alloc, &mut world, 0, 0x8000_0800);
@@ -156,12 +157,22 @@ fn a_write_parts_a_shared_page(rt: HostRuntime) {
 fn crowded(rt: &impl Abort, alloc: Global) -> World<MemStore> {
     let mut world = started(rt, alloc);
     share(rt, alloc, &mut world);
-    expect(rt, "page 1", supply(rt, alloc, &mut world, 0, 1), Ok(()));
-    expect(rt, "page 2", supply(rt, alloc, &mut world, 0, 2), Ok(()));
+    expect(
+        rt,
+        "page 1",
+        supply(rt, alloc, &mut world, GuestNo::new(0), 1),
+        Ok(()),
+    );
+    expect(
+        rt,
+        "page 2",
+        supply(rt, alloc, &mut world, GuestNo::new(0), 2),
+        Ok(()),
+    );
     expect(
         rt,
         "of guest 1",
-        supply(rt, alloc, &mut world, 1, 1),
+        supply(rt, alloc, &mut world, GuestNo::new(1), 1),
         Ok(()),
     );
     expect(rt, "none free", room(&world), (0, 0));
@@ -173,7 +184,7 @@ fn crowded(rt: &impl Abort, alloc: Global) -> World<MemStore> {
 fn an_eviction_passes_over_the_pages_that_are_reached(rt: HostRuntime) {
     let alloc = rt.alloc();
     let mut world = crowded(&rt, alloc);
-    let answer = write(&rt, alloc, &mut world, 0, 0x8000_0fff);
+    let answer = write(&rt, alloc, &mut world, GuestNo::new(0), 0x8000_0fff);
     expect(&rt, "both", answer, Ok(()));
     let left = [PRIVATE, PRIVATE, SWAPPED];
     expect(&rt, "page 2", kinds(&rt, &world, 0), left);
@@ -185,7 +196,7 @@ fn an_eviction_passes_over_the_pages_that_are_reached(rt: HostRuntime) {
 fn a_stop_leaves_the_first_page(rt: HostRuntime) {
     let alloc = rt.alloc();
     let mut world = booted(&rt, alloc, 0, 3);
-    let answer = write(&rt, alloc, &mut world, 0, 0x8000_1fff);
+    let answer = write(&rt, alloc, &mut world, GuestNo::new(0), 0x8000_1fff);
     let no_frame = Err(DebugError::Stop(RunStop::NoFrame));
     expect(&rt, "two resident pages", answer, no_frame);
     expect(
@@ -202,9 +213,9 @@ fn a_stop_leaves_the_first_page(rt: HostRuntime) {
 fn a_stop_for_want_of_a_slot(rt: HostRuntime) {
     let alloc = rt.alloc();
     let mut world = booted(&rt, alloc, 0, 2);
-    let answer = write(&rt, alloc, &mut world, 0, 0x8000_1fff);
+    let answer = write(&rt, alloc, &mut world, GuestNo::new(0), 0x8000_1fff);
     expect(&rt, "three pages", answer, Ok(()));
-    let answer = write(&rt, alloc, &mut world, 1, 0x8000_1000);
+    let answer = write(&rt, alloc, &mut world, GuestNo::new(1), 0x8000_1000);
     let no_slot = Err(DebugError::Stop(RunStop::NoSwap));
     expect(&rt, "no page leaves", answer, no_slot);
     let bytes = read(&rt, alloc, &mut world, 1, 0x8000_1000);

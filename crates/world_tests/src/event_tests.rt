@@ -4,6 +4,7 @@ ghost use Rattle.std.specs.Prelude.{All};
 ghost use Rattle.world.specs.Events.{IsProper};
 
 use elf32::Image;
+use guest_number::GuestNo;
 use guest_pages::PageKind;
 use items::{Item, SeatNo, What};
 use machine::{StepOut, Why};
@@ -143,7 +144,7 @@ fn step(
     rt: &impl Abort,
     alloc: Global,
     world: &mut World<MemStore>,
-    g: usize,
+    g: GuestNo,
 ) -> Option<(u32, Why)> {
     match apply(alloc, world, Event::Step(g)) {
         Answer::Stepped(Ok(out)) => need(out),
@@ -155,7 +156,7 @@ pub(crate) fn supply(
     rt: &impl Abort,
     alloc: Global,
     world: &mut World<MemStore>,
-    g: usize,
+    g: GuestNo,
     number: u32,
 ) -> Result<(), SupplyError> {
     match apply(alloc, world, Event::Supply(g, page(rt, number))) {
@@ -168,7 +169,7 @@ pub(crate) fn evict(
     rt: &impl Abort,
     alloc: Global,
     world: &mut World<MemStore>,
-    g: usize,
+    g: GuestNo,
     number: u32,
 ) -> Result<Evicted, EvictError> {
     match apply(alloc, world, Event::Evict(g, page(rt, number))) {
@@ -181,7 +182,7 @@ fn scan(
     rt: &impl Abort,
     alloc: Global,
     world: &mut World<MemStore>,
-    g: usize,
+    g: GuestNo,
     number: u32,
 ) -> Scan {
     match apply(alloc, world, Event::Scan(g, page(rt, number))) {
@@ -193,8 +194,13 @@ fn scan(
 /// Two pages of equal bytes come to share one frame: the second page that is scanned has the digest with which the first was noted,
 /// and becomes the entry; the first then joins it.
 pub(crate) fn share(rt: &impl Abort, alloc: Global, world: &mut World<MemStore>) {
-    expect(rt, "noted", scan(rt, alloc, world, 0, 0), Scan::Noted);
-    match scan(rt, alloc, world, 1, 0) {
+    expect(
+        rt,
+        "noted",
+        scan(rt, alloc, world, GuestNo::new(0), 0),
+        Scan::Noted,
+    );
+    match scan(rt, alloc, world, GuestNo::new(1), 0) {
         Scan::Admitted(other) => expect(
             rt,
             "of guest 0",
@@ -204,7 +210,12 @@ pub(crate) fn share(rt: &impl Abort, alloc: Global, world: &mut World<MemStore>)
         other => panic!(rt; "admitted: {other:?}"),
     }
     expect(rt, "two frames free", room(world), (2, 0));
-    expect(rt, "joined", scan(rt, alloc, world, 0, 0), Scan::Joined);
+    expect(
+        rt,
+        "joined",
+        scan(rt, alloc, world, GuestNo::new(0), 0),
+        Scan::Joined,
+    );
     expect(rt, "three frames free", room(world), (3, 0));
 }
 
@@ -221,13 +232,13 @@ fn guests_share_a_page_and_part(rt: HostRuntime) {
     expect(
         &rt,
         "a step fetches",
-        step(&rt, rt.alloc(), &mut world, 0),
+        step(&rt, rt.alloc(), &mut world, GuestNo::new(0)),
         None,
     );
     expect(
         &rt,
         "parted",
-        supply(&rt, rt.alloc(), &mut world, 0, 0),
+        supply(&rt, rt.alloc(), &mut world, GuestNo::new(0), 0),
         Ok(()),
     );
     expect(
@@ -240,7 +251,7 @@ fn guests_share_a_page_and_part(rt: HostRuntime) {
     expect(
         &rt,
         "the last",
-        supply(&rt, rt.alloc(), &mut world, 1, 0),
+        supply(&rt, rt.alloc(), &mut world, GuestNo::new(1), 0),
         Ok(()),
     );
     expect(&rt, "no entry left", room(&world), (2, 0));
@@ -254,29 +265,29 @@ fn a_shared_page_that_is_evicted_frees_no_frame(rt: HostRuntime) {
     expect(
         &rt,
         "evicted",
-        evict(&rt, rt.alloc(), &mut world, 0, 0),
+        evict(&rt, rt.alloc(), &mut world, GuestNo::new(0), 0),
         Ok(Evicted::Done),
     );
     expect(&rt, "the other reads it", room(&world), (3, 1));
-    let need = step(&rt, rt.alloc(), &mut world, 0);
+    let need = step(&rt, rt.alloc(), &mut world, GuestNo::new(0));
     expect(&rt, "it is away", need, Some((0, Why::Swapped)));
     expect(
         &rt,
         "again",
-        evict(&rt, rt.alloc(), &mut world, 0, 0),
+        evict(&rt, rt.alloc(), &mut world, GuestNo::new(0), 0),
         Ok(Evicted::Skipped),
     );
     expect(
         &rt,
         "evicted too",
-        evict(&rt, rt.alloc(), &mut world, 1, 0),
+        evict(&rt, rt.alloc(), &mut world, GuestNo::new(1), 0),
         Ok(Evicted::Done),
     );
     expect(&rt, "now it is free", room(&world), (4, 2));
     expect(
         &rt,
         "no page 3",
-        evict(&rt, rt.alloc(), &mut world, 1, 3),
+        evict(&rt, rt.alloc(), &mut world, GuestNo::new(1), 3),
         Ok(Evicted::Skipped),
     );
     let _store = world.close();
@@ -288,31 +299,36 @@ fn a_page_comes_back_from_its_slot(rt: HostRuntime) {
     expect(
         &rt,
         "out",
-        evict(&rt, rt.alloc(), &mut world, 1, 0),
+        evict(&rt, rt.alloc(), &mut world, GuestNo::new(1), 0),
         Ok(Evicted::Done),
     );
     expect(
         &rt,
         "back",
-        supply(&rt, rt.alloc(), &mut world, 1, 0),
+        supply(&rt, rt.alloc(), &mut world, GuestNo::new(1), 0),
         Ok(()),
     );
     expect(&rt, "slot free", room(&world), (2, 0));
     expect(
         &rt,
         "the first word",
-        step(&rt, rt.alloc(), &mut world, 1),
+        step(&rt, rt.alloc(), &mut world, GuestNo::new(1)),
         None,
     );
-    let need = step(&rt, rt.alloc(), &mut world, 1);
+    let need = step(&rt, rt.alloc(), &mut world, GuestNo::new(1));
     expect(&rt, "page 1", need, Some((1, Why::First)));
     expect(
         &rt,
         "supplied",
-        supply(&rt, rt.alloc(), &mut world, 1, 1),
+        supply(&rt, rt.alloc(), &mut world, GuestNo::new(1), 1),
         Ok(()),
     );
-    expect(&rt, "loaded", step(&rt, rt.alloc(), &mut world, 1), None);
+    expect(
+        &rt,
+        "loaded",
+        step(&rt, rt.alloc(), &mut world, GuestNo::new(1)),
+        None,
+    );
     let _store = world.close();
 }
 
@@ -322,32 +338,32 @@ fn frames_and_slots_run_out(rt: HostRuntime) {
     expect(
         &rt,
         "one frame left",
-        supply(&rt, rt.alloc(), &mut world, 1, 1),
+        supply(&rt, rt.alloc(), &mut world, GuestNo::new(1), 1),
         Ok(()),
     );
     expect(
         &rt,
         "the last frame",
-        supply(&rt, rt.alloc(), &mut world, 0, 1),
+        supply(&rt, rt.alloc(), &mut world, GuestNo::new(0), 1),
         Ok(()),
     );
-    let answer = supply(&rt, rt.alloc(), &mut world, 0, 2);
+    let answer = supply(&rt, rt.alloc(), &mut world, GuestNo::new(0), 2);
     expect(&rt, "no frame", answer, Err(SupplyError::NoFrame));
     expect(
         &rt,
         "one slot",
-        evict(&rt, rt.alloc(), &mut world, 0, 0),
+        evict(&rt, rt.alloc(), &mut world, GuestNo::new(0), 0),
         Ok(Evicted::Done),
     );
     expect(
         &rt,
         "two slots",
-        evict(&rt, rt.alloc(), &mut world, 0, 1),
+        evict(&rt, rt.alloc(), &mut world, GuestNo::new(0), 1),
         Ok(Evicted::Done),
     );
-    let answer = evict(&rt, rt.alloc(), &mut world, 1, 0);
+    let answer = evict(&rt, rt.alloc(), &mut world, GuestNo::new(1), 0);
     expect(&rt, "no slot", answer, Err(EvictError::NoSwap));
-    let answer = evict(&rt, rt.alloc(), &mut world, 1, 2);
+    let answer = evict(&rt, rt.alloc(), &mut world, GuestNo::new(1), 2);
     expect(&rt, "in no frame", answer, Ok(Evicted::Skipped));
     let _store = world.close();
 }
@@ -381,24 +397,29 @@ fn an_image_page_that_finds_no_frame_lies_in_a_slot(rt: HostRuntime) {
         Some(PageKind::Swapped),
     );
     expect(&rt, "one in a slot", world.books(), counted(0, 4, 1));
-    let need = step(&rt, rt.alloc(), &mut world, 4);
+    let need = step(&rt, rt.alloc(), &mut world, GuestNo::new(4));
     expect(&rt, "its page 0", need, Some((0, Why::Swapped)));
     expect(
         &rt,
         "guest 0 leaves",
-        evict(&rt, rt.alloc(), &mut world, 0, 0),
+        evict(&rt, rt.alloc(), &mut world, GuestNo::new(0), 0),
         Ok(Evicted::Done),
     );
     expect(&rt, "both away", world.books(), counted(1, 3, 2));
     expect(
         &rt,
         "guest 4 comes",
-        supply(&rt, rt.alloc(), &mut world, 4, 0),
+        supply(&rt, rt.alloc(), &mut world, GuestNo::new(4), 0),
         Ok(()),
     );
     expect(&rt, "one back", world.books(), counted(0, 4, 1));
-    expect(&rt, "its bytes", step(&rt, rt.alloc(), &mut world, 4), None);
-    let need = step(&rt, rt.alloc(), &mut world, 4);
+    expect(
+        &rt,
+        "its bytes",
+        step(&rt, rt.alloc(), &mut world, GuestNo::new(4)),
+        None,
+    );
+    let need = step(&rt, rt.alloc(), &mut world, GuestNo::new(4));
     expect(&rt, "its second word", need, Some((1, Why::First)));
     let _store = world.close();
 }
@@ -419,15 +440,15 @@ fn a_damaged_page_does_not_come_back(rt: HostRuntime) {
     expect(
         &rt,
         "guest 0 leaves",
-        evict(&rt, rt.alloc(), &mut world, 0, 0),
+        evict(&rt, rt.alloc(), &mut world, GuestNo::new(0), 0),
         Ok(Evicted::Done),
     );
     damage(&rt, &mut world);
-    let answer = supply(&rt, rt.alloc(), &mut world, 4, 0);
+    let answer = supply(&rt, rt.alloc(), &mut world, GuestNo::new(4), 0);
     expect(&rt, "damaged", answer, Err(SupplyError::SwapDamaged));
     expect(&rt, "its frame is free again", room(&world), (1, 2));
     damage(&rt, &mut world);
-    let answer = supply(&rt, rt.alloc(), &mut world, 4, 0);
+    let answer = supply(&rt, rt.alloc(), &mut world, GuestNo::new(4), 0);
     expect(&rt, "the same byte again", answer, Ok(()));
     let _store = world.close();
 }
@@ -444,7 +465,7 @@ fn add(rt: &impl Abort, events: &mut Vec<Event>, event: Event)
 }
 
 /// A byte of input for a guest.
-pub(crate) fn input(g: usize, byte: u8) -> Event
+pub(crate) fn input(g: GuestNo, byte: u8) -> Event
     ensures { IsProper result }
 {
     let item = Item {
@@ -459,19 +480,27 @@ fn in_turn(rt: &impl Abort, alloc: Global) -> Vec<Event>
     ensures { All IsProper result.items }
 {
     let mut events = Vec::new(alloc);
-    add(rt, &mut events, Event::Step(0));
-    add(rt, &mut events, input(1, 7));
-    add(rt, &mut events, Event::Step(1));
-    add(rt, &mut events, Event::Scan(0, page(rt, 0)));
-    add(rt, &mut events, Event::Step(0));
-    add(rt, &mut events, Event::Fault(0));
-    add(rt, &mut events, Event::Step(0));
-    add(rt, &mut events, Event::Step(2));
-    add(rt, &mut events, Event::Steps(1, 5));
-    add(rt, &mut events, Event::Run(1, 2));
-    add(rt, &mut events, Event::Run(0, 0));
-    add(rt, &mut events, Event::Probe(1, 0x8000_2000, 8));
-    add(rt, &mut events, Event::Probe(1, 0xc000_0000, 8));
+    add(rt, &mut events, Event::Step(GuestNo::new(0)));
+    add(rt, &mut events, input(GuestNo::new(1), 7));
+    add(rt, &mut events, Event::Step(GuestNo::new(1)));
+    add(rt, &mut events, Event::Scan(GuestNo::new(0), page(rt, 0)));
+    add(rt, &mut events, Event::Step(GuestNo::new(0)));
+    add(rt, &mut events, Event::Fault(GuestNo::new(0)));
+    add(rt, &mut events, Event::Step(GuestNo::new(0)));
+    add(rt, &mut events, Event::Step(GuestNo::new(2)));
+    add(rt, &mut events, Event::Steps(GuestNo::new(1), 5));
+    add(rt, &mut events, Event::Run(GuestNo::new(1), 2));
+    add(rt, &mut events, Event::Run(GuestNo::new(0), 0));
+    add(
+        rt,
+        &mut events,
+        Event::Probe(GuestNo::new(1), 0x8000_2000, 8),
+    );
+    add(
+        rt,
+        &mut events,
+        Event::Probe(GuestNo::new(1), 0xc000_0000, 8),
+    );
     events
 }
 
@@ -555,7 +584,7 @@ fn fault(
     alloc: Global,
     world: &mut World<MemStore>,
     rng: &mut Pcg32,
-    g: usize,
+    g: GuestNo,
 ) -> Result<(), FaultError> {
     match world.apply(alloc, Event::Fault(g), TAX, rng) {
         Answer::Faulted(answer) => answer,
@@ -566,9 +595,24 @@ fn fault(
 /// All four frames are out: three are guest 0's, one is guest 1's, whose next step loads from page 1.
 fn filled(rt: &impl Abort, alloc: Global) -> World<MemStore> {
     let mut world = started(rt, alloc);
-    expect(rt, "page 1", supply(rt, alloc, &mut world, 0, 1), Ok(()));
-    expect(rt, "page 2", supply(rt, alloc, &mut world, 0, 2), Ok(()));
-    expect(rt, "the first word", step(rt, alloc, &mut world, 1), None);
+    expect(
+        rt,
+        "page 1",
+        supply(rt, alloc, &mut world, GuestNo::new(0), 1),
+        Ok(()),
+    );
+    expect(
+        rt,
+        "page 2",
+        supply(rt, alloc, &mut world, GuestNo::new(0), 2),
+        Ok(()),
+    );
+    expect(
+        rt,
+        "the first word",
+        step(rt, alloc, &mut world, GuestNo::new(1)),
+        None,
+    );
     world
 }
 
@@ -576,7 +620,7 @@ fn filled(rt: &impl Abort, alloc: Global) -> World<MemStore> {
 fn a_fault_takes_a_frame_from_the_victim(rt: HostRuntime) {
     let mut rng = Pcg32::new(42, 54);
     let mut world = filled(&rt, rt.alloc());
-    let answer = fault(&rt, rt.alloc(), &mut world, &mut rng, 1);
+    let answer = fault(&rt, rt.alloc(), &mut world, &mut rng, GuestNo::new(1));
     expect(&rt, "page 1 of guest 1", answer, Ok(()));
     // a15c02b7 is a multiple of 3
     expect(
@@ -588,10 +632,10 @@ fn a_fault_takes_a_frame_from_the_victim(rt: HostRuntime) {
     expect(
         &rt,
         "guest 1 loads",
-        step(&rt, rt.alloc(), &mut world, 1),
+        step(&rt, rt.alloc(), &mut world, GuestNo::new(1)),
         None,
     );
-    let answer = fault(&rt, rt.alloc(), &mut world, &mut rng, 0);
+    let answer = fault(&rt, rt.alloc(), &mut world, &mut rng, GuestNo::new(0));
     expect(&rt, "two pages each", answer, Err(FaultError::NoFrame));
     expect(&rt, "one slot", room(&world), (0, 1));
     let _store = world.close();

@@ -7,6 +7,7 @@ use dump::{dump, steps_in};
 use elf32::Image;
 use flatvm::Flat;
 use guest_log::Log;
+use guest_number::GuestNo;
 use items::{DebugRegister, Entry, Item, SeatNo, What};
 use mips_cp0::Profile;
 use rand_core::{Rng, SeedableRng};
@@ -116,7 +117,7 @@ fn bytes(rt: &impl Abort, alloc: Global, dice: &mut Pcg32, count: u32) -> Vec<u8
 }
 
 /// An item of one of the seats.
-fn item(dice: &mut Pcg32, g: usize) -> Event
+fn item(dice: &mut Pcg32, g: GuestNo) -> Event
     ensures { IsProper result }
 {
     let (seat, what) = match below(dice, 4) {
@@ -141,7 +142,7 @@ fn item(dice: &mut Pcg32, g: usize) -> Event
 }
 
 /// What happens to a page.
-fn page_event(dice: &mut Pcg32, g: usize) -> Event
+fn page_event(dice: &mut Pcg32, g: GuestNo) -> Event
     ensures { IsProper result }
 {
     let p = Ppn::new(below(dice, PAGES + 1));
@@ -153,7 +154,7 @@ fn page_event(dice: &mut Pcg32, g: usize) -> Event
 }
 
 /// What a debugger does to memory.
-fn memory_event(rt: &impl Abort, alloc: Global, dice: &mut Pcg32, g: usize) -> Event
+fn memory_event(rt: &impl Abort, alloc: Global, dice: &mut Pcg32, g: GuestNo) -> Event
     ensures { IsProper result }
 {
     let at = address(dice);
@@ -171,7 +172,7 @@ fn memory_event(rt: &impl Abort, alloc: Global, dice: &mut Pcg32, g: usize) -> E
 fn event(rt: &impl Abort, alloc: Global, dice: &mut Pcg32) -> Event
     ensures { IsProper result }
 {
-    let g = below(dice, GUESTS) as usize;
+    let g = GuestNo::new(below(dice, GUESTS));
     match below(dice, 8) {
         0 => Event::Steps(g, below(dice, 20)),
         1 => Event::Run(g, below(dice, 40)),

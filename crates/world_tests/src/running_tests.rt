@@ -1,6 +1,7 @@
 //! Runs of steps of guests of three pages, which make a step, load from page 1, store to page 2, and then make steps of no effect.
 
 use crate::event_tests::{TAX, apply, booted, evict, expect, input, log_len, room, started};
+use guest_number::GuestNo;
 use machine::Why;
 use rand_pcg::Pcg32;
 use std::alloc::Global;
@@ -90,7 +91,7 @@ fn one_step_is_supplied_two_pages(rt: HostRuntime) {
         steps(&rt, &mut world, 0, 1),
         (1, None, None),
     );
-    let evicted = evict(&rt, alloc, &mut world, 0, 0);
+    let evicted = evict(&rt, alloc, &mut world, GuestNo::new(0), 0);
     expect(&rt, "its words", evicted, Ok(Evicted::Done));
     let away = (0, Some((0, Why::Swapped)), None);
     expect(&rt, "away", steps(&rt, &mut world, 0, 1), away);
@@ -129,7 +130,7 @@ fn a_run_stops_where_the_log_is_full(rt: HostRuntime) {
     let alloc = rt.alloc();
     let mut world = started(&rt, alloc);
     for _ in 0..8 {
-        let _accepted = apply(alloc, &mut world, input(0, 7));
+        let _accepted = apply(alloc, &mut world, input(GuestNo::new(0), 7));
         let ran = run_steps(&rt, alloc, &mut world, 0, 1);
         expect(&rt, "one step", ran, (1, None, None));
     }

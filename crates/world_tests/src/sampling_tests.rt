@@ -1,5 +1,6 @@
 //! Samples of two guests, by a generator beside the world's of the same seed.
 use crate::event_tests::{TAX, expect, started};
+use guest_number::GuestNo;
 use rand_core::{Rng, SeedableRng};
 use rand_pcg::Pcg32;
 use std::alloc::Global;
@@ -20,7 +21,7 @@ fn sample(rt: &impl Abort, alloc: Global, world: &mut World<MemStore>, rng: &mut
 }
 
 /// One step of a guest.
-fn step(alloc: Global, world: &mut World<MemStore>, rng: &mut Pcg32, g: usize) {
+fn step(alloc: Global, world: &mut World<MemStore>, rng: &mut Pcg32, g: GuestNo) {
     let _answer = world.apply(alloc, Event::Step(g), TAX, rng);
 }
 
@@ -54,7 +55,7 @@ fn guests_are_sampled_one_after_another(rt: HostRuntime) {
     expect(&rt, "guest 0", sampled(&rt, &world, 0), (Some(first), 100));
     expect(&rt, "guest 1", sampled(&rt, &world, 1), (Some(second), 100));
     // guest 0 fetches from page 0, and guest 1 makes no step
-    step(alloc, &mut world, &mut rng, 0);
+    step(alloc, &mut world, &mut rng, GuestNo::new(0));
     let third = pick_sample(&mut twin, PAGES);
     let fourth = pick_sample(&mut twin, PAGES);
     sample(&rt, alloc, &mut world, &mut rng);

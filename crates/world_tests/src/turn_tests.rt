@@ -6,6 +6,7 @@ ghost use Rattle.world.specs.Events.{IsProper};
 use crate::event_tests::{TAX, expect};
 use elf32::Image;
 use guest::Stop;
+use guest_number::GuestNo;
 use guest_pages::PageKind;
 use items::{Item, SeatNo, What};
 use mips_cp0::Profile;
@@ -80,14 +81,14 @@ fn booted(rt: &impl Abort, alloc: Global, slots: u32, k: u64) -> Worlds {
 }
 
 /// What an event is answered for which no word is drawn, and which is proper.
-fn supply(rt: &impl Abort, alloc: Global, world: &mut Worlds, g: usize, p: usize) {
+fn supply(rt: &impl Abort, alloc: Global, world: &mut Worlds, g: GuestNo, p: usize) {
     if p >= PAGES {
         panic!(rt; "there is no page {p}");
     }
     let event = Event::Supply(g, Ppn::new(p as u32));
     match world.apply(alloc, event, TAX, &mut Pcg32::seed_from_u64(1)) {
         Answer::Supplied(Ok(())) => {}
-        _ => panic!(rt; "page {p} of guest {g} gets no frame"),
+        _ => panic!(rt; "page {p} of guest {g:?} gets no frame"),
     }
 }
 
@@ -95,7 +96,7 @@ fn supply(rt: &impl Abort, alloc: Global, world: &mut Worlds, g: usize, p: usize
 fn fill(rt: &impl Abort, alloc: Global, world: &mut Worlds, counts: [usize; 2]) {
     for g in 0..2 {
         for p in 0..counts[g] {
-            supply(rt, alloc, world, g, p);
+            supply(rt, alloc, world, GuestNo::new(g as u32), p);
         }
     }
 }
@@ -174,7 +175,7 @@ static TURNS: [Row; 6] = [
 fn check_row(rt: &impl Abort, alloc: Global, world: &mut Worlds, row: Row) {
     let (supplied, level, aim, after) = row;
     if let Some(page) = supplied {
-        supply(rt, alloc, world, 0, page);
+        supply(rt, alloc, world, GuestNo::new(0), page);
     }
     check(rt, alloc, world, level, [aim, Aim::Kept], None, after);
 }
@@ -199,7 +200,7 @@ enum Asked {
 }
 
 /// The event of a guest's steps.
-fn event_of(asked: Asked, g: usize) -> Event
+fn event_of(asked: Asked, g: GuestNo) -> Event
     ensures { IsProper result }
 {
     match asked {
@@ -210,7 +211,7 @@ fn event_of(asked: Asked, g: usize) -> Event
 }
 
 /// What steps of a guest are answered.
-fn answer_of(alloc: Global, world: &mut Worlds, asked: Asked, g: usize) -> &'static str {
+fn answer_of(alloc: Global, world: &mut Worlds, asked: Asked, g: GuestNo) -> &'static str {
     match world.apply(alloc, event_of(asked, g), TAX, &mut Pcg32::seed_from_u64(1)) {
         Answer::Blocked => "blocked",
         Answer::Stepped(_) => "stepped",
@@ -220,7 +221,7 @@ fn answer_of(alloc: Global, world: &mut Worlds, asked: Asked, g: usize) -> &'sta
 }
 
 /// Steps, whose they are, and what they are answered while guest 0 is blocked.
-static BLOCKED: [(Asked, usize, &str); 5] = [
+static BLOCKED: [(Asked, u32, &str); 5] = [
     (Asked::Step, 0, "blocked"),
     (Asked::Steps(0), 0, "blocked"),
     (Asked::Run(5), 0, "blocked"),
@@ -229,7 +230,7 @@ static BLOCKED: [(Asked, usize, &str); 5] = [
 ];
 
 /// The same while nobody is.
-static GOING: [(Asked, usize, &str); 3] = [
+static GOING: [(Asked, u32, &str); 3] = [
     (Asked::Step, 0, "stepped"),
     (Asked::Steps(0), 0, "ran"),
     (Asked::Step, 1, "stepped"),
@@ -240,10 +241,15 @@ fn check_answers(
     rt: &impl Abort,
     alloc: Global,
     world: &mut Worlds,
-    rows: &[(Asked, usize, &'static str)],
+    rows: &[(Asked, u32, &'static str)],
 ) {
     for (asked, g, wanted) in rows {
-        expect(rt, "steps", answer_of(alloc, world, *asked, *g), *wanted);
+        expect(
+            rt,
+            "steps",
+            answer_of(alloc, world, *asked, GuestNo::new(*g)),
+            *wanted,
+        );
     }
 }
 
@@ -331,9 +337,17 @@ fn fill_log(alloc: Global, world: &mut Worlds) {
     for _ in 0..8 {
         let seat = SeatNo::new(1);
         let what = What::Drain;
-        happen(alloc, world, Event::Input(0, Item { seat, what }));
+        happen(
+            alloc,
+            world,
+            Event::Input(GuestNo::new(0), Item { seat, what }),
+        );
         let what = What::Target(5);
-        happen(alloc, world, Event::Input(0, Item { seat, what }));
+        happen(
+            alloc,
+            world,
+            Event::Input(GuestNo::new(0), Item { seat, what }),
+        );
     }
 }
 

@@ -1,10 +1,10 @@
-use Rattle.std.proofs.Common.{◌≡◌, None, refl, string_bytes, sym, subst}
+use Rattle.std.proofs.Common.{ℕ, ◌≡◌, None, IfOk, refl, string_bytes, sym, subst}
 use Rattle.simulation.specs.declared.acts.Act.{Act}
 use Rattle.simulation.specs.declared.said.Said.TheVariants as said
 use Rattle.simulation.specs.Transcripts.{IsTold}
 use Rattle.dump.specs.Dumps.{dump_text}
 use Rattle.dump.specs.Steps.{step_count}
-use Rattle.world.specs.All.{guest_at, items_of, view_at}
+use Rattle.world.specs.All.{TenantIs, guest_at, items_of, view_at}
 use Rattle.simulation.proofs.Playing.{beside_store, damaged, told_dump}
 use Rattle.simulation.proofs.doing.perform.Goals as goal
 
@@ -40,7 +40,9 @@ returns-in-Dump-clause-told g c =
     let words = g.R.Rng.stream c.args.rng.now in
     subst (λ (a : Act). IsTold s words w a (said.Dumped c.dump_of.result) words w) (sym c.in-Dump.is) (
       told_dump c.dump_of.result (s.true_to_digests w.store)
-          (λ t text. string_bytes text ≡ dump_text (view_at w c.in-Dump.g t) (step_count (items_of (guest_at w c.in-Dump.g t))) None) c.dump_of.ensures,
+          (λ t text. string_bytes text ≡ dump_text (view_at w c.in-Dump.guest t) (step_count (items_of (guest_at w c.in-Dump.guest t))) None)
+          (subst (λ (k : ℕ). s.true_to_digests w.store → (t : TenantIs) → IfOk c.dump_of.result (λ text. string_bytes text ≡
+          dump_text (view_at w k t) (step_count (items_of (guest_at w k t))) None)) c.index-in-Dump.ensures c.dump_of.ensures),
       refl,
       refl,
     )
