@@ -129,7 +129,7 @@ fn four_of<T: Drop>(rt: &impl Abort, mut all: Vec<T>) -> (T, T, T, T)
 
 // What was handed out of a guest, without the policy's seat, and this.
 #[tactic(auto, using(crate::proofs::Crewing::crew_of, crate::proofs::Crewing::policy_of))]
-fn parted(host: &Hosts, guest: GuestNo, handles: Handles) -> (Crew, Seat)
+fn parted(host: &Hosts, guest: usize, handles: Handles) -> (Crew, Seat)
     requires { AtGuest host.now.guests.cells.items guest (λ front. IsHandedOut front handles) }
     ensures crew { IsCrewOf host.now.guests.cells.items guest result.0.runner result.0.console result.0.debugger result.0.feed }
     ensures policy { AtGuest host.now.guests.cells.items guest (λ front. IsPolicySeat front result.1) }
@@ -183,10 +183,10 @@ fn team_of(rt: &impl Abort, alloc: Global, booted: Booted<Store, Open>) -> Team
         panic!(rt; "not four guests");
     }
     let (first, second, third, fourth) = four_of(rt, handles);
-    let (first, one) = parted(&host, GuestNo::new(0), first);
-    let (second, other) = parted(&host, GuestNo::new(1), second);
-    let (third, next) = parted(&host, GuestNo::new(2), third);
-    let (fourth, last) = parted(&host, GuestNo::new(3), fourth);
+    let (first, one) = parted(&host, 0, first);
+    let (second, other) = parted(&host, 1, second);
+    let (third, next) = parted(&host, 2, third);
+    let (fourth, last) = parted(&host, 3, fourth);
     let Ok(policies) = Vec::from_array(alloc, [one, other, next, last]) else {
         panic!(rt; "no memory for the seats");
     };
@@ -255,9 +255,9 @@ fn run_two<R: Threads + Wait + Sync>(
     rt: &R,
     alloc: Global,
     host: &Hosts,
-    first: GuestNo,
+    first: u32,
     one: Crew,
-    second: GuestNo,
+    second: u32,
     other: Crew,
     rounds: u32,
 ) -> (Crew, Crew)
@@ -274,12 +274,12 @@ fn run_two<R: Threads + Wait + Sync>(
             requires guest { first < length host.now.guests.cells.items }
             requires crew { IsCrewOf host.now.guests.cells.items first one.runner one.console one.debugger one.feed }
             ensures { IsCrewOf host.entry.now.guests.cells.items first result.runner result.console result.debugger result.feed }
-        { run_guest(rt, alloc, host, first, one, rounds) },
+        { run_guest(rt, alloc, host, GuestNo::new(first), one, rounds) },
         || -> Crew
             requires guest { second < length host.now.guests.cells.items }
             requires crew { IsCrewOf host.now.guests.cells.items second other.runner other.console other.debugger other.feed }
             ensures { IsCrewOf host.entry.now.guests.cells.items second result.runner result.console result.debugger result.feed }
-        { run_guest(rt, alloc, host, second, other, rounds) },
+        { run_guest(rt, alloc, host, GuestNo::new(second), other, rounds) },
     )
 }
 
@@ -330,18 +330,7 @@ fn run_rest<R: Threads + Wait + Sync>(
             requires other { IsCrewOf host.now.guests.cells.items 3 fourth.runner fourth.console fourth.debugger fourth.feed }
             ensures one { IsCrewOf host.entry.now.guests.cells.items 2 result.0.runner result.0.console result.0.debugger result.0.feed }
             ensures other { IsCrewOf host.entry.now.guests.cells.items 3 result.1.runner result.1.console result.1.debugger result.1.feed }
-        {
-            run_two(
-                rt,
-                alloc,
-                host,
-                GuestNo::new(2),
-                third,
-                GuestNo::new(3),
-                fourth,
-                rounds,
-            )
-        },
+        { run_two(rt, alloc, host, 2, third, 3, fourth, rounds) },
         || -> (u32, (Vec<Seat>, u32))
             requires { ArePolicySeats host.now.guests.cells.items policies.items }
             ensures { ArePolicySeats host.entry.now.guests.cells.items result.1.0.items }
@@ -372,18 +361,7 @@ fn at_once<R: Abort + Threads + Wait + Sync>(
             requires other { IsCrewOf host.guests.cells.items 1 second.runner second.console second.debugger second.feed }
             ensures one { IsCrewOf host.guests.cells.items 0 result.0.runner result.0.console result.0.debugger result.0.feed }
             ensures other { IsCrewOf host.guests.cells.items 1 result.1.runner result.1.console result.1.debugger result.1.feed }
-        {
-            run_two(
-                rt,
-                alloc,
-                &host,
-                GuestNo::new(0),
-                first,
-                GuestNo::new(1),
-                second,
-                rounds,
-            )
-        },
+        { run_two(rt, alloc, &host, 0, first, 1, second, rounds) },
         || -> ((Crew, Crew), (u32, (Vec<Seat>, u32)))
             requires four { length host.guests.cells.items ≡ 4 }
             requires one { IsCrewOf host.guests.cells.items 2 third.runner third.console third.debugger third.feed }
@@ -488,15 +466,16 @@ fn left_of<R: Abort + Wait>(
     rt: &R,
     alloc: Global,
     host: &Hosts,
-    guest: GuestNo,
+    number: u32,
     mut crew: Crew,
     policy: Seat,
 ) -> (Handles, Vec<u8>)
-    requires guest { guest < length host.now.guests.cells.items }
-    requires crew { IsCrewOf host.now.guests.cells.items guest crew.runner crew.console crew.debugger crew.feed }
-    requires policy { AtGuest host.now.guests.cells.items guest (λ front. IsPolicySeat front policy) }
-    ensures { AtGuest host.now.guests.cells.items guest (λ front. AreHandlesOf front result.0) }
+    requires guest { number < length host.now.guests.cells.items }
+    requires crew { IsCrewOf host.now.guests.cells.items number crew.runner crew.console crew.debugger crew.feed }
+    requires policy { AtGuest host.now.guests.cells.items number (λ front. IsPolicySeat front policy) }
+    ensures { AtGuest host.now.guests.cells.items number (λ front. AreHandlesOf front result.0) }
 {
+    let guest = GuestNo::new(number);
     let memory = memory_of(rt, alloc, host, guest, &mut crew.debugger);
     (together(crew, policy), memory)
 }
@@ -512,10 +491,10 @@ fn end<R: Abort + Wait>(rt: &R, alloc: Global, team: Team) -> (Finished<Store>, 
         policies,
     } = team;
     let (one, other, next, last) = four_of(rt, policies);
-    let (first, one) = left_of(rt, alloc, &host, GuestNo::new(0), first, one);
-    let (second, other) = left_of(rt, alloc, &host, GuestNo::new(1), second, other);
-    let (third, next) = left_of(rt, alloc, &host, GuestNo::new(2), third, next);
-    let (fourth, last) = left_of(rt, alloc, &host, GuestNo::new(3), fourth, last);
+    let (first, one) = left_of(rt, alloc, &host, 0, first, one);
+    let (second, other) = left_of(rt, alloc, &host, 1, second, other);
+    let (third, next) = left_of(rt, alloc, &host, 2, third, next);
+    let (fourth, last) = left_of(rt, alloc, &host, 3, fourth, last);
     match Vec::from_array(alloc, [first, second, third, fourth]) {
         Ok(handles) => (host.finish(rt, handles), [one, other, next, last]),
         Err(_) => panic!(rt; "no memory for the handles"),
