@@ -8,6 +8,7 @@ use crate::tests::{Numbers, PLAIN, Store, expect, ready, so_many};
 use crate::{Booted, Finished, GuestCells, Handles};
 use cell::{Cell, Ended, Kept, Open, Place};
 use guest::{Guest, Refused};
+use guest_number::GuestNo;
 use machine_memory::{BookCounts, MachineMemory};
 use std::alloc::Global;
 use std::process::Abort;
@@ -37,7 +38,10 @@ fn moved<R: Wait>(
     ensures handles { AreHandlesOf cell.now.front handles.new }
 {
     let evicted = cell.evict(rt, memory, page);
-    let place = Place { guest: 0, done: 0 };
+    let place = Place {
+        guest: GuestNo::new(0),
+        done: 0,
+    };
     let piece = cell.piece(
         rt,
         alloc,

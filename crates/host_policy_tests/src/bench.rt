@@ -14,6 +14,7 @@ use cell::{Cell, Open, Piece, Place, Seat};
 use elf32::Image;
 use guest::Stop;
 use guest_cells::{Booted, GuestCells, Handles};
+use guest_number::GuestNo;
 use host_policy::{Evicted, Policy, Turn, evict_one, turn};
 use items::SeatNo;
 use mips_cp0::Profile;
@@ -353,7 +354,10 @@ impl Bench {
         let guests = &self.guests;
         let seat = &mut self.runner;
         let cell = cell_of(rt, guests, 1);
-        let place = Place { guest: 1, done: 0 };
+        let place = Place {
+            guest: GuestNo::new(1),
+            done: 0,
+        };
         cell.piece(
             rt,
             alloc,
