@@ -16,12 +16,13 @@ use std::alloc::Global;
 use std::io;
 use std::io::{BufRead, BufReader, Read};
 use tenant::BootError;
+use word32::PAGE_SIZE;
 
 /// The least number of pages of a machine.
 const LEAST_PAGES: u32 = 2;
 
 /// How many bytes a page has.
-const PAGE_BYTES: u64 = 4096;
+const PAGE_BYTES: u64 = PAGE_SIZE as u64;
 
 /// Whether a machine of a profile may have so many pages: 2 to the most of the profile, 16,384 or 32,768.
 pub fn is_page_count(profile: Profile, pages: u32) -> bool

@@ -3,7 +3,7 @@ use super::case::Case;
 use super::check_cases;
 use std::test::Fail;
 
-static CASES: [Case; 27] = [
+static CASES: [Case; 32] = [
     Case {
         name: "as many as are asked for",
         words: &[
@@ -181,7 +181,93 @@ static CASES: [Case; 27] = [
         before: 0,
         absent: None,
         count: 9,
+        made: 9,
+    },
+    Case {
+        name: "traps on immediates, of which the last is taken",
+        words: &[
+            (0x0000, 0x3c01_8000), // lui $1,0x8000
+            (0x0004, 0x0428_0000), // tgei $1,0
+            (0x0008, 0x0429_8001), // tgeiu $1,-0x7fff
+            (0x000c, 0x042a_8000), // tlti $1,-0x8000
+        ],
+        before: 0,
+        absent: None,
+        count: 9,
+        made: 3,
+    },
+    Case {
+        name: "traps on immediates that aren't taken, and a prefetch",
+        words: &[
+            (0x0000, 0x2401_8000), // addiu $1,$0,-0x8000
+            (0x0004, 0x042a_8000), // tlti $1,-0x8000
+            (0x0008, 0x042b_7fff), // tltiu $1,0x7fff
+            (0x000c, 0x042c_7fff), // teqi $1,0x7fff
+            (0x0010, 0x042e_8000), // tnei $1,-0x8000
+            (0x0014, 0xcc20_0000), // pref 0,0($1)
+            (0x0018, 0x1000_0001), // beq $0,$0,1
+            (0x001c, 0x042c_7fff), // teqi $1,0x7fff
+        ],
+        before: 0,
+        absent: None,
+        count: 12,
+        made: 12,
+    },
+    Case {
+        name: "a trap in a delay slot",
+        words: &[
+            (0x0000, 0x1000_0001), // beq $0,$0,1
+            (0x0004, 0x040c_0000), // teqi $0,0
+        ],
+        before: 0,
+        absent: None,
+        count: 9,
         made: 1,
+    },
+    Case {
+        name: "products, quotients and moves on conditions",
+        words: &[
+            (0x0000, 0x3c01_8000), // lui $1,0x8000
+            (0x0004, 0x2402_fff9), // addiu $2,$0,-7
+            (0x0008, 0x7041_1802), // mul $3,$2,$1
+            (0x000c, 0x7041_0002), // mul $0,$2,$1
+            (0x0010, 0x0022_0018), // mult $1,$2
+            (0x0014, 0x0000_2012), // mflo $4
+            (0x0018, 0x0041_0019), // multu $2,$1
+            (0x001c, 0x0000_2810), // mfhi $5
+            (0x0020, 0x0022_001a), // div $1,$2
+            (0x0024, 0x0040_01f4), // teq $2,$0,7
+            (0x0028, 0x0000_4812), // mflo $9
+            (0x002c, 0x0022_001b), // divu $1,$2
+            (0x0030, 0x0000_5010), // mfhi $10
+            (0x0034, 0x0020_300a), // movz $6,$1,$0
+            (0x0038, 0x0041_300a), // movz $6,$2,$1
+            (0x003c, 0x0041_380b), // movn $7,$2,$1
+            (0x0040, 0x0020_380b), // movn $7,$1,$0
+            (0x0044, 0x0020_000a), // movz $0,$1,$0
+            (0x0048, 0x1000_0001), // beq $0,$0,1
+            (0x004c, 0x0040_001a), // div $2,$0
+            (0x0054, 0x1000_0001), // beq $0,$0,1
+            (0x0058, 0x0041_580b), // movn $11,$2,$1
+        ],
+        before: 0,
+        absent: None,
+        count: 24,
+        made: 24,
+    },
+    Case {
+        name: "loads of the parts of a word that isn't aligned",
+        words: &[
+            (0x0000, 0x3c01_8000), // lui $1,0x8000
+            (0x0004, 0x8828_0006), // lwl $8,6($1)
+            (0x0008, 0x9828_0003), // lwr $8,3($1)
+            (0x000c, 0x8829_0004), // lwl $9,4($1)
+            (0x0010, 0x9829_0001), // lwr $9,1($1)
+        ],
+        before: 0,
+        absent: None,
+        count: 9,
+        made: 9,
     },
     Case {
         name: "coprocessor 1",
