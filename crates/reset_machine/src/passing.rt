@@ -72,7 +72,7 @@ fn targets_itself(pc: u32, decoded: &Decoded) -> bool
         | Decoded::Blez { offset, .. }
         | Decoded::Bgtz { offset, .. } => branch_target_of(pc, offset) == pc,
         Decoded::J { target } | Decoded::Jal { target } => jump_target_of(pc, target) == pc,
-        Decoded::Other { instr } => instr_targets_itself(pc, instr),
+        Decoded::Other { instr } | Decoded::Exact { instr } => instr_targets_itself(pc, instr),
         _ => false,
     }
 }

@@ -5,6 +5,7 @@ mod changed_words;
 mod clock;
 mod instructions;
 mod pages;
+mod steady;
 
 use super::expect;
 use super::sparse::Sparse;
@@ -74,10 +75,34 @@ fn control(cpu: &Cpu) -> (u32, Option<u32>, [u32; 2], bool) {
     (cpu.pc(), cpu.slot(), [cpu.hi(), cpu.lo()], cpu.ll_bit())
 }
 
-fn check_same(rt: &impl Abort, name: &str, machine: &Machine, twin: &Machine) {
+/// The interrupt lines, the console's output and which pages are given.
+fn check_devices<R: AllocGlobal + Abort>(
+    rt: &R,
+    name: &str,
+    bus: &Sparse,
+    twin: &Sparse,
+) -> Result<(), Fail> {
+    expect(
+        rt,
+        (name, "devices"),
+        bus.devices_show(),
+        twin.devices_show(),
+    );
+    let (output, wanted) = (bus.output()?, twin.output()?);
+    expect(rt, (name, "output"), output.as_slice(), wanted.as_slice());
+    Ok(())
+}
+
+fn check_same<R: AllocGlobal + Abort>(
+    rt: &R,
+    name: &str,
+    machine: &Machine,
+    twin: &Machine,
+) -> Result<(), Fail> {
     expect(rt, name, control(&machine.cpu), control(&twin.cpu));
     check_registers(rt, name, &machine.cpu, &twin.cpu);
     check_words(rt, name, &machine.bus, &twin.bus);
+    check_devices(rt, name, &machine.bus, &twin.bus)
 }
 
 /// Some steps at once, `first` and then the others, and as many one by one. Where they are fewer than were asked for the next isn't made
@@ -98,14 +123,14 @@ fn check_split<R: AllocGlobal + Abort>(
     let made = case.made.saturating_sub(first);
     expect(rt, (case.name, first), (asked.0, others), (first, made));
     step_by_step(&mut twin, case.made);
-    check_same(rt, case.name, &machine, &twin);
+    check_same(rt, case.name, &machine, &twin)?;
     if case.made < case.count {
         let Machine { cpu, bus } = &mut machine;
         expect(rt, case.name, run(cpu, bus, cache, &Everything, 1), 0);
-        check_same(rt, case.name, &machine, &twin);
+        check_same(rt, case.name, &machine, &twin)?;
         let stepped = machine.cpu.step(&mut machine.bus);
         expect(rt, case.name, stepped, twin.cpu.step(&mut twin.bus));
-        check_same(rt, case.name, &machine, &twin);
+        check_same(rt, case.name, &machine, &twin)?;
     }
     Ok(())
 }

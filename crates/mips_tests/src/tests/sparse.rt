@@ -55,6 +55,27 @@ impl Sparse {
         self.absent = page;
     }
 
+    /// Gives the console a byte of input, if it has room.
+    pub fn feed(&mut self, byte: u8) {
+        if self.devices.has_input_room() {
+            let _ = self.devices.feed(byte);
+        }
+    }
+
+    /// The console's output.
+    pub fn output(&self) -> Result<Vec<u8>, Fail> {
+        Ok(self.devices.copy_output()?)
+    }
+
+    /// The interrupt lines, how many pages are given, and whether each of the two is.
+    pub fn devices_show(&self) -> (u8, u32, [bool; 2]) {
+        let pages = [
+            self.devices.is_given(Ppn::new(0)),
+            self.devices.is_given(Ppn::new(1)),
+        ];
+        (self.devices.lines(), self.devices.given(), pages)
+    }
+
     /// The word at a physical address, where memory has one.
     pub fn word(&self, at: u32) -> Option<u32> {
         if at as usize + 4 <= self.bytes.len() {

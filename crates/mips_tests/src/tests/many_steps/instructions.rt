@@ -69,7 +69,7 @@ static CASES: [Case; 32] = [
         before: 0,
         absent: None,
         count: 9,
-        made: 1,
+        made: 9,
     },
     Case {
         name: "a write of a system register",
@@ -124,7 +124,7 @@ static CASES: [Case; 32] = [
         before: 0,
         absent: None,
         count: 9,
-        made: 1,
+        made: 9,
     },
     Case {
         name: "a cache operation",
@@ -135,7 +135,7 @@ static CASES: [Case; 32] = [
         before: 0,
         absent: None,
         count: 9,
-        made: 1,
+        made: 9,
     },
     Case {
         name: "a system call",
@@ -398,7 +398,7 @@ static CASES: [Case; 32] = [
         before: 0,
         absent: None,
         count: 9,
-        made: 1,
+        made: 9,
     },
     Case {
         name: "a store to a device",
