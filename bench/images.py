@@ -11,7 +11,7 @@ TURNS, COUNTED_STEPS = 16, 17
 SP, RA = 29, 31
 
 # system registers by their number
-INDEX, ENTRY_LO0, ENTRY_LO1, PAGE_MASK, COUNT, ENTRY_HI, STATUS = 0, 2, 3, 5, 9, 10, 12
+INDEX, ENTRY_LO0, ENTRY_LO1, PAGE_MASK, COUNT, ENTRY_HI, STATUS, EPC = 0, 2, 3, 5, 9, 10, 12, 14
 
 
 def register(fn, rd=0, rs=0, rt=0, sa=0):
@@ -96,7 +96,8 @@ def mtc0(rt, rd):
 
 
 NOP = 0
-TLBWI = 0x42000002
+SYSCALL = 0x0000000C
+TLBWI, ERET, WAIT = 0x42000002, 0x42000018, 0x42000020
 
 COUNTED = [
     addiu(T1, ZERO, 1000),
@@ -196,6 +197,24 @@ LOOPS = [
     ("CRC-32, a bit at a time", [], CRC),
     ("recursion", FIB_FUNCTION, CALL_FIB),
     ("counted loop through the TLB", TO_MAPPED, COUNTED),
+]
+
+# the console of a machine of ours is at bf000000: its status, and its output eight bytes on
+CONSOLE = [lui(T5, 0xBF00)]
+
+# on past a handler of exceptions, which stands at 80000180 and goes on behind the instruction that it came from
+PAST_HANDLER = [beq(ZERO, ZERO, 0x63), mtc0(ZERO, STATUS)]
+PAST_HANDLER += [NOP] * (0x60 - len(PAST_HANDLER))
+PAST_HANDLER += [mfc0(T6, EPC), addiu(T6, T6, 4), mtc0(T6, EPC), ERET]
+
+# loops that reach the clock, a device or a handler in each turn, of five instructions and of nine, which other emulators' machines have
+# otherwise or not at all
+SYSTEM_LOOPS = [
+    ("reading Count", [], [mfc0(T2, COUNT), addu(T3, T3, T2)]),
+    ("looking for input", CONSOLE, [lw(T2, 0, T5), andi(T2, T2, 1)]),
+    ("writing to the console", CONSOLE, [sw(T2, 8, T5), addiu(T2, T2, 1)]),
+    ("waiting", [], [WAIT, addiu(T2, T2, 1)]),
+    ("system calls", PAST_HANDLER, [SYSCALL, addiu(T2, T2, 1)]),
 ]
 
 # what ends a run: QEMU's Malta board resets, GXemul's test machine halts
