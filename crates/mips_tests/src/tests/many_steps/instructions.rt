@@ -102,7 +102,7 @@ static CASES: [Case; 32] = [
         before: 0,
         absent: None,
         count: 9,
-        made: 0,
+        made: 9,
     },
     Case {
         name: "a return from an exception",
