@@ -1,6 +1,6 @@
 //! Instructions that are executed among many steps and read or set system registers, wait, or reach a device, and those that end them.
 use super::case::Case;
-use super::{Machine, booted, check_cases, check_same, step_by_step};
+use super::{Machine, booted, check_cases, check_same, check_split, step_by_step};
 use crate::tests::expect;
 use mips_fast::{Everything, RunCache, run};
 use mips_isa::Reg;
@@ -487,6 +487,28 @@ static CASES: [Case; 31] = [
 #[test]
 fn many_steps_go_on_past_these_instructions(rt: HostRuntime) -> Result<(), Fail> {
     check_cases(&rt, &CASES)
+}
+
+/// Made at once from the first step on, so that the word which is come to as the timer's interrupt comes is held.
+static AT_THE_TIMER: Case = Case {
+    name: "a read of Cause at which the timer's interrupt comes and is masked",
+    words: &[
+        (0x0000, 0x3402_0004), // ori $2,$0,4
+        (0x0004, 0x4082_5800), // mtc0 $2,Compare
+        (0x0008, 0x0000_0000), // nop
+        (0x000c, 0x4003_6800), // mfc0 $3,Cause
+        (0x0010, 0x4004_6800), // mfc0 $4,Cause
+    ],
+    before: 0,
+    absent: None,
+    count: 9,
+    made: 9,
+};
+
+#[test]
+fn a_masked_timer_comes_with_a_step_among_many(rt: HostRuntime) -> Result<(), Fail> {
+    let mut cache = RunCache::new(rt.alloc())?;
+    check_split(&rt, &mut cache, &AT_THE_TIMER, 0)
 }
 
 /// Waits for input and takes it, a byte at a time, and puts each into the console's output.
