@@ -1,5 +1,5 @@
 //! The state of the processor, and how control moves.
-ghost use Rattle.std.specs.Prelude.{◌≡◌, ◌%◌, IfSome, IfOk, Ok};
+ghost use Rattle.std.specs.Prelude.{◌≡◌, ◌≢◌, ◌%◌, IfSome, IfOk, Ok};
 ghost use Rattle.machine.specs.Processor.{Processor, reg, with_reg, boot_processor};
 ghost use Rattle.machine.specs.Places.{alignment, place, data_address};
 
@@ -122,6 +122,16 @@ impl Cpu {
         if r != 0 {
             self.regs[r as usize] = value;
         }
+    }
+
+    /// Writes a general register other than register 0, which asks nothing.
+    #[inline(always)]
+    pub fn set_nonzero_reg(&mut self, r: Reg, value: u32)
+        requires { r ≢ 0 }
+        ensures { self.new ≡ with_reg r value self.old }
+    {
+        let r = r.number();
+        self.regs[r as usize] = value;
     }
 
     /// The virtual address that a load or a store names.

@@ -1,12 +1,10 @@
 //! What a run goes past that is to end at the first state of some kinds.
 ghost use Rattle.std.specs.Prelude.{◌≡◌, ◌/◌, ◌&&◌};
-ghost use Rattle.mips_clockless.specs.Decoding.{instr_of};
 ghost use Rattle.runs.specs.Coverage.{is_reached};
 ghost use Rattle.reset_machine.specs.Past as spec;
 
 use crate::Cover;
 use machine::PhysAddr;
-use mips_clockless::Decoded;
 use mips_fast::Filter;
 use mips_instr::{Instr, branch_target_of, jump_target_of};
 use runs::Until;
@@ -30,8 +28,8 @@ impl Passing<'_> {
 impl Filter for Passing<'_> {
     ghost admits = { λ filter pc at instr. spec.goes_past filter.until.now pc at instr };
 
-    fn is_admitted(&self, pc: u32, _at: PhysAddr, decoded: &Decoded) -> bool {
-        !(self.until.loops && targets_itself(pc, decoded)) && !self.until.has_address(pc)
+    fn is_admitted(&self, pc: u32, _at: PhysAddr, instr: Instr) -> bool {
+        !(self.until.loops && targets_itself(pc, instr)) && !self.until.has_address(pc)
     }
 }
 
@@ -55,30 +53,13 @@ impl<'a, F> Reached<'a, F> {
 impl<F: Filter> Filter for Reached<'_, F> {
     ghost admits = { λ filter pc at instr. is_reached (at / 4) filter.cover.now.reached && F.admits filter.filter.now pc at instr };
 
-    fn is_admitted(&self, pc: u32, at: PhysAddr, decoded: &Decoded) -> bool {
-        self.cover.has(at) && self.filter.is_admitted(pc, at, decoded)
+    fn is_admitted(&self, pc: u32, at: PhysAddr, instr: Instr) -> bool {
+        self.cover.has(at) && self.filter.is_admitted(pc, at, instr)
     }
 }
 
 /// Whether the target of a branch or jump at an address is that address.
-fn targets_itself(pc: u32, decoded: &Decoded) -> bool
-    ensures { result ≡ spec.targets_itself pc (instr_of decoded.now) }
-{
-    match *decoded {
-        Decoded::Beq { offset, .. }
-        | Decoded::Bne { offset, .. }
-        | Decoded::Bltz { offset, .. }
-        | Decoded::Bgez { offset, .. }
-        | Decoded::Blez { offset, .. }
-        | Decoded::Bgtz { offset, .. } => branch_target_of(pc, offset) == pc,
-        Decoded::J { target } | Decoded::Jal { target } => jump_target_of(pc, target) == pc,
-        Decoded::Other { instr } | Decoded::Exact { instr } => instr_targets_itself(pc, instr),
-        _ => false,
-    }
-}
-
-/// `targets_itself` of an instruction without a form of its own.
-fn instr_targets_itself(pc: u32, instr: Instr) -> bool
+fn targets_itself(pc: u32, instr: Instr) -> bool
     ensures { result ≡ spec.targets_itself pc instr }
 {
     match instr {

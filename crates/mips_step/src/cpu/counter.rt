@@ -1,17 +1,19 @@
 //! The program counter.
-ghost use Rattle.std.specs.Prelude.{◌≡◌, None, Some, is_some};
-ghost use Rattle.mips_instr.specs.Targets.{slot_address, branch_target};
+ghost use Rattle.std.specs.Prelude.{◌≡◌, ◌+◌, ◌*◌, ◌%◌, ◌^◌, true, false, None, Some, is_some};
+ghost use Rattle.mips_instr.specs.Targets.{slot_address};
 ghost use Rattle.machine.specs.Processor.{Processor, at_counter, follower, after_slot};
 ghost use Rattle.machine.specs.Operations.{branched};
 
 use crate::sign::extended;
 use std::marker::Model;
 
-/// The program counter: PC and the address that follows it, so that going on asks nothing. In clauses it is PC and, in a delay slot, what
-/// follows it. A run of many steps has it apart from the processor, in registers of the host.
+/// The program counter: so many words on from an address, and in a delay slot the address that follows. Where a run of many steps has it apart from
+/// the processor, that address is the page's and the words are the place in it, so that PC is reckoned where it is asked for alone. In clauses it
+/// is PC and, in a delay slot, what follows it.
 #[derive(Drop)]
 pub struct Counter {
-    pc: u32,
+    base: u32,
+    words: u32,
     next: u32,
     in_slot: bool,
     // So that a copy of a counter has no gaps between its fields, which the compiler would set to zero one by one.
@@ -20,15 +22,12 @@ pub struct Counter {
 }
 
 impl Model for Counter {
-    ghost use Rattle.std.specs.Prelude.{◌≡◌, false, if◌then◌else◌, None, Some};
-    ghost use Rattle.mips_instr.specs.Targets.{slot_address};
+    ghost use Rattle.std.specs.Prelude.{if◌then◌else◌, ◌+◌, ◌*◌, ◌%◌, ◌^◌, None, Some};
     ghost use Rattle.machine.specs.Processor.{CounterIs};
 
     ghost Value = { CounterIs };
 
-    ghost view = { λ c. record { pc = c.pc; slot = if c.in_slot then Some c.next else None } };
-
-    ghost invariant = { λ c. c.in_slot ≡ false → c.next ≡ slot_address c.pc };
+    ghost view = { λ c. record { pc = (c.base + 4 * c.words) % 2 ^ 32; slot = if c.in_slot then Some c.next else None } };
 }
 
 impl Counter {
@@ -37,9 +36,18 @@ impl Counter {
     pub fn at(pc: u32) -> Counter
         ensures { result ≡ record { pc = pc; slot = None } }
     {
+        Counter::words_on(pc, 0)
+    }
+
+    /// So many words on from an address, in no delay slot.
+    #[inline(always)]
+    pub fn words_on(base: u32, words: u32) -> Counter
+        ensures { result ≡ record { pc = (base + 4 * words) % 2 ^ 32; slot = None } }
+    {
         Counter {
-            pc,
-            next: pc.wrapping_add(4),
+            base,
+            words,
+            next: 0,
             in_slot: false,
             gap_of_one: 0,
             gap_of_two: 0,
@@ -52,7 +60,8 @@ impl Counter {
         ensures { result ≡ self.now }
     {
         Counter {
-            pc: self.pc,
+            base: self.base,
+            words: self.words,
             next: self.next,
             in_slot: self.in_slot,
             gap_of_one: 0,
@@ -65,7 +74,7 @@ impl Counter {
     pub fn pc(&self) -> u32
         ensures { result ≡ self.now.pc }
     {
-        self.pc
+        self.base.wrapping_add(self.words.wrapping_mul(4))
     }
 
     /// Where PC stands in a delay slot, the address that follows it.
@@ -89,7 +98,7 @@ impl Counter {
     pub fn after_slot(&self) -> u32
         ensures { result ≡ after_slot self.now.pc }
     {
-        self.pc.wrapping_add(8)
+        self.pc().wrapping_add(8)
     }
 
     /// Goes on to what follows.
@@ -97,9 +106,11 @@ impl Counter {
     pub fn advance(&mut self)
         ensures { self.new ≡ record { pc = follower self.old.slot self.old.pc; slot = None } }
     {
-        self.pc = self.next;
-        self.next = self.pc.wrapping_add(4);
-        self.in_slot = false;
+        if self.in_slot {
+            *self = Counter::at(self.next);
+        } else {
+            self.words = self.words.wrapping_add(1);
+        }
     }
 
     /// Goes on to the delay slot, which a target follows.
@@ -107,7 +118,7 @@ impl Counter {
     pub fn jump(&mut self, target: u32)
         ensures { self.new ≡ record { pc = slot_address self.old.pc; slot = Some target } }
     {
-        self.pc = self.pc.wrapping_add(4);
+        self.words = self.words.wrapping_add(1);
         self.next = target;
         self.in_slot = true;
     }
@@ -117,35 +128,36 @@ impl Counter {
     pub(crate) fn skip(&mut self)
         ensures { self.new ≡ record self.old { pc = after_slot self.old.pc } }
     {
-        self.pc = self.pc.wrapping_add(8);
-        if !self.in_slot {
-            self.next = self.pc.wrapping_add(4);
-        }
+        self.words = self.words.wrapping_add(2);
     }
 
     /// Goes on as a branch does, of which only a likely one that is not taken executes no delay slot.
     #[inline(always)]
     pub fn branch(&mut self, taken: bool, likely: bool, offset: u16)
-        ensures { (cpu : Processor) → at_counter self.new cpu ≡ branched taken likely offset (at_counter self.old cpu) }
+        ensures branched { (cpu : Processor) → at_counter self.new cpu ≡ branched taken likely offset (at_counter self.old cpu) }
+        ensures taken { taken ≡ true → (self.new.pc ≡ slot_address self.old.pc) × (is_some self.new.slot ≡ true) }
+        ensures always { likely ≡ false → (self.new.pc ≡ slot_address self.old.pc) × (is_some self.new.slot ≡ true) }
     {
-        if taken {
-            let target = self.branch_target(offset);
-            self.jump(target);
-        } else if likely {
+        if likely && !taken {
             self.skip();
-        } else {
-            let follower = self.after_slot();
-            self.jump(follower);
+            return;
         }
+        // so many words on from the branch, which the compiler selects without a jump
+        let words = if taken {
+            extended(offset).wrapping_add(1)
+        } else {
+            2
+        };
+        let follower = self.words_from_here(words);
+        self.jump(follower);
     }
 
-    /// Where a branch at PC leads, as `mips_instr::branch_target_of` has it.
+    /// The address so many words on from PC.
     #[inline(always)]
-    fn branch_target(&self, offset: u16) -> u32
-        ensures { result ≡ branch_target self.now.pc offset }
+    fn words_from_here(&self, words: u32) -> u32
+        ensures { result ≡ (self.now.pc + 4 * words) % 2 ^ 32 }
     {
-        self.pc
-            .wrapping_add(4)
-            .wrapping_add(extended(offset).wrapping_mul(4))
+        self.base
+            .wrapping_add(self.words.wrapping_add(words).wrapping_mul(4))
     }
 }
