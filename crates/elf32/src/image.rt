@@ -3,9 +3,13 @@ ghost use Rattle.std.specs.Prelude.{◌≡◌, ℕ, ◌<◌, ◌≤◌, ◌+◌,
 ghost use Rattle.elf32.specs.Images.{IsWithin, FitsPages};
 
 use std::alloc::{AllocError, Global};
+use word32::PAGE_SIZE;
 
 /// The virtual address of physical address 0 in the unmapped cached segment, kseg0.
 pub const SEGMENT_BASE: u32 = 0x8000_0000;
+
+/// How many bytes a page has.
+pub(crate) const PAGE_BYTES: u64 = PAGE_SIZE as u64;
 
 /// Bytes that are placed in memory, with zeros after them.
 #[derive(Drop)]
@@ -65,7 +69,7 @@ impl Image {
     pub fn fits(&self, pages: u32) -> bool
         ensures { IsTrue result ↔ FitsPages self.now pages }
     {
-        let memory = u64::from(pages) * 4096;
+        let memory = u64::from(pages) * PAGE_BYTES;
         self.segments.iter().all(|s| s.is_within(memory))
     }
 }

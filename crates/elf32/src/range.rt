@@ -5,6 +5,7 @@ ghost use Rattle.elf32.specs.Faults.{is_outside, share_address, has_address, ove
 
 use crate::SEGMENT_BASE;
 use crate::fault::Fault;
+use crate::image::PAGE_BYTES;
 
 /// The virtual addresses from `address` on, `size` of them.
 #[derive(Clone, Copy, Debug, PartialEq, Eq)]
@@ -28,7 +29,7 @@ impl AddressRange {
         ensures { result ≡ is_outside pages self.now }
     {
         self.address < SEGMENT_BASE
-            || u64::from(SEGMENT_BASE) + 4096 * u64::from(pages) < self.end()
+            || u64::from(SEGMENT_BASE) + PAGE_BYTES * u64::from(pages) < self.end()
     }
 
     /// Whether an address is in both, where neither is empty.

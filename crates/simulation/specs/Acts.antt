@@ -1,6 +1,7 @@
 -- What is done by the events of scripts.
-use Rattle.std.specs.Prelude.{ℕ, ◌<◌, ◌≤◌, ◌^◌, nat_lt, if◌then◌else◌, All, length}
-use Rattle.world.specs.All.{IsProper, What}
+use Rattle.std.specs.Prelude.{ℕ, Bool, true, false, ◌≡◌, ◌<◌, ◌≤◌, ◌^◌, nat_lt, if◌then◌else◌, All, length}
+use Rattle.world.specs.All.{IsProper, Level, What}
+use Rattle.reclaim.specs.declared.level.Level.TheVariants.{High, Soft, Hard, Low}
 use Rattle.items.specs.declared.item.What.TheVariants as what
 use Rattle.script.specs.declared.event.Event.{Event}
 use Rattle.script.specs.declared.event.Event.TheVariants as event
@@ -100,6 +101,20 @@ IsDoable guests slots (act.Pages g) = g < guests
 IsDoable guests slots (act.Dump g) = g < guests
 IsDoable guests slots (act.Stats g) = g < guests
 IsDoable guests slots (act.Damage slot byte) = (slot < slots) × (byte < 4096)
+
+-- pages are swapped out by a turn of the policy at this level
+abbrev pub is_scarce : Level → Bool
+is_scarce High = false
+is_scarce Soft = false
+is_scarce Hard = true
+is_scarce Low = true
+
+-- It takes no long time, where a turn of the policy would be at this level: it makes fewer steps than this, or swaps out no page by such a turn.
+abbrev pub IsShort : Level → Act → Type 0
+IsShort level (act.World (happening.Steps g count)) = count < 4096
+IsShort level (act.World (happening.Run g count)) = count < 4096
+IsShort level (act.World happening.Level) = is_scarce level ≡ false
+IsShort level _ = Unit {0}
 
 -- it damages no slot
 abbrev pub IsHarmless : Act → Type 0

@@ -80,7 +80,16 @@ pub fn simulate<S: Damage + Drop, K: LogKeeper, W: Write>(
     world.is_sound();
     let count = world.count() as u32;
     let mut rng = Pcg32::seed_from_u64(u64::from(seed));
-    let played = play(alloc, &mut world, &mut rng, count, blocks, numbered, out);
+    let played = play(
+        alloc,
+        &mut world,
+        &mut rng,
+        count,
+        config.frames,
+        blocks,
+        numbered,
+        out,
+    );
     keep_logs(&world, keeper);
     drop(world.close());
     match played {

@@ -7,6 +7,7 @@ ghost use Rattle.swapstore.specs.Files.{medium_of, slots_of, failures_of};
 
 use crate::{Failed, Medium, SwapStore};
 use std::io;
+use word32::PAGE_SIZE;
 
 /// A store in a file, or in another medium. The first byte of a slot is that of place `4096 * slot`.
 ///
@@ -62,11 +63,14 @@ impl<M: Medium> FileStore<M> {
     }
 }
 
+// How many bytes a slot has: those of a page.
+const PAGE_BYTES: u64 = PAGE_SIZE as u64;
+
 // The place of a slot's first byte.
 fn first_place(slot: u32) -> u64
     ensures { result ≡ 4096 * slot }
 {
-    4096 * u64::from(slot)
+    PAGE_BYTES * u64::from(slot)
 }
 
 // Reads a slot of a medium.
