@@ -10,7 +10,7 @@ _vmhost() {
             --until) mapfile -t COMPREPLY < <(compgen -W 'loop exception 0x' -- "$word"); return ;;
         esac
         case ${COMP_WORDS[1]} in
-            exec) words='--raw --flat --profile --pages --steps --until --in --log --all --memory --help' ;;
+            exec) words='--raw --flat --host --profile --pages --steps --until --in --log --all --memory --help' ;;
             replay) words='--raw --help' ;;
             asm | dis) words='--help' ;;
             sim) words='--lines --logs --help' ;;

@@ -12,6 +12,7 @@ use commands::{
     Asm, Dis, Exec, Fault, Replay, Report, assemble_file, disassemble_file, replay_log, run_image,
 };
 use diagnosis::Excerpt;
+use host_exec::{HostFault, run_image_in_host};
 use orders::{Order, Settings, parse};
 use run_command::{RunFault, RunOrder, RunStatus, run_order};
 use runs::{Ending, Watch};
@@ -92,7 +93,7 @@ where
     I: BufRead,
     O: Write,
     E: Write,
-    W: Watch,
+    W: Watch + Send,
     ensures range { result < 4 }
     ensures input { HasNoRun words.now → HasNoFuzz words.now → input.new ≡ input.old }
     ensures usage { result ≡ 2 → out.new ≡ out.old }
@@ -259,10 +260,10 @@ fn answer_order<R, O, E, W>(
     watch: &mut W,
 ) -> io::Result<Status>
 where
-    R: Files + AllocGlobal,
+    R: Files + AllocGlobal + Threads + Wait + Sync,
     O: Write,
     E: Write,
-    W: Watch,
+    W: Watch + Send,
     ensures usage { IfOk result (λ s. code_of s ≢ 2) }
     ensures refused { IfOk result (λ s. code_of s ≡ 1 → out.new ≡ out.old) }
     ensures done { IfOk result (λ s. code_of s ≡ 0 → tells.ending ≡ false → err.new ≡ err.old) }
@@ -277,6 +278,14 @@ where
         Order::Exec(order, settings) => {
             let answered = executed(rt, order, &settings, watch);
             write_run(rt, Subject::Exec(order), answered, tells.ending, out, err)
+        }
+        Order::ExecInHost(order, settings) => {
+            match executed_in_host(rt, order, &settings, watch) {
+                Ok(answered) => {
+                    write_run(rt, Subject::Exec(order), answered, tells.ending, out, err)
+                }
+                Err(fault) => write_other_run(&fault, err),
+            }
         }
         Order::Replay(order) => {
             write_answer(rt, Subject::Replay(order), replayed(rt, order), out, err)
@@ -313,6 +322,42 @@ fn executed<'a, R: Files + AllocGlobal, W: Watch>(
         extras,
     } = settings;
     run_image(rt, order, input, until, extras, watch)
+}
+
+/// What a run in a host answered, as one in a world does; an error says that it went otherwise.
+fn executed_in_host<'a, R, W>(
+    rt: &R,
+    order: Exec<'a>,
+    settings: &Settings,
+    watch: &mut W,
+) -> Result<Result<Report, Fault<'a>>, HostFault<'a>>
+where
+    R: Files + AllocGlobal + Threads + Wait + Sync,
+    W: Watch + Send,
+{
+    let Settings {
+        input,
+        until,
+        extras,
+    } = settings;
+    match run_image_in_host(rt, order, input, until, extras, watch) {
+        Ok(report) => Ok(Ok(report)),
+        Err(HostFault::Command(fault)) => Ok(Err(fault)),
+        Err(HostFault::OtherRun) => Err(HostFault::OtherRun),
+    }
+}
+
+/// Writes that a run in a host went otherwise than it was to, and words for it.
+fn write_other_run<E: Write>(fault: &HostFault<'_>, err: &mut E) -> io::Result<Status>
+    ensures { IfOk result (λ s. code_of s ≡ 1) }
+{
+    writeln!(err, "vmhost: {fault}")?;
+    writeln!(
+        err,
+        "  the log of the guest is of another run than was asked for; without --host the same order runs it in a world"
+    )?;
+    err.flush()?;
+    Ok(Status::Refused)
 }
 
 fn replayed<'a, R: Files + AllocGlobal>(rt: &R, order: Replay<'a>) -> Result<Answer, Fault<'a>> {

@@ -78,7 +78,7 @@ pub fn run_image<'a, R: Files + AllocGlobal, W: Watch>(
 }
 
 /// Whether the log that the order asks for, if it does, can be kept, and is not to be written over the image.
-fn log_can_be_kept<'a, R: Files + AllocGlobal>(rt: &R, order: Exec<'a>) -> Result<(), Fault<'a>>
+pub fn log_can_be_kept<'a, R: Files + AllocGlobal>(rt: &R, order: Exec<'a>) -> Result<(), Fault<'a>>
     ensures log { OnOk result (order.entry.kind ≡ MachineKind.Flat → order.entry.log ≡ None) }
     ensures apart { OnOk result (order.entry.log ≢ Some order.entry.image) }
     ensures faults { IfErr result (λ fault. IsExecFault order.entry fault) }
@@ -161,7 +161,7 @@ fn run_guest<'a, W: Watch>(
 }
 
 /// An image that several may have.
-fn shared(alloc: Global, image: elf32::Image) -> Result<Arc<elf32::Image, Global>, AllocError>
+pub fn shared(alloc: Global, image: elf32::Image) -> Result<Arc<elf32::Image, Global>, AllocError>
     ensures { IfOk result (λ a. a.value ≡ image) }
 {
     Ok(Arc::new(alloc, image)?)
@@ -209,7 +209,7 @@ fn rehearsal<W: Watch>(
 
 /// How the run of an image from its boot goes to its end, by one on a machine without a log: that is told whether the steps that it makes at once
 /// come to a state that the run is to end at, where a guest would be looked at after each. An error says that a request for memory was refused.
-fn rehearse<W: Watch>(
+pub fn rehearse<W: Watch>(
     alloc: Global,
     order: Exec<'_>,
     image: &elf32::Image,
@@ -255,7 +255,7 @@ fn run_flat<'a, W: Watch>(
 }
 
 /// What is printed of a machine after a run.
-fn report_of<M: Runnable>(
+pub fn report_of<M: Runnable>(
     alloc: Global,
     machine: &M,
     ran: Ran,

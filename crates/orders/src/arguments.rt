@@ -31,6 +31,11 @@ pub(crate) const ALL: &str = "all";
 
 pub(crate) const MEMORY: &str = "memory";
 
+/// The options that say which machine runs an image: the reference machine, or a guest of a host.
+pub(crate) const FLAT: &str = "flat";
+
+pub(crate) const HOST: &str = "host";
+
 /// The option that has replies stand behind the numbers of their lines.
 pub(crate) const LINES: &str = "lines";
 
@@ -259,9 +264,14 @@ fn named<'a>(alloc: Global, name: &'a str, value: &'a str) -> Arg<'a> {
 fn with_flags<'a>(alloc: Global, command: Command<'a>) -> Result<Command<'a>, AllocError> {
     command
         .arg(raw_flag(alloc))?
-        .arg(flag(alloc, "flat").help(
+        .arg(flag(alloc, FLAT).help(
             "Use the reference machine, which keeps no log, in place of a guest",
         ))?
+        .arg(
+            flag(alloc, HOST).conflicts_with(FLAT)?.help(
+                "Run the guest in a host, by a thread; what is printed is the same",
+            ),
+        )?
         .arg(flag(alloc, ALL).help(
             "Print the other system registers, HI, LO and the TLB behind the dump",
         ))

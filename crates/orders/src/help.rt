@@ -19,6 +19,7 @@ The lines of an input that was refused:
   vmhost: script line L  a script: the first line that is refused
   vmhost: ready          of fuzz: the machine does not come to the address of --ready
   vmhost: input line L   of fuzz: the first line that is no input
+  vmhost: host           of exec --host: the guest's log is of another run than was asked for
   vmhost: port N         no connections can be waited for at the port
   vmhost: memory         the host has no memory left
 

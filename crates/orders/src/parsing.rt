@@ -1,8 +1,8 @@
 //! The command line.
 use crate::arguments::{
-    ADMIT, ALL, ASM, COVERAGE, DIS, FRAMES, FUZZ, GUEST, INPUT, INPUTS, JOBS, LINES, LOGS, MEMORY,
-    OUT, PAGES, PORT, PROFILE, REACHED, READY, REPLAY, RUN_GUESTS, SEED, SIM, SLOTS, STEPS, SWAP,
-    UNTIL, whole_command,
+    ADMIT, ALL, ASM, COVERAGE, DIS, FLAT, FRAMES, FUZZ, GUEST, HOST, INPUT, INPUTS, JOBS, LINES,
+    LOGS, MEMORY, OUT, PAGES, PORT, PROFILE, REACHED, READY, REPLAY, RUN_GUESTS, SEED, SIM, SLOTS,
+    STEPS, SWAP, UNTIL, whole_command,
 };
 use clap::error::ErrorKind;
 use clap::{ArgMatches, Command, Error};
@@ -24,6 +24,8 @@ pub enum Order<'a> {
     Dis(Dis<'a>),
     /// Run an image, and print the state that the machine ends in.
     Exec(Exec<'a>, Settings),
+    /// Run an image as the guest of a host, and print the state that it ends in.
+    ExecInHost(Exec<'a>, Settings),
     /// Replay a log and print the state that the machine ends in.
     Replay(Replay<'a>),
     /// Do the events of a script in a world of several guests, and print what is replied to each.
@@ -85,6 +87,7 @@ fn order_of<'a>(
         Some(Asked::Replay(replay)) => Ok(Order::Replay(replay)),
         Some(Asked::Sim(sim)) => Ok(Order::Sim(sim)),
         Some(Asked::Exec(exec)) => match settings_of(alloc, matches)? {
+            Ok(settings) if is_in_host(matches) => Ok(Order::ExecInHost(exec, settings)),
             Ok(settings) => Ok(Order::Exec(exec, settings)),
             Err(reason) => Err(command.error(ErrorKind::ValueValidation, reason)?),
         },
@@ -443,7 +446,7 @@ fn exec_of<'a>(matches: &ArgMatches<'a>) -> Option<Exec<'a>> {
     Some(Exec {
         image: file_of(matches.get_str("image")?),
         format: format_of(matches),
-        kind: if matches.get_flag("flat") {
+        kind: if matches.get_flag(FLAT) {
             MachineKind::Flat
         } else {
             MachineKind::Guest
@@ -453,6 +456,14 @@ fn exec_of<'a>(matches: &ArgMatches<'a>) -> Option<Exec<'a>> {
         steps: matches.get_one(STEPS)?,
         log: matches.get_str("log"),
     })
+}
+
+/// Whether the matches have `exec` run its guest in a host.
+fn is_in_host(matches: &ArgMatches<'_>) -> bool {
+    match matches.subcommand() {
+        Some((_, of_exec)) => of_exec.get_flag(HOST),
+        None => false,
+    }
 }
 
 /// How `fuzz` makes a run, by its matches; each argument is required or has a default.

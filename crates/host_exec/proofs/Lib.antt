@@ -1,0 +1,4 @@
+pub mod Hosts
+pub mod InSlots
+pub mod Logs
+pub mod Reports
