@@ -87,13 +87,13 @@ handed_back cells h feed runner at same of = record {
 
 -- ---- at the end
 
+of_cells : {S : Type 0} (cells : List (Cell S)) (h : Handles) → length cells ≡ 1 → AtGuest cells 0 (λ front. AreHandlesOf front h) → AreHandlesOfAll cells (h ∷ [])
+of_cells [] h one at = absurd (omega (arith, one))
+of_cells (c ∷ []) h one at = (at.each c refl, tt)
+of_cells (c ∷ d ∷ cells) h one at = absurd (omega (arith, one))
+
 pub handles_of_all : {S : Type 0} (cells : List (Cell S)) (all : List Handles) (h : Handles) → length cells ≡ 1 → all ≡ h ∷ [] → AtGuest cells 0 (λ front. AreHandlesOf front h) → AreHandlesOfAll cells all
-handles_of_all cells all h one its at = subst (λ (hs : List Handles). AreHandlesOfAll cells hs) (sym its) (of_cells cells one at)
-  where
-    of_cells : (cs : List (Cell _)) → length cs ≡ 1 → AtGuest cs 0 (λ front. AreHandlesOf front h) → AreHandlesOfAll cs (h ∷ [])
-    of_cells [] one at = absurd (omega (arith, one))
-    of_cells (c ∷ []) one at = (at.each c refl, tt)
-    of_cells (c ∷ d ∷ cs) one at = absurd (omega (arith, one))
+handles_of_all cells all h one its at = subst (λ (hs : List Handles). AreHandlesOfAll cells hs) (sym its) (of_cells cells h one at)
 
 head_of : (seat seat' : SeatIs) (log : _) → seat' ≡ record seat { saw = log } → seat'.head ≡ seat.head
 head_of seat seat' log is = ap (λ (s : SeatIs). s.head) is

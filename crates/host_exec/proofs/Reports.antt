@@ -1,46 +1,40 @@
 -- What is printed of a run in a host.
-use Rattle.std.proofs.Common.{ℕ, ◌≡◌, ◌∙◌, sym, ap, subst, take, List, Option, Some, None, IfSome, string_bytes}
+use Rattle.std.proofs.Common.{ℕ, ◌≡◌, ◌∙◌, sym, ap, subst, take, List, Option, Some, None, IfSome, Result, Ok, IfOk, string_bytes}
 use Rattle.elf32.specs.declared.image.Image.{Image}
 use Rattle.machine.specs.Step.{Machine}
 use Rattle.machine.specs.Boot.{boot_machine}
-use Rattle.machine.specs.Items.{run}
-use Rattle.guest.specs.Guests.{GuestIs, view_of}
 use Rattle.inspection.specs.declared.extras.Extras.{Extras}
 use Rattle.runs.specs.declared.ending.Until.{Until}
 use Rattle.runs.specs.declared.running.Ran.{Ran}
 use Rattle.runs.specs.Endings.{IsFirst}
-use Rattle.runs.specs.Runs.{after_run, after_steps, fed, IsCount}
+use Rattle.runs.specs.Runs.{after_run, fed, IsCount}
 use Rattle.commands.specs.declared.exec.Report.{Report}
 use Rattle.commands.specs.declared.order.Exec.{Exec}
 use Rattle.commands.specs.Runs.{IsImageOf, IsReport, IsReportOf, IsWhole, report_text}
 
--- the guest is as after the run that its log says
-pub stands : (guest : GuestIs) (boot : Machine) (input bytes : List ℕ) (taken steps : ℕ) (ran : Ran) → guest.boot ≡ boot → bytes ≡ input
-    → ((m : Machine) → run guest.log.items m ≡ after_steps steps (fed (take taken bytes) m)) → ran.taken ≡ taken → ran.steps ≡ steps → view_of guest ≡ after_run ran input boot
-stands guest boot input bytes taken steps ran boots same says t s =
-    says guest.boot
-    ∙ ap (λ (m : Machine). after_steps steps (fed (take taken bytes) m)) boots
-    ∙ ap (λ (xs : List ℕ). after_steps steps (fed (take taken xs) boot)) same
-    ∙ ap (λ (n : ℕ). after_steps steps (fed (take n input) boot)) (sym t)
-    ∙ ap (λ (n : ℕ). after_steps n (fed (take ran.taken input) boot)) (sym s)
+-- what a value is of which something is so where there is one
+pub of_ok : {A E : Type 0} (r : Result A E) (x : A) (P : A → Type 0) → r ≡ Ok x → IfOk r P → P x
+of_ok r x P is holds = subst (λ (s : Result _ _). IfOk s P) is holds
+
+-- the guest as it is after the run that is reported
+pub stood : (m booted boot : Machine) (input bytes : List ℕ) (ran : Ran) (report : Report) → booted ≡ boot → bytes ≡ input → m ≡ after_run ran bytes booted → report.ran ≡ ran → m ≡ after_run report.ran input boot
+stood m booted boot input bytes ran report boots same after its =
+    after ∙ ap (λ (xs : List ℕ). after_run ran xs booted) same ∙ ap (after_run ran input) boots ∙ ap (λ (r : Ran). after_run r input boot) (sym its)
 
 -- the report of a run that went like a whole one, of a guest that boots so
-pub reported : (booted boot : Machine) (input : List ℕ) (steps : ℕ) (until : Until) (extras : Extras) (whole ran : Ran) (m : Machine) (report : Report) → booted ≡ boot
+pub reported : (booted boot : Machine) (input bytes : List ℕ) (steps : ℕ) (until : Until) (extras : Extras) (whole ran : Ran) (m : Machine) (report : Report) → booted ≡ boot → bytes ≡ input
     → IsWhole boot input steps until whole
-    → ((n : ℕ) (u : Until) → IsWhole booted input n u whole → IsCount input n ran)
-    → ((n : ℕ) (u : Until) → IsWhole booted input n u whole → IsFirst u (fed (take ran.taken input) booted) ran)
-    → m ≡ after_run ran input booted → report.ran ≡ ran → string_bytes report.text ≡ report_text extras ran m → IsReport boot input steps until extras report
-reported booted boot input steps until extras whole ran m report boots is counts firsts after its text =
-    let is' = subst (λ (b : Machine). IsWhole b input steps until whole) (sym boots) is in
+    → ((n : ℕ) (u : Until) → IsWhole booted bytes n u whole → IsCount bytes n ran)
+    → ((n : ℕ) (u : Until) → IsWhole booted bytes n u whole → IsFirst u (fed (take ran.taken bytes) booted) ran)
+    → m ≡ after_run ran bytes booted → report.ran ≡ ran → string_bytes report.text ≡ report_text extras ran m → IsReport boot input steps until extras report
+reported booted boot input bytes steps until extras whole ran m report boots same is counts firsts after its text =
+    let is' = subst (λ (xs : List ℕ). IsWhole booted xs steps until whole) (sym same) (subst (λ (b : Machine). IsWhole b input steps until whole) (sym boots) is) in
     record {
-      count = subst (IsCount input steps) (sym its) (counts steps until is');
+      count = subst (IsCount input steps) (sym its) (subst (λ (xs : List ℕ). IsCount xs steps ran) same (counts steps until is'));
       first =
           subst (λ (r : Ran). IsFirst until (fed (take r.taken input) boot) r) (sym its)
-          (subst (λ (b : Machine). IsFirst until (fed (take ran.taken input) b) ran) boots (firsts steps until is'));
-      text =
-          text
-          ∙ ap (report_text extras ran) (after ∙ ap (after_run ran input) boots)
-          ∙ ap (λ (r : Ran). report_text extras r (after_run r input boot)) (sym its);
+          (subst (λ (xs : List ℕ). IsFirst until (fed (take ran.taken xs) boot) ran) same (subst (λ (b : Machine). IsFirst until (fed (take ran.taken bytes) b) ran) boots (firsts steps until is')));
+      text = text ∙ ap (report_text extras ran) (stood m booted boot input bytes ran report boots same after its) ∙ ap (λ (r : Ran). report_text extras r (after_run report.ran input boot)) (sym its);
     }
 
 -- a report of a run of the image that was loaded, whether or not the file's bytes are known

@@ -1,5 +1,4 @@
 -- Which faults `exec` can have in a host: those that it has in a world, and that the log is of another run.
-use Rattle.std.specs.Prelude.{Unit}
 use Rattle.commands.specs.declared.order.Exec.{Exec}
 use Rattle.commands.specs.Faults.{IsExecFault, IsImageFault, IsWant}
 use Rattle.host_exec.specs.declared.fault.HostFault.{HostFault}

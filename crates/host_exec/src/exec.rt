@@ -1,29 +1,25 @@
 //! The command `exec` in a host.
-ghost use Rattle.std.specs.Prelude.{◌≡◌, ◌≢◌, ℕ, IfErr, IfOk, IfSome, Some, take};
+ghost use Rattle.std.specs.Prelude.{◌≡◌, ◌≢◌, IfErr, IfOk, IfSome, Some};
 ghost use Rattle.sha2.specs.Sha256.{sha256};
 ghost use Rattle.elf32.specs.declared.image.Image.{Image};
 ghost use Rattle.elf32.specs.Images.{FitsPages};
-ghost use Rattle.guest.specs.Guests.{Intact, view_of};
+ghost use Rattle.guest.specs.Guests.{view_of};
 ghost use Rattle.machine.specs.Boot.{boot_machine};
 ghost use Rattle.commands.specs.Faults.{IsRunFault};
 ghost use Rattle.commands.specs.Raw.{IsPageCount};
 ghost use Rattle.commands.specs.Runs.{IsReport, IsReportOf, IsWhole};
-ghost use Rattle.runs.specs.Endings.{IsFirst};
-ghost use Rattle.runs.specs.Runs.{after_run, fed, IsCount};
-ghost use Rattle.runs.specs.declared.ending.Until.{Until};
+ghost use Rattle.runs.specs.Runs.{after_run};
 ghost use Rattle.host_exec.specs.Faults.{IsHostFault, IsHostFileFault, IsHostWant};
 
 use crate::fault::HostFault;
 use crate::hosting::{boot_host, run_to_end};
 use crate::left::LeftGuest;
-use crate::looking::{looked, ran_of};
-use cell::Ended;
+use crate::settling::settled;
 use commands::exec::{load, log_can_be_kept, rehearse, report_of, shared};
 use commands::fault::{of_boot, of_file};
 use commands::image_file::Loaded;
 use commands::log_file::write_log;
 use commands::{ConsoleInput, Exec, Fault, Report};
-use guest::{Guest, Seat, Stop};
 use inspection::Extras;
 use runs::{Ran, Until, Watch};
 use std::alloc::{AllocError, Global};
@@ -96,7 +92,8 @@ where
     ensures faults { IfErr result (λ fault. IsHostFileFault order.entry fault) }
 {
     let loaded = load(alloc, file, order)?;
-    run_loaded(rt, alloc, loaded, order, input, until, extras, watch)
+    let done = run_loaded(rt, alloc, loaded, order, input, until, extras, watch)?;
+    Ok(done)
 }
 
 /// Boots a host with a guest of the image, and runs that; where the run is to end at some state, so many steps as a rehearsal makes to the first.
@@ -126,7 +123,7 @@ where
     let one = of_boot(boot_host(rt, alloc, order.profile, image, order.pages))?;
     let (ended, last) = run_to_end(rt, alloc, one, input.as_slice(), whole.steps, watch);
     watch.over();
-    let Some((guest, ran)) = settled(ended, last, whole, input) else {
+    let Some((guest, ran)) = settled(ended, last, whole, input.as_slice()) else {
         return Err(HostFault::OtherRun);
     };
     let report = report_of(alloc, &guest, ran, extras)?;
@@ -159,73 +156,6 @@ fn whole_run<W: Watch>(
         });
     }
     rehearse(alloc, order, image, input, until, watch)
-}
-
-/// The guest that has ended, and how its run went, by its log; none where that isn't of a run that was to go like this one.
-fn settled(
-    ended: Ended,
-    last: host::Ran,
-    whole: Ran,
-    input: &ConsoleInput,
-) -> Option<(LeftGuest, Ran)>
-    requires intact { Intact ended.guest }
-    requires seat { ended.seats.runner.seat.head ≡ ended.guest.head }
-    ensures state { IfSome result (λ s. view_of s.0 ≡ after_run s.1 input.now ended.guest.boot) }
-    ensures count { IfSome result (λ s. (steps : ℕ) (until : Until) → IsWhole ended.guest.boot input.now steps until whole → IsCount input.now steps s.1) }
-    ensures first { IfSome result (λ s. (steps : ℕ) (until : Until) → IsWhole ended.guest.boot input.now steps until whole
-        → IsFirst until (fed (take s.1.taken input.now) ended.guest.boot) s.1) }
-{
-    let (guest, stop) = taken_over(ended, last)?;
-    let logged = looked(guest.log(), input.as_slice())?;
-    let ran = ran_of(whole, logged, input.as_slice(), stop)?;
-    Some((guest, ran))
-}
-
-/// The guest that has ended, and why it made no more steps, if it stopped: where it didn't, it has taken what waited for its console, of which nothing is left where it made a
-/// step. None where it stopped as `exec` doesn't, or one of its pages is in a slot.
-fn taken_over(ended: Ended, last: host::Ran) -> Option<(LeftGuest, Option<Stop>)>
-    requires intact { Intact ended.guest }
-    requires seat { ended.seats.runner.seat.head ≡ ended.guest.head }
-    ensures boot { IfSome result (λ s. s.0.boot ≡ ended.guest.boot) }
-{
-    let Ended {
-        mut guest,
-        stake,
-        mut seats,
-        rest,
-        keeper,
-    } = ended;
-    drop(stake);
-    drop(keeper);
-    let stop = match last {
-        host::Ran::Ran(_) => take_rest(&mut guest, &mut seats.runner.seat, &rest),
-        host::Ran::Stopped(_, host::Stop::Memory) => Some(Stop::Memory),
-        host::Ran::Stopped(_, host::Stop::LogFull) => Some(Stop::LogFull),
-        host::Ran::Stopped(_, _) | host::Ran::Break(_) | host::Ran::Held(_) => {
-            guest.close();
-            return None;
-        }
-    };
-    let guest = LeftGuest::new(guest)?;
-    Some((guest, stop))
-}
-
-/// Has a guest take bytes for its console, as far as it has room for them, as items of a seat of it; and why it took no more, where the log had no room.
-fn take_rest(guest: &mut Guest, seat: &mut Seat, rest: &[u8]) -> Option<Stop>
-    requires head { seat.old.head ≡ guest.old.head }
-    ensures boot { guest.new.boot ≡ guest.old.boot }
-    ensures intact { Intact guest.old → Intact guest.new }
-{
-    for byte in rest {
-        if !guest.view().devices.has_input_room() {
-            return None;
-        }
-        if let Err(stop) = guest.item_room() {
-            return Some(stop);
-        }
-        guest.take_in(*byte, seat);
-    }
-    None
 }
 
 /// Writes the log of the run into the file that the order names, if it names one.

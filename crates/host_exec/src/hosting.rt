@@ -42,6 +42,7 @@ pub(crate) struct HostOfOne<S: SwapStore + Drop, G: Gate + Drop> {
 }
 
 /// A host of one guest of a profile as an image boots, with a frame more than the guest has pages, and no slots. An error says that a request for memory was refused.
+#[tactic(auto, using(crate::proofs::Hosts::count_asked))]
 pub(crate) fn boot_host<R: Wait>(
     rt: &R,
     alloc: Global,
@@ -96,6 +97,7 @@ fn of_one<S: SwapStore + Drop, G: Gate + Drop>(booted: Booted<S, G>) -> HostOfOn
 
 /// Puts the input for the guest's console, has a thread make so many steps, as `run_beside` does, and ends the host: what the guest has left, and how the last slice ended.
 /// With a swap store that is true to digests the guest is the run of its log.
+#[tactic(auto, using(crate::proofs::Hosts::runner_of, crate::proofs::Hosts::feed_of, crate::proofs::Hosts::handed_back))]
 pub(crate) fn run_to_end<S, G, R, W>(
     rt: &R,
     alloc: Global,
@@ -147,6 +149,7 @@ where
 }
 
 /// Ends a host of one guest: what that has left.
+#[tactic(auto, using(crate::proofs::Hosts::handles_of_all))]
 fn end<S: SwapStore + Drop, G: Gate + Drop, R: Wait>(rt: &R, one: HostOfOne<S, G>) -> Ended
     requires guests { length one.host.guests.cells.items ≡ 1 }
     requires handles { AtGuest one.host.guests.cells.items 0 (λ front. AreHandlesOf front one.handles) }

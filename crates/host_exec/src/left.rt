@@ -1,11 +1,7 @@
 //! The guest that a host has left.
-ghost use Rattle.std.specs.Prelude.{◌≡◌, ◌≤◌, ◌<◌, None, Some, Unit, tt, length, IfSome, OnOk, OnErr};
-ghost use Rattle.guest.specs.Guests.{Intact, view_of};
-ghost use Rattle.items.specs.declared.item.What.TheVariants.{In};
-ghost use Rattle.machine.specs.Items.{after};
-ghost use Rattle.machine.specs.Replies.{bytes_at};
-ghost use Rattle.runs.specs.Coverage.{covered, no_coverage};
-ghost use Rattle.runs.specs.Runs.{after_steps};
+ghost use Rattle.std.specs.Prelude.{◌≡◌, IfSome};
+ghost use Rattle.guest.specs.Guests.{Intact};
+ghost use Rattle.runs.specs.Coverage.{no_coverage};
 
 use guest::{Guest, Log, Refused, Stop};
 use mips_step::View;

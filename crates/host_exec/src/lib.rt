@@ -14,6 +14,7 @@ pub mod fault;
 mod hosting;
 pub mod left;
 pub mod looking;
+mod settling;
 mod slicing;
 
 pub use exec::{HostDone, run_file_in_host, run_image_in_host};

@@ -1,6 +1,6 @@
 use Rattle.std.proofs.Common.{◌≡◌}
 use Rattle.guest.specs.Guests.{Intact}
-use Rattle.host_exec.proofs.exec.take_rest.Given as goal
+use Rattle.host_exec.proofs.settling.take_rest.Given as goal
 
 -- the guest has taken what came so far
 abbrev pub invariant-loop-byte : goal.invariant-loop-byte
