@@ -1,9 +1,7 @@
 -- A host of one guest.
 use Rattle.std.proofs.Common.{◌≡◌, ℕ, List, [], ◌∷◌, ◌++◌, length, length-append, All, Some, refl, sym, subst, ap, ◌∙◌, arith}
 use Rattle.std.proofs.lemmas.List.Elements.{All-head}
-use Rattle.std.specs.List.{slice_get}
 use Rattle.mips_cp0.specs.declared.profile.Profile.{Profile}
-use Rattle.elf32.specs.declared.image.Image.{Image}
 use Rattle.console_queue.specs.Queues.{FeedIs}
 use Rattle.machine.specs.Step.{Machine}
 use Rattle.machine.specs.Boot.{boot_machine}
@@ -18,7 +16,7 @@ use Rattle.cell.specs.Sitting.{IsOf, front_boot}
 use Rattle.guest_cells.specs.declared.handles.Handles.{Handles}
 use Rattle.guest_cells.specs.Handles.{AreHandlesOf, AreHandlesOfAll}
 use Rattle.guest_cells.specs.Asked.{IsAsAsked, AreAsAsked}
-use Rattle.guest_cells.specs.Ends.{HasEnded, HaveEnded}
+use Rattle.guest_cells.specs.Ends.{HaveEnded}
 use Rattle.host.specs.Places.{AtGuest}
 use Rattle.host_exec.specs.Hosts.{IsOfOne}
 

@@ -1,4 +1,4 @@
-use Rattle.std.proofs.Common.{◌≡◌, ◌∙◌, ap, subst}
+use Rattle.std.proofs.Common.{◌∙◌, ap, subst}
 use Rattle.elf32.specs.declared.image.Image.{Image}
 use Rattle.machine.specs.Boot.{boot_machine}
 use Rattle.guest.specs.Guests.{view_of}

@@ -28,7 +28,7 @@ pub returns-clause-boots : goal.returns-clause-boots
 returns-clause-boots g c =
     let its : c.push_reserved.new.self.items ≡ c.args.one.handles ∷ [] = c.push_reserved.ensures.items ∙ ap (λ (hs : List Handles). hs ++ c.args.one.handles ∷ []) c.requires.room.none in
     (has_left g.S.SwapStore.true_to_digests c.args.one.host.guests.cells.items c.push_reserved.new.self.items c.args.one.handles c.finish-left.result.guests.items c.pop.new.self.items c.in-Some.ended
-      c.requires.guests its c.in-Some.ensures.items c.requires.handles c.finish-left.ensures.guests).boots
+    c.requires.guests its c.in-Some.ensures.items c.requires.handles c.finish-left.ensures.guests).boots
 
 pub returns-clause-runs : goal.returns-clause-runs
 returns-clause-runs g c = λ told.
@@ -40,4 +40,4 @@ pub returns-clause-seat : goal.returns-clause-seat
 returns-clause-seat g c =
     let its : c.push_reserved.new.self.items ≡ c.args.one.handles ∷ [] = c.push_reserved.ensures.items ∙ ap (λ (hs : List Handles). hs ++ c.args.one.handles ∷ []) c.requires.room.none in
     (has_left g.S.SwapStore.true_to_digests c.args.one.host.guests.cells.items c.push_reserved.new.self.items c.args.one.handles c.finish-left.result.guests.items c.pop.new.self.items c.in-Some.ended
-      c.requires.guests its c.in-Some.ensures.items c.requires.handles c.finish-left.ensures.guests).seat
+    c.requires.guests its c.in-Some.ensures.items c.requires.handles c.finish-left.ensures.guests).seat

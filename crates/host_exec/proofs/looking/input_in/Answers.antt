@@ -1,9 +1,9 @@
-use Rattle.std.proofs.Common.{ℕ, ◌≡◌, ◌+◌, ap, subst, get_or, arith, rules}
+use Rattle.std.proofs.Common.{ℕ, ◌≡◌, ◌+◌, ap, subst, get_or, arith}
 use Rattle.items.specs.declared.item.What.TheVariants.{In}
 use Rattle.items.specs.Entries.{items_in}
 use Rattle.machine.specs.Step.{Machine}
 use Rattle.machine.specs.Items.{after, run}
-use Rattle.host_exec.proofs.Logs.{all_taken, one_more}
+use Rattle.host_exec.proofs.Logs.{one_more}
 use Rattle.host_exec.proofs.looking.input_in.Goals as goal
 
 pub loop-entry-preserved : goal.loop-entry-preserved

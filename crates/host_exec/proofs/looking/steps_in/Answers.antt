@@ -1,4 +1,4 @@
-use Rattle.std.proofs.Common.{ℕ, ◌≡◌, Option, IfSome, option_to_list, sym, subst}
+use Rattle.std.proofs.Common.{◌≡◌, Option, IfSome, option_to_list, sym, subst}
 use Rattle.items.specs.declared.entry.Entry.{Entry}
 use Rattle.items.specs.Entries.{items_of}
 use Rattle.machine.specs.Step.{Machine}
