@@ -130,8 +130,7 @@ impl Cpu {
         requires { r ≢ 0 }
         ensures { self.new ≡ with_reg r value self.old }
     {
-        let r = r.number();
-        self.regs[r as usize] = value;
+        self.regs[r.number() as usize] = value;
     }
 
     /// The virtual address that a load or a store names.
